@@ -1,0 +1,12 @@
+pub mod Mind
+pub mod Plans
+pub mod Stacks
+pub mod Fails
+pub mod Exec
+pub mod Clear
+pub mod Steps
+pub mod Rows
+pub mod Cycle
+pub mod Trace
+pub mod Opening
+pub mod Agent

@@ -1,0 +1,40 @@
+-- What a cycle of a mind gives, over any meaning V of minds.
+use Rattle.std.specs.Prelude.{ℕ, Bool, false, List, [], Option, None, Some, codes}
+use Rattle.asl_cycle.specs.declared.mind.Input.{Input}
+use Rattle.asl_cycle.specs.declared.mind.Thought.{Thought}
+use Rattle.asl_cycle.specs.declared.mind.Thought.TheVariants as thought
+use Rattle.asl_cycle.specs.declared.mind.Verb.{Verb}
+use Rattle.asl_cycle.specs.declared.mind.Verb.TheVariants as verb
+
+-- the mind after a cycle, and its thought
+pub record Cycled (V : Type 0) : Type 0 where
+  pub mind : V
+  pub thought : Thought
+
+-- the meaning of a type of minds: what a cycle makes of a mind, and the lines that it has written
+pub record Kind (V : Type 0) : Type 0 where
+  pub cycle : V → Input → Cycled V
+  pub lines : V → List ℕ
+
+-- the input of an agent that senses nothing and has no mail
+abbrev pub no_input : Input
+no_input = record { percepts = []; message = None }
+
+-- whether a cycle was quiet, where it did not end by a spent budget
+abbrev pub told : Thought → Option Bool
+told (thought.Outs outs) = Some outs.quiet
+told thought.Spent = None
+
+-- the thought of a cycle that neither acts, sends nor stops, from what is told of it
+abbrev pub told_thought : Option Bool → Thought
+told_thought (Some quiet) = thought.Outs (record { action = None; messages = []; stop = false; quiet = quiet })
+told_thought None = thought.Spent
+
+-- the word of a verb, as a source and a trace write it
+abbrev pub verb_text : Verb → List ℕ
+verb_text verb.Tell = codes "tell"
+verb_text verb.Untell = codes "untell"
+verb_text verb.Achieve = codes "achieve"
+verb_text verb.Unachieve = codes "unachieve"
+verb_text verb.AskOne = codes "askOne"
+verb_text verb.AskAll = codes "askAll"

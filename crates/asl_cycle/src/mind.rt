@@ -1,0 +1,105 @@
+//! What goes into a mind and comes out of it.
+
+ghost use Rattle.std.specs.Prelude.{◌≡◌};
+ghost use Rattle.asl_cycle.specs.Mind as spec;
+
+use asl_term::sequence::Seq;
+use asl_term::syntax::{Literal, Literals, Term};
+
+/// What a message asks of its receiver.
+#[derive(Clone, Copy, Debug, PartialEq, Eq, Drop)]
+pub enum Verb {
+    Tell,
+    Untell,
+    Achieve,
+    Unachieve,
+    AskOne,
+    AskAll,
+}
+
+/// The word of a verb, as a source and a trace write it.
+pub fn verb_text(verb: Verb) -> &'static [u8]
+    ensures { result.now ≡ spec.verb_text verb }
+{
+    match verb {
+        Verb::Tell => b"tell",
+        Verb::Untell => b"untell",
+        Verb::Achieve => b"achieve",
+        Verb::Unachieve => b"unachieve",
+        Verb::AskOne => b"askOne",
+        Verb::AskAll => b"askAll",
+    }
+}
+
+/// A message between two agents, by their numbers. The `ask` is the number of the question that waits for
+/// its answer, the `reply` that of the question that it answers, and 0 where there is none.
+#[derive(Drop)]
+pub struct Message {
+    pub from: u32,
+    pub to: u32,
+    pub verb: Verb,
+    pub content: Term,
+    pub ask: u64,
+    pub reply: u64,
+}
+
+pub type Messages = Seq<Message>;
+
+/// What a cycle is given.
+#[derive(Drop)]
+pub struct Input {
+    pub percepts: Literals,
+    pub message: Option<Message>,
+}
+
+/// What a cycle gives: an action on the world, messages, whether the agent asks the whole run to stop, and
+/// whether the cycle was quiet.
+#[derive(Drop)]
+pub struct Outs {
+    pub action: Option<Literal>,
+    pub messages: Messages,
+    pub stop: bool,
+    pub quiet: bool,
+}
+
+/// How a cycle ended: with outs, or by a spent budget.
+#[derive(Drop)]
+pub enum Thought {
+    Outs(Outs),
+    Spent,
+}
+
+/// Whether a cycle was quiet, where it did not end by a spent budget.
+pub fn told(thought: &Thought) -> Option<bool>
+    ensures { result ≡ spec.told thought.now }
+{
+    match thought {
+        Thought::Outs(outs) => Some(outs.quiet),
+        Thought::Spent => None,
+    }
+}
+
+/// How an agent's part in a run ended.
+#[derive(Clone, Copy, Debug, PartialEq, Eq, Drop)]
+pub enum End {
+    Quiet,
+    Stopped,
+    Cycles,
+    Budget,
+}
+
+/// Which lines a trace shows.
+#[derive(Clone, Copy, Debug, PartialEq, Eq, Drop)]
+pub enum Level {
+    Say,
+    Acts,
+    Rules,
+}
+
+/// What one search may use: rules one inside another, from 1 to 10,000, and tries of a head, from 1 to
+/// 10,000,000.
+#[derive(Clone, Copy, Debug, PartialEq, Eq, Drop)]
+pub struct Budgets {
+    pub depth: u64,
+    pub tries: u64,
+}

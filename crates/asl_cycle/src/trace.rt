@@ -1,0 +1,208 @@
+//! The lines of a trace as text.
+
+ghost use Rattle.std.specs.Prelude.{◌≡◌, ◌++◌, OnOk};
+ghost use Rattle.asl_term.specs.Exprs.{literal_text};
+ghost use Rattle.asl_cycle.specs.Trace as spec;
+
+use crate::mind::{Level, verb_text};
+use crate::rows::{Error, Line, Mail, Row, Spent};
+use asl_term::printing::{write, write_number};
+use asl_term::printing_expr::write_literal;
+use asl_term::sequence::Starved;
+use asl_term::syntax::{Literal, Text};
+use std::alloc::Global;
+
+fn row_name(row: Row) -> &'static [u8]
+    ensures { result.now ≡ spec.row_name row }
+{
+    match row {
+        Row::Percept0 => b"Percept0",
+        Row::Percept1 => b"Percept1",
+        Row::Feed0 => b"Feed0",
+        Row::FeedDone => b"FeedDone",
+        Row::FeedFail => b"FeedFail",
+        Row::Msg0 => b"Msg0",
+        Row::Tell => b"Tell",
+        Row::Untell => b"Untell",
+        Row::Achieve => b"Achieve",
+        Row::Unachieve => b"Unachieve",
+        Row::AskOne => b"AskOne",
+        Row::AskAll => b"AskAll",
+        Row::AskSpent => b"AskSpent",
+        Row::Reply => b"Reply",
+        Row::ReplyFail => b"ReplyFail",
+        Row::Ignore => b"Ignore",
+        Row::SelEv1 => b"SelEv1",
+        Row::SelEv2 => b"SelEv2",
+        Row::Rel1 => b"Rel1",
+        Row::Rel2 => b"Rel2",
+        Row::Rel3 => b"Rel3",
+        Row::Appl1 => b"Appl1",
+        Row::Appl2 => b"Appl2",
+        Row::Appl3 => b"Appl3",
+        Row::ApplSpent => b"ApplSpent",
+        Row::SelAppl => b"SelAppl",
+        Row::ExtEv => b"ExtEv",
+        Row::IntEv => b"IntEv",
+        Row::SelInt1 => b"SelInt1",
+        Row::SelInt2 => b"SelInt2",
+        Row::Exec0 => b"Exec0",
+        Row::ExecLimit => b"ExecLimit",
+        Row::ExecArith => b"ExecArith",
+        Row::Action => b"Action",
+        Row::ExecFree => b"ExecFree",
+        Row::AchvGl => b"AchvGl",
+        Row::AchvNew => b"AchvNew",
+        Row::TestGl1 => b"TestGl1",
+        Row::TestGl2 => b"TestGl2",
+        Row::TestErr => b"TestErr",
+        Row::TestSpent => b"TestSpent",
+        Row::AddBel => b"AddBel",
+        Row::DelBel => b"DelBel",
+        Row::RepBel => b"RepBel",
+        Row::RelYes => b"RelYes",
+        Row::RelNo => b"RelNo",
+        Row::IaOk => b"IaOk",
+        Row::IaFail => b"IaFail",
+        Row::IaBig => b"IaBig",
+        Row::IaSpent => b"IaSpent",
+        Row::IaGone => b"IaGone",
+        Row::AskOut => b"AskOut",
+        Row::ClrInt1 => b"ClrInt1",
+        Row::ClrInt2 => b"ClrInt2",
+        Row::ClrInt3 => b"ClrInt3",
+        Row::ClrLimit => b"ClrLimit",
+        Row::Fail1 => b"Fail1",
+        Row::Fail2 => b"Fail2",
+        Row::Fail3 => b"Fail3",
+    }
+}
+
+fn error_name(error: Error) -> &'static [u8]
+    ensures { result.now ≡ spec.error_name error }
+{
+    match error {
+        Error::NoRelevant => b"no_relevant",
+        Error::NoApplicable => b"no_applicable",
+        Error::ActionFailed => b"action_failed",
+        Error::IaFailed => b"ia_failed",
+        Error::TestFailed => b"test_failed",
+        Error::Arith => b"arith",
+        Error::TermLimit => b"term_limit",
+        Error::NotGround => b"not_ground",
+    }
+}
+
+fn spent_name(spent: Spent) -> &'static [u8]
+    ensures { result.now ≡ spec.spent_name spent }
+{
+    match spent {
+        Spent::Depth => b"depth",
+        Spent::Tries => b"tries",
+    }
+}
+
+/// Appends a word and a text behind it.
+fn two(out: &mut Text, word: &[u8], text: &[u8]) -> Result<(), Starved>
+    ensures { OnOk result (out.new ≡ out.old ++ (word.now ++ text.now)) }
+{
+    out.append(word)?;
+    out.append(text)
+}
+
+fn write_act(alloc: Global, out: &mut Text, word: &[u8], l: &Literal) -> Result<(), Starved>
+    ensures { OnOk result (out.new ≡ out.old ++ (word.now ++ literal_text l.now)) }
+{
+    out.append(word)?;
+    write_literal(alloc, l, out)
+}
+
+fn write_mail(alloc: Global, out: &mut Text, word: &[u8], m: &Mail) -> Result<(), Starved>
+    ensures { OnOk result (out.new ≡ out.old ++ (word.now ++ spec.mail_text m.now)) }
+{
+    out.append(word)?;
+    out.append(m.who.as_slice())?;
+    out.append(b" ")?;
+    out.append(verb_text(m.verb))?;
+    out.append(b" ")?;
+    write(alloc, &m.content, out)
+}
+
+fn write_line(alloc: Global, out: &mut Text, line: &Line) -> Result<(), Starved>
+    ensures { OnOk result (out.new ≡ out.old ++ spec.line_text line.now) }
+{
+    match line {
+        Line::Rule(row) => two(out, b"rule ", row_name(*row)),
+        Line::Say(text) => two(out, b"say ", text.as_slice()),
+        Line::Took(mail) => write_mail(alloc, out, b"took ", mail),
+        Line::Does(l) => write_act(alloc, out, b"does ", l),
+        Line::Done(l) => write_act(alloc, out, b"done ", l),
+        Line::Failed(l) => write_act(alloc, out, b"failed ", l),
+        Line::Sends(mail) => write_mail(alloc, out, b"sends ", mail),
+        Line::Drops(error) => two(out, b"drops ", error_name(*error)),
+        Line::Spent(spent) => two(out, b"spent ", spent_name(*spent)),
+        Line::Stops => out.append(b"stops"),
+    }
+}
+
+fn shows_rules(level: Level) -> bool
+    ensures { result ≡ spec.shows_rules level }
+{
+    match level {
+        Level::Rules => true,
+        _ => false,
+    }
+}
+
+fn shows_acts(level: Level) -> bool
+    ensures { result ≡ spec.shows_acts level }
+{
+    match level {
+        Level::Say => false,
+        _ => true,
+    }
+}
+
+fn shows(level: Level, line: &Line) -> bool
+    ensures { result ≡ spec.shows level line.now }
+{
+    match line {
+        Line::Rule(_) => shows_rules(level),
+        Line::Say(_) => true,
+        _ => shows_acts(level),
+    }
+}
+
+fn write_shown(
+    alloc: Global,
+    out: &mut Text,
+    level: Level,
+    cycle: u64,
+    line: &Line,
+) -> Result<(), Starved>
+    ensures { OnOk result (out.new ≡ out.old ++ spec.line_shown level cycle line.now) }
+{
+    if !shows(level, line) {
+        return Ok(());
+    }
+    write_number(alloc, cycle, out)?;
+    out.append(b" ")?;
+    write_line(alloc, out, line)?;
+    out.append(b"\n")
+}
+
+/// Puts those of the lines last that the level shows. After `Starved` a part of them may stand there.
+pub fn write_lines(
+    alloc: Global,
+    out: &mut Text,
+    level: Level,
+    cycle: u64,
+    lines: &[Line],
+) -> Result<(), Starved>
+    ensures { OnOk result (out.new ≡ out.old ++ spec.shown level cycle lines.now) }
+{
+    for line in lines {
+        write_shown(alloc, out, level, cycle, line)?;
+    }
+    Ok(())
+}

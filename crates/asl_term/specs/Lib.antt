@@ -1,0 +1,7 @@
+pub mod formers
+pub mod Spare
+pub mod Layers
+pub mod Trees
+pub mod Texts
+pub mod Names
+pub mod Exprs

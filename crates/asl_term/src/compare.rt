@@ -1,0 +1,91 @@
+//! Whether two terms are the same.
+
+ghost use Rattle.std.specs.Prelude.{◌≡◌, ◌↔◌, IsTrue};
+ghost use Rattle.std.specs.Str.{bytes_eq};
+ghost use Rattle.asl_term.specs.Trees as vars;
+
+use crate::syntax::{Op, Term, Text, Var};
+
+pub fn same_text(a: &Text, b: &Text) -> bool
+    ensures same { IsTrue result ↔ (a.now ≡ b.now) }
+    ensures value { result ≡ bytes_eq a.now b.now }
+{
+    a.as_slice() == b.as_slice()
+}
+
+pub fn same_var(a: &Var, b: &Var) -> bool
+    ensures same { IsTrue result ↔ (a.now ≡ b.now) }
+    ensures value { result ≡ vars.same_var a.now b.now }
+{
+    a.number == b.number && same_text(&a.name, &b.name)
+}
+
+fn same_op(a: Op, b: Op) -> bool
+    ensures { IsTrue result ↔ (a ≡ b) }
+{
+    a == b
+}
+
+/// Whether they are the same tree.
+#[cycle(equal)]
+pub fn equal(a: &Term, b: &Term) -> bool
+    ensures { IsTrue result ↔ (a.now ≡ b.now) }
+{
+    match a {
+        Term::Num(x) => match b {
+            Term::Num(y) => *x == *y,
+            _ => false,
+        },
+        Term::Str(x) => match b {
+            Term::Str(y) => same_text(x, y),
+            _ => false,
+        },
+        Term::Var(x) => match b {
+            Term::Var(y) => same_var(x, y),
+            _ => false,
+        },
+        Term::Lit(x) => match b {
+            Term::Lit(y) => {
+                x.neg == y.neg
+                    && same_text(&x.functor, &y.functor)
+                    && equal_all(x.args.as_slice(), y.args.as_slice())
+                    && equal_all(x.annots.as_slice(), y.annots.as_slice())
+            }
+            _ => false,
+        },
+        Term::List(x) => match b {
+            Term::List(y) => {
+                equal_all(x.items.as_slice(), y.items.as_slice())
+                    && match (&x.tail, &y.tail) {
+                        (None, None) => true,
+                        (Some(s), Some(t)) => equal(s.get(), t.get()),
+                        _ => false,
+                    }
+            }
+            _ => false,
+        },
+        Term::Op(x) => match b {
+            Term::Op(y) => {
+                same_op(x.op, y.op)
+                    && equal(x.left.get(), y.left.get())
+                    && equal(x.right.get(), y.right.get())
+            }
+            _ => false,
+        },
+    }
+}
+
+#[cycle(equal)]
+pub fn equal_all(a: &[Term], b: &[Term]) -> bool
+    ensures { IsTrue result ↔ (a.now ≡ b.now) }
+{
+    if a.len() != b.len() {
+        return false;
+    }
+    for i in 0..a.len() {
+        if !equal(&a[i], &b[i]) {
+            return false;
+        }
+    }
+    true
+}

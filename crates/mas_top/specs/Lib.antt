@@ -1,0 +1,17 @@
+pub mod Causes
+pub mod Shelf
+pub mod Sink
+pub mod Writing
+pub mod Memory
+pub mod Limits
+pub mod Statuses
+pub mod State
+pub mod Platform
+pub mod Robin
+pub mod Schedule
+pub mod Report
+pub mod Reading
+pub mod Headline
+pub mod Alone
+pub mod Course
+pub mod Fronts
