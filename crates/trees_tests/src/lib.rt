@@ -1,0 +1,5 @@
+//! Tests of lists, names and trees.
+#![tactic(auto)]
+
+#[cfg(test)]
+mod trees;
