@@ -1,0 +1,4 @@
+pub mod Spelling
+pub mod Scan
+pub mod Lexing
+pub mod Words
