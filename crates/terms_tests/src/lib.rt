@@ -1,0 +1,5 @@
+//! Tests of terms with parts.
+#![tactic(auto)]
+
+#[cfg(test)]
+mod terms;
