@@ -91,7 +91,7 @@ pub fn exec(alloc: Global, cur: &mut Stack) -> Result<Went, Starved>
 {
     match printed(alloc, cur)? {
         Some(text) => {
-            cur.remove_head()?;
+            cur.remove_head();
             Ok(Went::Say(text))
         }
         None => Ok(Went::Row(Row::Exec0)),

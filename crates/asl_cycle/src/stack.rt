@@ -1,6 +1,6 @@
 //! Stacks of means.
 
-ghost use Rattle.std.specs.Prelude.{◌≡◌, [], ◌∷◌, OnOk, OnErr, length};
+ghost use Rattle.std.specs.Prelude.{◌≡◌, [], ◌∷◌, OnOk, OnErr, length, remove, reverse};
 ghost use Rattle.std.specs.Option.{option_copied};
 ghost use Rattle.asl_cycle.specs.Stacks as stacks;
 
@@ -71,6 +71,22 @@ impl Stack {
     }
 }
 
+fn drop_first(body: &mut Formulas)
+    ensures { body.new ≡ remove body.old 0 }
+{
+    body.remove(0);
+}
+
+/// Takes away the first formula of the last means.
+fn drop_head(means: &mut Vec<Means>)
+    ensures { reverse means.new.items ≡ stacks.without_head (reverse means.old.items) }
+{
+    let n = means.len();
+    if n > 0 {
+        drop_first(&mut means[n - 1].body);
+    }
+}
+
 impl Stack {
     /// The first formula of the top.
     pub fn head(&self) -> Option<&Formula>
@@ -83,16 +99,10 @@ impl Stack {
     }
 
     /// Takes away the first formula of the top.
-    pub fn remove_head(&mut self) -> Result<(), Starved>
-        ensures { OnOk result (self.new ≡ stacks.without_head self.old) }
+    pub fn remove_head(&mut self)
+        ensures { self.new ≡ stacks.without_head self.old }
     {
-        match self.take_top() {
-            None => Ok(()),
-            Some(mut top) => {
-                top.body.remove(0);
-                self.put(top)
-            }
-        }
+        drop_head(&mut self.means)
     }
 
     /// Whether nothing is left to do.

@@ -1,3 +1,7 @@
 pub mod Terms
+pub mod Exprs
+pub mod Same
+pub mod Grounds
+pub mod Commas
 pub mod Places
 pub mod Args

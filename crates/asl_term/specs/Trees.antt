@@ -6,6 +6,7 @@ use Rattle.asl_term.specs.declared.syntax.Term.{Term}
 use Rattle.asl_term.specs.declared.syntax.Term.TheOpen.{Term-F}
 use Rattle.asl_term.specs.declared.syntax.Term.TheOpen as layer
 use Rattle.asl_term.specs.declared.syntax.Term.TheFolds.{fold-Term}
+use Rattle.asl_term.specs.Layers.{made}
 
 -- a number that is answered as 2^64 - 1 where it is greater
 abbrev pub capped : ℕ → ℕ
@@ -55,6 +56,14 @@ ground_step leaf = true
 
 abbrev pub is_ground : Term → Bool
 is_ground = fold-Term Bool ground_step
+
+-- each variable replaced by a term
+abbrev pub with_terms_step : (Var → Term) → Term-F Term → Term
+with_terms_step h (layer.Var v) = h v
+with_terms_step h other = made other
+
+abbrev pub with_terms : (Var → Term) → Term → Term
+with_terms h = fold-Term Term (with_terms_step h)
 
 -- whether two variables are one
 abbrev pub same_var : Var → Var → Bool

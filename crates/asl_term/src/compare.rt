@@ -2,6 +2,7 @@
 
 ghost use Rattle.std.specs.Prelude.{◌≡◌, ◌↔◌, IsTrue};
 ghost use Rattle.std.specs.Str.{bytes_eq};
+ghost use Rattle.asl_term.specs.Same.{same_tree};
 ghost use Rattle.asl_term.specs.Trees as vars;
 
 use crate::syntax::{Op, Term, Text, Var};
@@ -27,8 +28,15 @@ fn same_op(a: Op, b: Op) -> bool
 }
 
 /// Whether they are the same tree.
-#[cycle(equal)]
 pub fn equal(a: &Term, b: &Term) -> bool
+    ensures same { IsTrue result ↔ (a.now ≡ b.now) }
+    ensures value { result ≡ same_tree a.now b.now }
+{
+    same_term(a, b)
+}
+
+#[cycle(same_term)]
+fn same_term(a: &Term, b: &Term) -> bool
     ensures { IsTrue result ↔ (a.now ≡ b.now) }
 {
     match a {
@@ -58,7 +66,7 @@ pub fn equal(a: &Term, b: &Term) -> bool
                 equal_all(x.items.as_slice(), y.items.as_slice())
                     && match (&x.tail, &y.tail) {
                         (None, None) => true,
-                        (Some(s), Some(t)) => equal(s.get(), t.get()),
+                        (Some(s), Some(t)) => same_term(s.get(), t.get()),
                         _ => false,
                     }
             }
@@ -67,15 +75,15 @@ pub fn equal(a: &Term, b: &Term) -> bool
         Term::Op(x) => match b {
             Term::Op(y) => {
                 same_op(x.op, y.op)
-                    && equal(x.left.get(), y.left.get())
-                    && equal(x.right.get(), y.right.get())
+                    && same_term(x.left.get(), y.left.get())
+                    && same_term(x.right.get(), y.right.get())
             }
             _ => false,
         },
     }
 }
 
-#[cycle(equal)]
+#[cycle(same_term)]
 pub fn equal_all(a: &[Term], b: &[Term]) -> bool
     ensures { IsTrue result ↔ (a.now ≡ b.now) }
 {
@@ -83,7 +91,7 @@ pub fn equal_all(a: &[Term], b: &[Term]) -> bool
         return false;
     }
     for i in 0..a.len() {
-        if !equal(&a[i], &b[i]) {
+        if !same_term(&a[i], &b[i]) {
             return false;
         }
     }
