@@ -2,4 +2,8 @@
 #![tactic(auto)]
 
 #[cfg(test)]
+mod exprs;
+#[cfg(test)]
+mod formulas;
+#[cfg(test)]
 mod terms;

@@ -1,0 +1,15 @@
+pub mod Puts
+pub mod Compare
+pub mod Costs
+pub mod Views
+pub mod Searches
+pub mod Matches
+pub mod Settling
+pub mod Unified
+pub mod Limits
+pub mod Ends
+pub mod Applied
+pub mod Renamed
+pub mod Tries
+pub mod Sealed
+pub mod Comparing
