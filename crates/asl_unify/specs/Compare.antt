@@ -3,8 +3,7 @@ use Rattle.std.specs.Prelude.{◌≡◌, ℕ, eqb, Bool, true, false, ◌&&◌, 
 use Rattle.std.specs.Ordering.{int_eq}
 use Rattle.std.specs.Str.{bytes_eq}
 use Rattle.asl_term.specs.Trees.{capped, same_var as same}
-use Rattle.asl_term.specs.declared.syntax.Op.{Op}
-use Rattle.asl_term.specs.declared.syntax.Op.TheVariants.{Add, Sub, Mul, Div, Mod}
+use Rattle.asl_term.specs.Same.{same_op}
 use Rattle.asl_term.specs.declared.syntax.Var.{Var}
 use Rattle.asl_unify.specs.declared.subst.Pair.{Pair}
 use Rattle.asl_term.specs.declared.syntax.LiteralOf.{LiteralOf}
@@ -35,14 +34,6 @@ pub data Outcome : Type 0 where
 pub data Move : Type 0 where
   Go : List Question → List Pair → ℕ → Move
   End : Fault → Move
-
-abbrev pub same_op : Op → Op → Bool
-same_op Add Add = true
-same_op Sub Sub = true
-same_op Mul Mul = true
-same_op Div Div = true
-same_op Mod Mod = true
-same_op a b = false
 
 abbrev pub same_sign : Bool → Bool → Bool
 same_sign true b = b

@@ -2,7 +2,8 @@
 
 ghost use Rattle.std.specs.Prelude.{◌≡◌, IfOk, IfErr, List, []};
 ghost use Rattle.asl_unify.specs.declared.subst.Pair.{Pair};
-ghost use Rattle.asl_unify.specs.Compare.{counted, same_op, same_head, lists, plain, Go};
+ghost use Rattle.asl_unify.specs.Compare.{counted, same_head, lists, plain, Go};
+ghost use Rattle.asl_term.specs.Same.{same_op};
 ghost use Rattle.asl_unify.specs.Views.{seen, now_of, asked, before, is_bare, shown, Stops};
 ghost use Rattle.asl_term.specs.declared.syntax.Term.TheOpen as layer;
 ghost use Rattle.asl_term.specs.declared.syntax.Term.{out-Term};
