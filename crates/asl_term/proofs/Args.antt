@@ -1,14 +1,21 @@
 -- The numbers and texts of expressions at their variants.
-use Rattle.std.proofs.Common.{◌≡◌, ℕ, ◌+◌, List, ◌++◌, map, sum}
+use Rattle.std.proofs.Common.{◌≡◌, ℕ, ◌+◌, List, ◌++◌, map, max, sum}
 use Rattle.std.specs.Prelude.{codes}
 use Rattle.asl_term.specs.declared.syntax.Expr.{Expr}
 use Rattle.asl_term.specs.declared.syntax.CallOf.{CallOf}
+use Rattle.asl_term.specs.declared.syntax.Relation.{Relation}
 use Rattle.asl_term.specs.declared.syntax.Expr.TheVariants as expr
 use Rattle.asl_term.specs.Exprs.{map_arg}
 use Rattle.asl_term.specs.Trees as tree
 use Rattle.asl_term.specs.Texts as texts
 use Rattle.asl_term.specs.Exprs as spec
-use Rattle.asl_term.proofs.Exprs.{fold_inner, fold_not, fold_and, fold_or}
+use Rattle.asl_term.proofs.Exprs.{fold_rel, fold_inner, fold_not, fold_and, fold_or}
+
+pub size_relation : (r : Relation) → spec.size (expr.Rel r) ≡ 1 + tree.size r.left + tree.size r.right
+size_relation = fold_rel ℕ spec.size_step
+
+pub depth_relation : (r : Relation) → spec.depth (expr.Rel r) ≡ 1 + max (tree.depth r.left) (tree.depth r.right)
+depth_relation = fold_rel ℕ spec.depth_step
 
 pub size_inner : (c : CallOf Expr) → spec.size (expr.Inner c) ≡ 1 + sum (map spec.arg_size (map (map_arg spec.size) c.args))
 size_inner = fold_inner ℕ spec.size_step

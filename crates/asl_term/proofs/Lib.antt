@@ -5,3 +5,4 @@ pub mod Grounds
 pub mod Commas
 pub mod Places
 pub mod Args
+pub mod Noted

@@ -148,3 +148,11 @@ same_self a = (same_decides a a).1 refl
 -- what tells whether two terms are one is `same_tree`
 pub same_value : (r : Bool) (a b : Term) → Decides r (a ≡ b) → r ≡ same_tree a b
 same_value r a b d = same_from_decides r (same_tree a b) d (same_decides a b)
+
+all_tested : (ts : List Term) → AllByRecursion Tested ts
+all_tested [] = tt
+all_tested (t ∷ ts) = (same_decides t, all_tested ts)
+
+-- and for lists of terms
+pub all_value : (r : Bool) (ts us : List Term) → Decides r (ts ≡ us) → r ≡ all_same (map same_tree ts) us
+all_value r ts us d = same_from_decides r (all_same (map same_tree ts) us) d (all_decide ts (all_tested ts) us)

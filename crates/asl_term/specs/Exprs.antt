@@ -71,6 +71,19 @@ depth_step leaf = 1
 abbrev pub depth : Expr → ℕ
 depth = fold-Expr ℕ depth_step
 
+-- a relation and a call are measured as the expressions that they are
+abbrev pub relation_size : Relation → ℕ
+relation_size r = size (expr.Rel r)
+
+abbrev pub relation_depth : Relation → ℕ
+relation_depth r = depth (expr.Rel r)
+
+abbrev pub call_size : CallOf Expr → ℕ
+call_size c = size (expr.Inner c)
+
+abbrev pub call_depth : CallOf Expr → ℕ
+call_depth c = depth (expr.Inner c)
+
 abbrev pub rel_text : RelOp → List ℕ
 rel_text Less = codes "<"
 rel_text LessEq = codes "<="

@@ -6,3 +6,4 @@ pub mod Same
 pub mod Texts
 pub mod Names
 pub mod Exprs
+pub mod Variables

@@ -1,8 +1,8 @@
 //! Whether two terms are the same.
 
-ghost use Rattle.std.specs.Prelude.{◌≡◌, ◌↔◌, IsTrue};
+ghost use Rattle.std.specs.Prelude.{◌≡◌, ◌↔◌, IsTrue, map};
 ghost use Rattle.std.specs.Str.{bytes_eq};
-ghost use Rattle.asl_term.specs.Same.{same_tree};
+ghost use Rattle.asl_term.specs.Same.{all_same, same_tree};
 ghost use Rattle.asl_term.specs.Trees as vars;
 
 use crate::syntax::{Op, Term, Text, Var};
@@ -35,6 +35,14 @@ pub fn equal(a: &Term, b: &Term) -> bool
     same_term(a, b)
 }
 
+/// Whether they are the same trees in the same order.
+pub fn equal_all(a: &[Term], b: &[Term]) -> bool
+    ensures same { IsTrue result ↔ (a.now ≡ b.now) }
+    ensures value { result ≡ all_same (map same_tree a.now) b.now }
+{
+    same_terms(a, b)
+}
+
 #[cycle(same_term)]
 fn same_term(a: &Term, b: &Term) -> bool
     ensures { IsTrue result ↔ (a.now ≡ b.now) }
@@ -56,14 +64,14 @@ fn same_term(a: &Term, b: &Term) -> bool
             Term::Lit(y) => {
                 x.neg == y.neg
                     && same_text(&x.functor, &y.functor)
-                    && equal_all(x.args.as_slice(), y.args.as_slice())
-                    && equal_all(x.annots.as_slice(), y.annots.as_slice())
+                    && same_terms(x.args.as_slice(), y.args.as_slice())
+                    && same_terms(x.annots.as_slice(), y.annots.as_slice())
             }
             _ => false,
         },
         Term::List(x) => match b {
             Term::List(y) => {
-                equal_all(x.items.as_slice(), y.items.as_slice())
+                same_terms(x.items.as_slice(), y.items.as_slice())
                     && match (&x.tail, &y.tail) {
                         (None, None) => true,
                         (Some(s), Some(t)) => same_term(s.get(), t.get()),
@@ -84,7 +92,7 @@ fn same_term(a: &Term, b: &Term) -> bool
 }
 
 #[cycle(same_term)]
-pub fn equal_all(a: &[Term], b: &[Term]) -> bool
+fn same_terms(a: &[Term], b: &[Term]) -> bool
     ensures { IsTrue result ↔ (a.now ≡ b.now) }
 {
     if a.len() != b.len() {

@@ -5,7 +5,7 @@ ghost use Rattle.asl_term.specs.Trees as tree;
 ghost use Rattle.asl_term.specs.Exprs as spec;
 
 use crate::measure::{depth, literal_depth, literal_size, size};
-use crate::syntax::{Arg, ArgOf, Expr};
+use crate::syntax::{Arg, ArgOf, Call, Expr, Relation};
 
 /// The number of nodes. A literal in it has no node beside its own.
 #[cycle(expr_size)]
@@ -73,4 +73,37 @@ fn args_depth(args: &[Arg]) -> u64
         n = n.max(m);
     }
     n
+}
+
+/// The number of nodes of a relation.
+#[tactic(auto, using(crate::proofs::Args::size_relation))]
+pub fn relation_size(r: &Relation) -> u64
+    ensures { result ≡ tree.capped (spec.relation_size r.now) }
+{
+    1u64.saturating_add(size(&r.left))
+        .saturating_add(size(&r.right))
+}
+
+/// The number of levels of a relation.
+#[tactic(auto, using(crate::proofs::Args::depth_relation))]
+pub fn relation_depth(r: &Relation) -> u64
+    ensures { result ≡ tree.capped (spec.relation_depth r.now) }
+{
+    1u64.saturating_add(depth(&r.left).max(depth(&r.right)))
+}
+
+/// The number of nodes of a call.
+#[tactic(auto, using(crate::proofs::Args::size_inner))]
+pub fn call_size(c: &Call) -> u64
+    ensures { result ≡ tree.capped (spec.call_size c.now) }
+{
+    1u64.saturating_add(args_size(c.args.as_slice()))
+}
+
+/// The number of levels of a call.
+#[tactic(auto, using(crate::proofs::Args::depth_inner))]
+pub fn call_depth(c: &Call) -> u64
+    ensures { result ≡ tree.capped (spec.call_depth c.now) }
+{
+    1u64.saturating_add(args_depth(c.args.as_slice()))
 }

@@ -13,3 +13,4 @@ pub mod printing_expr;
 pub mod room;
 pub mod sequence;
 pub mod syntax;
+pub mod variables;

@@ -91,9 +91,12 @@ impl<T: Drop> Roomy<T> {
         }
     }
 
+    /// Makes room for `n` more items. Room that is there is never given back.
     pub fn reserve(&mut self, n: u64) -> Result<(), Starved>
         ensures list { self.new.list ≡ self.old.list }
         ensures room { OnOk result (n ≤ self.new.spare) }
+        ensures kept { self.old.spare ≤ self.new.spare }
+        ensures enough { n ≤ self.old.spare → IsOk result }
     {
         match self.items.reserve(n as usize) {
             Ok(()) => Ok(()),
@@ -101,9 +104,12 @@ impl<T: Drop> Roomy<T> {
         }
     }
 
+    /// Takes out the item at `k`, whose place becomes free.
     pub fn remove(&mut self, k: u64) -> Option<T>
         ensures value { result ≡ slice_get self.old.list k }
         ensures rest { self.new.list ≡ remove self.old.list k }
+        ensures room { k < length self.old.list → self.new.spare ≡ self.old.spare + 1 }
+        ensures kept { length self.old.list ≤ k → self.new.spare ≡ self.old.spare }
     {
         if k < self.len() {
             Some(self.items.remove(k as usize))

@@ -59,7 +59,12 @@ fn lists(rt: HostRuntime) -> Result<(), Starved> {
     assert_eq!(rt; list.as_slice(), b"axd".as_slice());
     list.append(b"ef")?;
     list.truncate(4);
-    assert_eq!(rt; list.as_slice(), b"axde".as_slice());
+    assert_eq!(rt; list.pop(), Some(b'e'));
+    list.reverse();
+    assert_eq!(rt; list.as_slice(), b"dxa".as_slice());
+    let mut items = list.into_vec();
+    items.push(b'f')?;
+    assert_eq!(rt; Seq::from_vec(items).as_slice(), b"dxaf".as_slice());
     Ok(())
 }
 
@@ -74,7 +79,9 @@ fn roomy_lists(rt: HostRuntime) -> Result<(), Starved> {
     assert_eq!(rt; list.len(), 3);
     *list.at_mut(0) = b'x';
     assert_eq!(rt; list.at(0).copied(), Some(b'x'));
+    let room = list.spare();
     assert_eq!(rt; list.remove(1), Some(b'b'));
+    assert_eq!(rt; list.spare(), room + 1);
     assert_eq!(rt; list.remove(2), None);
     assert_eq!(rt; list.into_seq().as_slice(), b"xc".as_slice());
     Ok(())
