@@ -16,9 +16,15 @@ pub mod Settled
 pub mod Unified
 pub mod Free
 pub mod Gone
+pub mod Marks
+pub mod Reaching
+pub mod Refuted
+pub mod Failing
+pub mod Matched
 pub mod Searches
 pub mod Walks
+pub mod Turns
+pub mod Twice
 pub mod Sizes
 pub mod Exprs
 pub mod Tries
-pub mod Sealed

@@ -1,6 +1,7 @@
 //! Relations between two terms.
 
-ghost use Rattle.std.specs.Prelude.{◌≡◌, [], ◌∷◌, IfOk, IfErr, true, false};
+ghost use Rattle.std.specs.Prelude.{◌≡◌, [], ◌∷◌, IfOk, IfErr, IfSome, int_lt, int_le, true, false};
+ghost use Rattle.asl_unify.specs.Puts.{IsSubst, Extends};
 ghost use Rattle.asl_unify.specs.Applied.{applied_relation, within_relation};
 ghost use Rattle.asl_unify.specs.Settling.{number_of, settle_relation as settled};
 ghost use Rattle.asl_unify.specs.Comparing as spec;
@@ -31,30 +32,28 @@ pub enum CompareFault {
     },
 }
 
-/// Whether a relation holds between two numbers.
-fn between_numbers(op: RelOp, m: i64, n: i64) -> bool
-    ensures { result ≡ spec.between op m n }
-{
-    match op {
-        RelOp::Less => m < n,
-        RelOp::LessEq => m <= n,
-        RelOp::More => n < m,
-        RelOp::MoreEq => n <= m,
-        RelOp::Same => false,
-        RelOp::Differ => false,
-        RelOp::Unify => false,
-    }
-}
-
-/// Whether two terms are numbers in this order.
-fn ordered(op: RelOp, a: &Term, b: &Term) -> bool
-    ensures { result ≡ spec.both (spec.between op) (number_of a.now) (number_of b.now) }
+/// Whether both are numbers and the first is less.
+fn less(a: &Term, b: &Term) -> bool
+    ensures { result ≡ spec.both int_lt (number_of a.now) (number_of b.now) }
 {
     match number_of(a) {
         None => false,
         Some(m) => match number_of(b) {
             None => false,
-            Some(n) => between_numbers(op, m, n),
+            Some(n) => m < n,
+        },
+    }
+}
+
+/// Whether both are numbers and the first is not greater.
+fn less_eq(a: &Term, b: &Term) -> bool
+    ensures { result ≡ spec.both int_le (number_of a.now) (number_of b.now) }
+{
+    match number_of(a) {
+        None => false,
+        Some(m) => match number_of(b) {
+            None => false,
+            Some(n) => m <= n,
         },
     }
 }
@@ -76,10 +75,10 @@ fn related(
         }
         RelOp::Same => equal(a, b),
         RelOp::Differ => !equal(a, b),
-        RelOp::Less => ordered(op, a, b),
-        RelOp::LessEq => ordered(op, a, b),
-        RelOp::More => ordered(op, a, b),
-        RelOp::MoreEq => ordered(op, a, b),
+        RelOp::Less => less(a, b),
+        RelOp::LessEq => less_eq(a, b),
+        RelOp::More => less(b, a),
+        RelOp::MoreEq => less_eq(b, a),
     };
     if is_so {
         let r = copy_subst(alloc, s)?;
@@ -92,9 +91,10 @@ fn related(
 /// Both sides, with the substitution put into them.
 fn applied(alloc: Global, r: &Relation, s: &Subst) -> Result<Relation, CompareFault>
     ensures ok { IfOk result (λ n. (n ≡ applied_relation s.now r.now) × (within_relation n ≡ true)) }
+    ensures sound { IsSubst s.now }
     ensures fault { IfErr result (λ e. spec.Passing (within_relation (applied_relation s.now r.now)) e) }
 {
-    match apply_relation(alloc, r, s.pairs()) {
+    match apply_relation(alloc, r, s.pairs(), &[]) {
         Ok(n) => Ok(n),
         Err(TermFault::Memory) => Err(CompareFault::Memory),
         Err(TermFault::TermLimit) => Err(CompareFault::TermLimit),
@@ -120,6 +120,7 @@ fn judged(alloc: Global, r: &Relation, s: &Subst) -> Result<Option<Subst>, Compa
 /// settled. `=` unifies, `==` and `\==` test equality, the others hold between numbers alone.
 pub fn compare(alloc: Global, r: &Relation, s: &Subst) -> Result<Option<Subst>, CompareFault>
     ensures ok { IfOk result (λ o. spec.holds r.now s.now ≡ Gives o) }
+    ensures extends { IfOk result (λ o. IfSome o (Extends s.now)) }
     ensures fault { IfErr result (λ e. spec.Refused (spec.holds r.now s.now) e) }
 {
     let n = applied(alloc, r, s)?;
