@@ -7,8 +7,9 @@ use Rattle.std.proofs.lemmas.Bool.Decides.{nat_tests}
 use Rattle.std.proofs.lemmas.List.Sums.{prefix_len-le-length}
 use Rattle.asl_lexer.specs.declared.token.TokKind.{TokKind}
 use Rattle.asl_lexer.specs.declared.token.TokKind.TheVariants.{Atom, Var, Inner, Number, Str, Sign, End}
-use Rattle.asl_lexer.specs.Spelling.{is_lower, is_upper, is_digit, is_word, is_one, is_two, is_three, is_sign, given, after_dot, ends_string, kind_of, IsLongest, NoToken}
+use Rattle.asl_lexer.specs.Spelling.{is_lower, is_upper, is_digit, is_word, is_sign, given, after_dot, ends_string, kind_of, IsLongest, NoToken}
 use Rattle.asl_lexer.specs.Scan.{token_at, starts_word, sign_len, sign_at, close_len, bad_from, string_len, string_at}
+use Rattle.asl_lexer.proofs.Table.{not_sign}
 use Rattle.asl_lexer.proofs.Endings.{EndsAt, never_closed, bad_ends, string_ends}
 
 -- what was found at the front
@@ -54,13 +55,13 @@ record SignFound (bytes : List ℕ) (n : ℕ) : Type 0 where
 
 long_sign : (a b c : ℕ) (rest : List ℕ) (m : ℕ) → suc m ≤ length rest → is_sign (a ∷ b ∷ c ∷ take (suc m) rest) ≡ false
 long_sign a b c [] m le = absurd (omega arith)
-long_sign a b c (d ∷ rest) m le = refl
+long_sign a b c (d ∷ rest) m le = not_sign (a ∷ b ∷ c ∷ d ∷ take m rest) refl
 
 sign_found : (bytes : List ℕ) → SignFound bytes (sign_len bytes)
 sign_found [] = record { within = omega arith; spelled = λ lt. absurd (omega arith); longest = λ m lt le. absurd (omega arith) }
-sign_found (a ∷ []) = go (is_one a) refl
+sign_found (a ∷ []) = go (is_sign (a ∷ [])) refl
   where
-    go : (one : Bool) → is_one a ≡ one → SignFound (a ∷ []) (cond one 1 0)
+    go : (one : Bool) → is_sign (a ∷ []) ≡ one → SignFound (a ∷ []) (cond one 1 0)
     go true e = record { within = omega arith; spelled = λ lt. e; longest = λ m lt le. absurd (omega arith) }
     go false e = record { within = omega arith; spelled = λ lt. absurd (omega arith); longest = λ m lt le. only m lt le }
       where
@@ -68,9 +69,9 @@ sign_found (a ∷ []) = go (is_one a) refl
         only zero lt le = absurd (omega arith)
         only (suc zero) lt le = e
         only (suc (suc m)) lt le = absurd (omega arith)
-sign_found (a ∷ b ∷ []) = go (is_two a b) refl (is_one a) refl
+sign_found (a ∷ b ∷ []) = go (is_sign (a ∷ b ∷ [])) refl (is_sign (a ∷ [])) refl
   where
-    go : (two : Bool) → is_two a b ≡ two → (one : Bool) → is_one a ≡ one → SignFound (a ∷ b ∷ []) (cond two 2 (cond one 1 0))
+    go : (two : Bool) → is_sign (a ∷ b ∷ []) ≡ two → (one : Bool) → is_sign (a ∷ []) ≡ one → SignFound (a ∷ b ∷ []) (cond two 2 (cond one 1 0))
     go true f one e = record { within = omega arith; spelled = λ lt. f; longest = λ m lt le. absurd (omega arith) }
     go false f true e = record { within = omega arith; spelled = λ lt. e; longest = λ m lt le. only m lt le }
       where
@@ -86,16 +87,16 @@ sign_found (a ∷ b ∷ []) = go (is_two a b) refl (is_one a) refl
         only (suc zero) lt le = e
         only (suc (suc zero)) lt le = f
         only (suc (suc (suc m))) lt le = absurd (omega arith)
-sign_found (a ∷ b ∷ c ∷ rest) = go (is_three a b c) refl (is_two a b) refl (is_one a) refl
+sign_found (a ∷ b ∷ c ∷ rest) = go (is_sign (a ∷ b ∷ c ∷ [])) refl (is_sign (a ∷ b ∷ [])) refl (is_sign (a ∷ [])) refl
   where
-    only : (n : ℕ) → (n < 1 → is_one a ≡ false) → (n < 2 → is_two a b ≡ false) → (n < 3 → is_three a b c ≡ false) → (m : ℕ) → n < m → m ≤ length (a ∷ b ∷ c ∷ rest) → is_sign (take m (a ∷ b ∷ c ∷ rest)) ≡ false
+    only : (n : ℕ) → (n < 1 → is_sign (a ∷ []) ≡ false) → (n < 2 → is_sign (a ∷ b ∷ []) ≡ false) → (n < 3 → is_sign (a ∷ b ∷ c ∷ []) ≡ false) → (m : ℕ) → n < m → m ≤ length (a ∷ b ∷ c ∷ rest) → is_sign (take m (a ∷ b ∷ c ∷ rest)) ≡ false
     only n e f g zero lt le = absurd (omega arith)
     only n e f g (suc zero) lt le = e lt
     only n e f g (suc (suc zero)) lt le = f lt
     only n e f g (suc (suc (suc zero))) lt le = g lt
     only n e f g (suc (suc (suc (suc m)))) lt le = long_sign a b c rest m (omega arith)
 
-    go : (three : Bool) → is_three a b c ≡ three → (two : Bool) → is_two a b ≡ two → (one : Bool) → is_one a ≡ one → SignFound (a ∷ b ∷ c ∷ rest) (cond three 3 (cond two 2 (cond one 1 0)))
+    go : (three : Bool) → is_sign (a ∷ b ∷ c ∷ []) ≡ three → (two : Bool) → is_sign (a ∷ b ∷ []) ≡ two → (one : Bool) → is_sign (a ∷ []) ≡ one → SignFound (a ∷ b ∷ c ∷ rest) (cond three 3 (cond two 2 (cond one 1 0)))
     go true g two f one e = record { within = omega arith; spelled = λ lt. g; longest = only 3 (λ lt. absurd (omega arith)) (λ lt. absurd (omega arith)) (λ lt. absurd (omega arith)) }
     go false g true f one e = record { within = omega arith; spelled = λ lt. f; longest = only 2 (λ lt. absurd (omega arith)) (λ lt. absurd (omega arith)) (λ lt. g) }
     go false g false f true e = record { within = omega arith; spelled = λ lt. e; longest = only 1 (λ lt. absurd (omega arith)) (λ lt. f) (λ lt. g) }

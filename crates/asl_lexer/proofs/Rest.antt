@@ -7,10 +7,12 @@ use Rattle.asl_lexer.specs.declared.token.Place.{Place}
 use Rattle.asl_lexer.specs.declared.token.Tok.{Tok}
 use Rattle.asl_lexer.specs.declared.token.LexFault.{LexFault}
 use Rattle.asl_lexer.specs.declared.token.LexFault.TheVariants.{Memory, BadByte, OpenString, OpenComment, NumberRange}
-use Rattle.asl_lexer.specs.Spelling.{IsLongest, NoToken}
-use Rattle.asl_lexer.specs.Scan.{blank_at, token_at}
-use Rattle.asl_lexer.specs.Lexing.{start, after, is_allowed, tok_of, fault_of, open_comment, big_number, no_token, onto, Lexes, at_end, behind_blank, behind_token, stops, IsFirstFault, IsFault}
+use Rattle.asl_lexer.specs.Spelling.{IsLongest}
+use Rattle.asl_lexer.specs.Scan.{blank_at, token_at, fault_of}
+use Rattle.asl_lexer.specs.Lexing.{start, after, is_allowed, tok_of, open_comment, big_number, onto, Lexes, at_end, behind_blank, behind_token, stops, IsFirstFault, IsFault}
 use Rattle.asl_lexer.proofs.Longest.{Found, token_found}
+use Rattle.asl_lexer.proofs.BlankFacts.{is_blank_at, is_open, is_none}
+use Rattle.asl_lexer.proofs.Faults.{fault_stands}
 
 -- the same, behind the tokens that were found before
 abbrev pub behind : List Tok → Result (List Tok) LexFault → Result (List Tok) LexFault
@@ -33,13 +35,10 @@ pub starts : (bytes : List ℕ) → Rest [] start bytes bytes
 starts bytes = record { goes = λ r h. subst (Lexes start bytes) (sym (behind_nil r)) h }
 
 pub blank_more : (front : List Tok) (p : Place) (ts bytes : List ℕ) (n : ℕ) → Rest front p ts bytes → blank_at ts ≡ blanks.Bytes n → Rest front (after p (take n ts)) (drop n ts) bytes
-blank_more front p ts bytes n h e = record { goes = λ r k. h.goes r (behind_blank n e k) }
+blank_more front p ts bytes n h e = record { goes = λ r k. h.goes r (behind_blank n (is_blank_at ts n e) k) }
 
 found_some : (ts : List ℕ) (kind : TokKind) (n : ℕ) → token_at ts ≡ Some (kind, n) → IsLongest ts kind n
 found_some ts kind n e = subst (Found ts) e (token_found ts)
-
-found_none : (ts : List ℕ) → token_at ts ≡ None → NoToken ts
-found_none ts e = subst (Found ts) e (token_found ts)
 
 pub token_more : (front : List Tok) (p : Place) (ts bytes : List ℕ) (kind : TokKind) (n : ℕ) → Rest front p ts bytes → blank_at ts ≡ blanks.None → token_at ts ≡ Some (kind, n) → is_allowed kind (take n ts) ≡ true → Rest (front ++ tok_of kind (take n ts) p ∷ []) (after p (take n ts)) (drop n ts) bytes
 token_more front p ts bytes kind n h b e f = record { goes = λ r k. go r k }
@@ -48,13 +47,13 @@ token_more front p ts bytes kind n h b e f = record { goes = λ r k. go r k }
     t = tok_of kind (take n ts) p
 
     go : (r : Result (List Tok) LexFault) → Lexes (after p (take n ts)) (drop n ts) r → Lexes start bytes (behind (front ++ t ∷ []) r)
-    go r k = subst (Lexes start bytes) (behind_onto front t r) (h.goes (onto t r) (behind_token {r = r} kind n (record { no_blank = b; longest = found_some ts kind n e }) f k refl))
+    go r k = subst (Lexes start bytes) (behind_onto front t r) (h.goes (onto t r) (behind_token {r = r} kind n (record { no_blank = is_none ts b; longest = found_some ts kind n e }) f k refl))
 
 pub open_ends : (front : List Tok) (p : Place) (ts bytes : List ℕ) → Rest front p ts bytes → blank_at ts ≡ blanks.OpenComment → IsFirstFault bytes (OpenComment p.at)
-open_ends front p ts bytes h e = h.goes (Err (OpenComment p.at)) (stops (open_comment e))
+open_ends front p ts bytes h e = h.goes (Err (OpenComment p.at)) (stops (open_comment (is_open ts e)))
 
 pub number_ends : (front : List Tok) (p : Place) (ts bytes : List ℕ) (kind : TokKind) (n : ℕ) → Rest front p ts bytes → blank_at ts ≡ blanks.None → token_at ts ≡ Some (kind, n) → is_allowed kind (take n ts) ≡ false → IsFirstFault bytes (NumberRange p.at)
-number_ends front p ts bytes kind n h b e f = h.goes (Err (NumberRange p.at)) (stops (big_number kind n (record { no_blank = b; longest = found_some ts kind n e }) f))
+number_ends front p ts bytes kind n h b e f = h.goes (Err (NumberRange p.at)) (stops (big_number kind n (record { no_blank = is_none ts b; longest = found_some ts kind n e }) f))
 
 as_fault : (bytes : List ℕ) (fault : LexFault) → IsFirstFault bytes fault → IsFault bytes fault
 as_fault bytes Memory h = tt
@@ -64,7 +63,7 @@ as_fault bytes (OpenComment at) h = h
 as_fault bytes (NumberRange at) h = h
 
 pub byte_ends : (front : List Tok) (p : Place) (ts bytes : List ℕ) → Rest front p ts bytes → 0 < length ts → blank_at ts ≡ blanks.None → token_at ts ≡ None → IsFault bytes (fault_of p.at ts)
-byte_ends front p ts bytes h lt b e = as_fault bytes (fault_of p.at ts) (h.goes (Err (fault_of p.at ts)) (stops (no_token lt b (found_none ts e) refl)))
+byte_ends front p ts bytes h lt b e = as_fault bytes (fault_of p.at ts) (h.goes (Err (fault_of p.at ts)) (stops (fault_stands p.at ts lt b e)))
 
 pub all_ends : (front : List Tok) (p : Place) (ts bytes : List ℕ) → Rest front p ts bytes → length ts ≡ 0 → Lexes start bytes (Ok front)
 all_ends front p [] bytes h e = subst (λ (x : List Tok). Lexes start bytes (Ok x)) (append-nil front) (h.goes (Ok []) at_end)

@@ -1,15 +1,16 @@
 -- What the tokens of bytes are.
-use Rattle.std.specs.Prelude.{◌≡◌, ℕ, ◌+◌, ◌<◌, Bool, true, false, ◌==◌, List, [], ◌∷◌, length, take, drop, Result, Ok, Err, if◌then◌else◌}
-use Rattle.std.specs.Option.{option_map_or, is_some}
+use Rattle.std.specs.Prelude.{◌≡◌, ℕ, ◌+◌, Bool, true, false, ◌==◌, List, [], ◌∷◌, take, drop, Result, Ok, Err, if◌then◌else◌}
+use Rattle.std.specs.Option.{is_some}
 use Rattle.asl_lexer.specs.declared.token.TokKind.{TokKind}
 use Rattle.asl_lexer.specs.declared.token.TokKind.TheVariants.{Atom, Var, Inner, Number, Str, Sign, End}
-use Rattle.asl_lexer.specs.declared.blanks.Blank.TheVariants as blanks
 use Rattle.asl_lexer.specs.declared.token.Place.{Place}
 use Rattle.asl_lexer.specs.declared.token.Tok.{Tok}
 use Rattle.asl_lexer.specs.declared.token.LexFault.{LexFault}
 use Rattle.asl_lexer.specs.declared.token.LexFault.TheVariants.{Memory, BadByte, OpenString, OpenComment, NumberRange}
 use Rattle.asl_lexer.specs.Spelling.{IsLongest, NoToken}
-use Rattle.asl_lexer.specs.Scan.{blank_at, close_len, bad_from, content, starts_quote, value}
+use Rattle.asl_lexer.specs.Blanks.{BlankAt, IsOpenComment, begins_blank}
+use Rattle.asl_lexer.specs.Quotes.{IsClosed, IsBadBehind}
+use Rattle.asl_lexer.specs.Scan.{content, value}
 
 -- ---- places
 
@@ -52,24 +53,21 @@ tok_of kind spelled p = record { kind = kind; text = text_of kind spelled; at = 
 
 -- the longest token stands here, and no blank and no comment does
 pub record TokenAt (bytes : List ℕ) (kind : TokKind) (n : ℕ) : Type 0 where
-  pub no_blank : blank_at bytes ≡ blanks.None
+  pub no_blank : begins_blank bytes ≡ false
   pub longest : IsLongest bytes kind n
 
 -- ---- faults
 
--- a string that is not closed in its line, at its quote; else its first bad byte
-abbrev pub string_fault : ℕ → List ℕ → LexFault
-string_fault at text = option_map_or (λ _. option_map_or (λ k. BadByte (at + k)) (bad_from 1 false text) (OpenString at)) (close_len false text) (OpenString at)
-
--- why no token stands here
-abbrev pub fault_of : ℕ → List ℕ → LexFault
-fault_of at bytes = if starts_quote bytes then string_fault at (drop 1 bytes) else BadByte at
-
 -- The bytes from the place `at` on begin with this fault.
 pub data FaultAt (at : ℕ) (bytes : List ℕ) : LexFault → Type 0 where
-  open_comment : blank_at bytes ≡ blanks.OpenComment → FaultAt at bytes (OpenComment at)
+  open_comment : IsOpenComment bytes → FaultAt at bytes (OpenComment at)
   big_number : (kind : TokKind) (n : ℕ) → TokenAt bytes kind n → is_allowed kind (take n bytes) ≡ false → FaultAt at bytes (NumberRange at)
-  no_token : {fault : LexFault} → 0 < length bytes → blank_at bytes ≡ blanks.None → NoToken bytes → fault ≡ fault_of at bytes → FaultAt at bytes fault
+  -- a string that meets a line feed or the end, at its quote
+  open_string : (text : List ℕ) → bytes ≡ 34 ∷ text → (IsClosed text → ⊥) → FaultAt at bytes (OpenString at)
+  -- a closed string, at its first bad byte; of a bad escape that is the backslash
+  bad_string : (text : List ℕ) (k : ℕ) → bytes ≡ 34 ∷ text → IsBadBehind text k → FaultAt at bytes (BadByte (at + 1 + k))
+  -- a byte that begins no string, no other token, no blank and no comment
+  bad_byte : (b : ℕ) (rest : List ℕ) → bytes ≡ b ∷ rest → (b ≡ 34 → ⊥) → begins_blank bytes ≡ false → NoToken bytes → FaultAt at bytes (BadByte at)
 
 -- ---- all tokens
 
@@ -81,8 +79,11 @@ onto t (Err fault) = Err fault
 -- What the bytes from a place on give: their tokens, each the longest at its place, or the first fault.
 pub data Lexes : Place → List ℕ → Result (List Tok) LexFault → Type 0 where
   at_end : {p : Place} → Lexes p [] (Ok [])
-  behind_blank : {p : Place} {bytes : List ℕ} {r : Result (List Tok) LexFault} (n : ℕ) → blank_at bytes ≡ blanks.Bytes n → Lexes (after p (take n bytes)) (drop n bytes) r → Lexes p bytes r
-  behind_token : {p : Place} {bytes : List ℕ} {r s : Result (List Tok) LexFault} (kind : TokKind) (n : ℕ) → TokenAt bytes kind n → is_allowed kind (take n bytes) ≡ true → Lexes (after p (take n bytes)) (drop n bytes) r → s ≡ onto (tok_of kind (take n bytes) p) r → Lexes p bytes s
+  behind_blank : {p : Place} {bytes : List ℕ} {r : Result (List Tok) LexFault} (n : ℕ) → BlankAt bytes n
+      → Lexes (after p (take n bytes)) (drop n bytes) r → Lexes p bytes r
+  behind_token : {p : Place} {bytes : List ℕ} {r s : Result (List Tok) LexFault} (kind : TokKind) (n : ℕ) → TokenAt bytes kind n
+      → is_allowed kind (take n bytes) ≡ true → Lexes (after p (take n bytes)) (drop n bytes) r → s ≡ onto (tok_of kind (take n bytes) p) r
+      → Lexes p bytes s
   stops : {p : Place} {bytes : List ℕ} {fault : LexFault} → FaultAt p.at bytes fault → Lexes p bytes (Err fault)
 
 -- the tokens of bytes

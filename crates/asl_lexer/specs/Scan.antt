@@ -1,13 +1,17 @@
--- What stands at the front of bytes.
-use Rattle.std.specs.Prelude.{ℕ, suc, ◌+◌, ◌-◌, ◌*◌, ◌<◌, ◌≤◌, Bool, true, false, ◌&&◌, ◌==◌, nat_le, List, [], ◌∷◌, Option, Some, None, if◌then◌else◌}
+-- What stands at the front of bytes, as the code goes over them. Spelling, Blanks and Quotes say it without the scan; the
+-- content of a string and the value of a number are here alone.
+use Rattle.std.specs.Prelude.{ℕ, suc, ◌+◌, ◌-◌, ◌*◌, ◌<◌, ◌≤◌, Bool, true, false, ◌&&◌, ◌==◌, nat_le, List, [], ◌∷◌, drop, Option, Some, None}
+use Rattle.std.specs.Prelude.{if◌then◌else◌}
 use Rattle.std.specs.Borrow.{Bor}
 use Rattle.std.specs.List.{prefix_len}
 use Rattle.std.specs.Option.{option_map, option_map_or, is_some}
 use Rattle.asl_lexer.specs.declared.token.TokKind.{TokKind}
 use Rattle.asl_lexer.specs.declared.token.TokKind.TheVariants.{Atom, Var, Inner, Number, Str, Sign, End}
+use Rattle.asl_lexer.specs.declared.token.LexFault.{LexFault}
+use Rattle.asl_lexer.specs.declared.token.LexFault.TheVariants.{BadByte, OpenString}
 use Rattle.asl_lexer.specs.declared.blanks.Blank.{Blank}
 use Rattle.asl_lexer.specs.declared.blanks.Blank.TheVariants as blanks
-use Rattle.asl_lexer.specs.Spelling.{is_lower, is_upper, is_digit, is_word, is_blank, is_no_feed, is_plain, is_escaped, is_one, is_two, is_three}
+use Rattle.asl_lexer.specs.Spelling.{is_lower, is_upper, is_digit, is_word, is_blank, is_no_feed, is_plain, is_escaped, is_sign}
 
 -- ---- blanks and comments
 
@@ -44,7 +48,9 @@ starts_blank (a ∷ rest) = is_blank a
 
 -- a blank byte, or a comment: from `//` up to the line feed or the end, or from `/*` up to the next `*/`
 unfoldable pub blank_at : List ℕ → Blank
-blank_at bytes = option_map_or (λ rest. blanks.Bytes (prefix_len is_no_feed rest + 2)) (after_line_mark bytes) (option_map_or (λ rest. comment_at (comment_len rest)) (after_comment_mark bytes) (if starts_blank bytes then blanks.Bytes 1 else blanks.None))
+blank_at bytes =
+    option_map_or (λ rest. blanks.Bytes (prefix_len is_no_feed rest + 2)) (after_line_mark bytes)
+    (option_map_or (λ rest. comment_at (comment_len rest)) (after_comment_mark bytes) (if starts_blank bytes then blanks.Bytes 1 else blanks.None))
 
 -- what stands at the front has some of so many bytes
 abbrev pub IsWithin : Blank → ℕ → Type 0
@@ -94,11 +100,12 @@ string_len text = option_map_or (λ n. if is_some (bad_from 1 false text) then N
 abbrev pub string_at : Option ℕ → Option (TokKind × ℕ)
 string_at o = option_map (λ n. (Str, n + 1)) o
 
+-- how many bytes the longest sign at the front has
 abbrev pub sign_len : List ℕ → ℕ
 sign_len [] = 0
-sign_len (a ∷ []) = if is_one a then 1 else 0
-sign_len (a ∷ b ∷ []) = if is_two a b then 2 else (if is_one a then 1 else 0)
-sign_len (a ∷ b ∷ c ∷ rest) = if is_three a b c then 3 else (if is_two a b then 2 else (if is_one a then 1 else 0))
+sign_len (a ∷ []) = if is_sign (a ∷ []) then 1 else 0
+sign_len (a ∷ b ∷ []) = if is_sign (a ∷ b ∷ []) then 2 else (if is_sign (a ∷ []) then 1 else 0)
+sign_len (a ∷ b ∷ c ∷ rest) = if is_sign (a ∷ b ∷ c ∷ []) then 3 else (if is_sign (a ∷ b ∷ []) then 2 else (if is_sign (a ∷ []) then 1 else 0))
 
 abbrev pub starts_word : List ℕ → Bool
 starts_word [] = false
@@ -127,3 +134,13 @@ value_from v (d ∷ ds) = value_from (v * 10 + (d - 48)) ds
 -- the number that digits spell, unless it is above 9223372036854775807
 abbrev pub value : List ℕ → Option ℕ
 value digits = if nat_le (value_from 0 digits) 9223372036854775807 then Some (value_from 0 digits) else None
+
+-- ---- faults
+
+-- a string that is not closed in its line, at its quote; else its first bad byte
+abbrev pub string_fault : ℕ → List ℕ → LexFault
+string_fault at text = option_map_or (λ _. option_map_or (λ k. BadByte (at + k)) (bad_from 1 false text) (OpenString at)) (close_len false text) (OpenString at)
+
+-- why no token stands here
+abbrev pub fault_of : ℕ → List ℕ → LexFault
+fault_of at bytes = if starts_quote bytes then string_fault at (drop 1 bytes) else BadByte at

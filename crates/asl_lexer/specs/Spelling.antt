@@ -1,7 +1,9 @@
 -- How tokens are spelled.
-use Rattle.std.specs.Prelude.{◌≡◌, ℕ, ◌<◌, ◌≤◌, Bool, true, false, ◌&&◌, ◌||◌, ◌==◌, nat_le, List, [], ◌∷◌, length, take, Option, Some, None, if◌then◌else◌}
-use Rattle.std.specs.List.{list_all}
+use Rattle.std.specs.Prelude.{◌≡◌, ℕ, ◌<◌, ◌≤◌, Bool, true, false, ◌&&◌, ◌||◌, ◌==◌, nat_le, List, [], ◌∷◌, length, take}
+use Rattle.std.specs.Prelude.{Option, Some, None, codes, if◌then◌else◌}
+use Rattle.std.specs.List.{list_all, find}
 use Rattle.std.specs.Option.{is_some}
+use Rattle.std.specs.Str.{bytes_eq}
 use Rattle.asl_lexer.specs.declared.token.TokKind.{TokKind}
 use Rattle.asl_lexer.specs.declared.token.TokKind.TheVariants.{Atom, Var, Inner, Number, Str, Sign, End}
 use Rattle.asl_lexer.specs.declared.token.Sign as signs
@@ -40,49 +42,50 @@ is_escaped b = ((b == 34 || b == 92) || b == 110) || b == 116
 
 -- ---- signs
 
--- `(` `)` `[` `]` `{` `}`
-unfoldable pub bracket : ℕ → Option signs.Sign
-bracket a = if a == 40 then Some sign.Open else (if a == 41 then Some sign.Close else (if a == 91 then Some sign.OpenSquare else (if a == 93 then Some sign.CloseSquare else (if a == 123 then Some sign.OpenBrace else (if a == 125 then Some sign.CloseBrace else None)))))
+-- how each sign is spelled
+abbrev pub sign_text : signs.Sign → List ℕ
+sign_text sign.Open = codes "("
+sign_text sign.Close = codes ")"
+sign_text sign.OpenSquare = codes "["
+sign_text sign.CloseSquare = codes "]"
+sign_text sign.OpenBrace = codes "{"
+sign_text sign.CloseBrace = codes "}"
+sign_text sign.Comma = codes ","
+sign_text sign.Semicolon = codes ";"
+sign_text sign.Colon = codes ":"
+sign_text sign.If = codes ":-"
+sign_text sign.LeftArrow = codes "<-"
+sign_text sign.RightArrow = codes "->"
+sign_text sign.Ampersand = codes "&"
+sign_text sign.Bar = codes "|"
+sign_text sign.Bang = codes "!"
+sign_text sign.Bangs = codes "!!"
+sign_text sign.Question = codes "?"
+sign_text sign.Plus = codes "+"
+sign_text sign.Minus = codes "-"
+sign_text sign.MinusPlus = codes "-+"
+sign_text sign.Star = codes "*"
+sign_text sign.Tilde = codes "~"
+sign_text sign.At = codes "@"
+sign_text sign.Hash = codes "#"
+sign_text sign.Less = codes "<"
+sign_text sign.LessEq = codes "<="
+sign_text sign.More = codes ">"
+sign_text sign.MoreEq = codes ">="
+sign_text sign.Same = codes "=="
+sign_text sign.Differ = codes "\\=="
+sign_text sign.Unify = codes "="
 
--- `,` `;` `:` `!` `?` `~` `@` `#`
-unfoldable pub mark : ℕ → Option signs.Sign
-mark a = if a == 44 then Some sign.Comma else (if a == 59 then Some sign.Semicolon else (if a == 58 then Some sign.Colon else (if a == 33 then Some sign.Bang else (if a == 63 then Some sign.Question else (if a == 126 then Some sign.Tilde else (if a == 64 then Some sign.At else (if a == 35 then Some sign.Hash else None)))))))
-
--- `&` `|` `+` `-` `*` `<` `>` `=`
-unfoldable pub operator : ℕ → Option signs.Sign
-operator a = if a == 38 then Some sign.Ampersand else (if a == 124 then Some sign.Bar else (if a == 43 then Some sign.Plus else (if a == 45 then Some sign.Minus else (if a == 42 then Some sign.Star else (if a == 60 then Some sign.Less else (if a == 62 then Some sign.More else (if a == 61 then Some sign.Unify else None)))))))
-
--- the first that is there
-abbrev pub either : Option signs.Sign → Option signs.Sign → Option signs.Sign
-either (Some s) o = Some s
-either None o = o
-
-unfoldable pub one_sign : ℕ → Option signs.Sign
-one_sign a = either (bracket a) (either (mark a) (operator a))
-
--- `:-` `<-` `->` `!!` `-+` `<=` `>=` `==`
-unfoldable pub two_sign : ℕ → ℕ → Option signs.Sign
-two_sign a b = if a == 58 && b == 45 then Some sign.If else (if a == 60 && b == 45 then Some sign.LeftArrow else (if a == 45 && b == 62 then Some sign.RightArrow else (if a == 33 && b == 33 then Some sign.Bangs else (if a == 45 && b == 43 then Some sign.MinusPlus else (if a == 60 && b == 61 then Some sign.LessEq else (if a == 62 && b == 61 then Some sign.MoreEq else (if a == 61 && b == 61 then Some sign.Same else None)))))))
-
--- `\==`
-unfoldable pub three_sign : ℕ → ℕ → ℕ → Option signs.Sign
-three_sign a b c = if (a == 92 && b == 61) && c == 61 then Some sign.Differ else None
+abbrev pub all_signs : List signs.Sign
+all_signs =
+    sign.Open ∷ sign.Close ∷ sign.OpenSquare ∷ sign.CloseSquare ∷ sign.OpenBrace ∷ sign.CloseBrace ∷ sign.Comma ∷ sign.Semicolon
+    ∷ sign.Colon ∷ sign.If ∷ sign.LeftArrow ∷ sign.RightArrow ∷ sign.Ampersand ∷ sign.Bar ∷ sign.Bang ∷ sign.Bangs ∷ sign.Question
+    ∷ sign.Plus ∷ sign.Minus ∷ sign.MinusPlus ∷ sign.Star ∷ sign.Tilde ∷ sign.At ∷ sign.Hash ∷ sign.Less ∷ sign.LessEq ∷ sign.More
+    ∷ sign.MoreEq ∷ sign.Same ∷ sign.Differ ∷ sign.Unify ∷ []
 
 -- the sign that a whole text spells
-abbrev pub sign_of : List ℕ → Option signs.Sign
-sign_of (a ∷ []) = one_sign a
-sign_of (a ∷ b ∷ []) = two_sign a b
-sign_of (a ∷ b ∷ c ∷ []) = three_sign a b c
-sign_of _ = None
-
-abbrev pub is_one : ℕ → Bool
-is_one a = is_some (one_sign a)
-
-abbrev pub is_two : ℕ → ℕ → Bool
-is_two a b = is_some (two_sign a b)
-
-abbrev pub is_three : ℕ → ℕ → ℕ → Bool
-is_three a b c = is_some (three_sign a b c)
+unfoldable pub sign_of : List ℕ → Option signs.Sign
+sign_of text = find (λ s. bytes_eq text (sign_text s)) all_signs
 
 abbrev pub is_sign : List ℕ → Bool
 is_sign text = is_some (sign_of text)

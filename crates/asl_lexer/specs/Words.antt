@@ -13,7 +13,13 @@ use Rattle.asl_lexer.specs.Lexing.{AreTokens}
 
 -- the reserved words are no atoms
 unfoldable pub atom_word : List ℕ → Word
-atom_word text = if bytes_eq text (codes "not") then Not else (if bytes_eq text (codes "div") then Div else (if bytes_eq text (codes "mod") then Mod else (if bytes_eq text (codes "true") then True else (if bytes_eq text (codes "false") then False else Atom))))
+atom_word text =
+    if bytes_eq text (codes "not") then Not
+    else (if bytes_eq text (codes "div") then Div
+    else (if bytes_eq text (codes "mod") then Mod
+    else (if bytes_eq text (codes "true") then True
+    else (if bytes_eq text (codes "false") then False
+    else Atom))))
 
 abbrev pub word_of : TokKind → List ℕ → Word
 word_of kind.Atom text = atom_word text

@@ -86,7 +86,7 @@ fn tok_of(alloc: Global, kind: TokKind, spelled: &[u8], place: Place) -> Result<
 
 fn string_fault(at: u64, text: &[u8]) -> LexFault
     requires { at + length text.now < 2 ^ 64 }
-    ensures { result ≡ spec.string_fault at text.now }
+    ensures { result ≡ scan.string_fault at text.now }
 {
     if !is_closed(text) {
         return LexFault::OpenString(at);
@@ -109,7 +109,7 @@ fn starts_quote(bytes: &[u8]) -> bool
 /// Why no token stands at the front.
 fn fault_of(at: u64, bytes: &[u8]) -> LexFault
     requires { at + length bytes.now < 2 ^ 64 }
-    ensures { result ≡ spec.fault_of at bytes.now }
+    ensures { result ≡ scan.fault_of at bytes.now }
 {
     if starts_quote(bytes) {
         return string_fault(at, behind_first(bytes));

@@ -2,6 +2,7 @@
 #![tactic(auto)]
 
 pub mod blanks;
+pub mod laws;
 pub mod lexing;
 pub mod pieces;
 pub mod scan;

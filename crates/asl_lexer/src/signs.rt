@@ -1,14 +1,14 @@
 //! The table of signs.
 
-ghost use Rattle.std.specs.Prelude.{◌≡◌};
+ghost use Rattle.std.specs.Prelude.{◌≡◌, [], ◌∷◌};
 ghost use Rattle.asl_lexer.specs.Spelling as spelling;
 ghost use Rattle.asl_lexer.specs.Scan as scan;
 
 use crate::token::Sign;
 
-#[tactic(auto, unfolding(crate::specs::Spelling::bracket))]
-fn bracket(a: u8) -> Option<Sign>
-    ensures { result ≡ spelling.bracket a }
+#[tactic(auto, using(crate::proofs::SignFacts::no_one))]
+fn one_sign(a: u8) -> Option<Sign>
+    ensures { result ≡ spelling.sign_of (a ∷ []) }
 {
     match a {
         b'(' => Some(Sign::Open),
@@ -17,15 +17,6 @@ fn bracket(a: u8) -> Option<Sign>
         b']' => Some(Sign::CloseSquare),
         b'{' => Some(Sign::OpenBrace),
         b'}' => Some(Sign::CloseBrace),
-        _ => None,
-    }
-}
-
-#[tactic(auto, unfolding(crate::specs::Spelling::mark))]
-fn mark(a: u8) -> Option<Sign>
-    ensures { result ≡ spelling.mark a }
-{
-    match a {
         b',' => Some(Sign::Comma),
         b';' => Some(Sign::Semicolon),
         b':' => Some(Sign::Colon),
@@ -34,15 +25,6 @@ fn mark(a: u8) -> Option<Sign>
         b'~' => Some(Sign::Tilde),
         b'@' => Some(Sign::At),
         b'#' => Some(Sign::Hash),
-        _ => None,
-    }
-}
-
-#[tactic(auto, unfolding(crate::specs::Spelling::operator))]
-fn operator(a: u8) -> Option<Sign>
-    ensures { result ≡ spelling.operator a }
-{
-    match a {
         b'&' => Some(Sign::Ampersand),
         b'|' => Some(Sign::Bar),
         b'+' => Some(Sign::Plus),
@@ -55,22 +37,9 @@ fn operator(a: u8) -> Option<Sign>
     }
 }
 
-#[tactic(auto, unfolding(crate::specs::Spelling::one_sign))]
-fn one_sign(a: u8) -> Option<Sign>
-    ensures { result ≡ spelling.one_sign a }
-{
-    if let Some(sign) = bracket(a) {
-        return Some(sign);
-    }
-    if let Some(sign) = mark(a) {
-        return Some(sign);
-    }
-    operator(a)
-}
-
-#[tactic(auto, unfolding(crate::specs::Spelling::two_sign))]
+#[tactic(auto, using(crate::proofs::SignFacts::no_two))]
 fn two_sign(a: u8, b: u8) -> Option<Sign>
-    ensures { result ≡ spelling.two_sign a b }
+    ensures { result ≡ spelling.sign_of (a ∷ b ∷ []) }
 {
     match (a, b) {
         (b':', b'-') => Some(Sign::If),
@@ -85,17 +54,18 @@ fn two_sign(a: u8, b: u8) -> Option<Sign>
     }
 }
 
-#[tactic(auto, unfolding(crate::specs::Spelling::three_sign))]
+#[tactic(auto, using(crate::proofs::SignFacts::differ, crate::proofs::SignFacts::no_three))]
 fn three_sign(a: u8, b: u8, c: u8) -> Option<Sign>
-    ensures { result ≡ spelling.three_sign a b c }
+    ensures { result ≡ spelling.sign_of (a ∷ b ∷ c ∷ []) }
 {
-    if a == b'\\' && b == b'=' && c == b'=' {
-        return Some(Sign::Differ);
+    match (a, b, c) {
+        (b'\\', b'=', b'=') => Some(Sign::Differ),
+        _ => None,
     }
-    None
 }
 
 /// The sign that a whole text spells.
+#[tactic(auto, using(crate::proofs::SignFacts::no_short, crate::proofs::SignFacts::no_long))]
 pub fn sign_of(text: &[u8]) -> Option<Sign>
     ensures { result ≡ spelling.sign_of text.now }
 {
@@ -108,19 +78,19 @@ pub fn sign_of(text: &[u8]) -> Option<Sign>
 }
 
 fn is_one(a: u8) -> bool
-    ensures { result ≡ spelling.is_one a }
+    ensures { result ≡ spelling.is_sign (a ∷ []) }
 {
     one_sign(a).is_some()
 }
 
 fn is_two(a: u8, b: u8) -> bool
-    ensures { result ≡ spelling.is_two a b }
+    ensures { result ≡ spelling.is_sign (a ∷ b ∷ []) }
 {
     two_sign(a, b).is_some()
 }
 
 fn is_three(a: u8, b: u8, c: u8) -> bool
-    ensures { result ≡ spelling.is_three a b c }
+    ensures { result ≡ spelling.is_sign (a ∷ b ∷ c ∷ []) }
 {
     three_sign(a, b, c).is_some()
 }

@@ -1,0 +1,9 @@
+pub mod Lists
+pub mod Terms
+pub mod Exprs
+pub mod Agents
+pub mod Nesting
+pub mod Nested
+pub mod NestedClauses
+pub mod Pieces
+pub mod Means

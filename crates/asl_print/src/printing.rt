@@ -1,0 +1,172 @@
+//! The texts of clauses, plans and agents.
+//!
+//! After `Starved` a `write` may leave a part of its text in `out`; `print_agent` leaves `out` as it was.
+
+ghost use Rattle.std.specs.Prelude.{◌≡◌, ◌++◌, OnOk, OnErr};
+ghost use Rattle.std.specs.List.{flat_map};
+ghost use Rattle.asl_print.specs.Agents as spec;
+
+use asl_term::printing_expr::{write_expr, write_formula, write_literal};
+use asl_term::sequence::{Seq, Starved};
+use asl_term::syntax::{AgentText, Clause, Expr, Formula, Kind, Literal, Plan, Text, Trigger};
+use std::alloc::Global;
+
+fn write_belief(alloc: Global, l: &Literal, out: &mut Text) -> Result<(), Starved>
+    ensures { OnOk result (out.new ≡ out.old ++ spec.belief_text l.now) }
+{
+    write_literal(alloc, l, out)?;
+    out.append(b".\n")
+}
+
+fn write_rule(alloc: Global, r: &Clause, out: &mut Text) -> Result<(), Starved>
+    ensures { OnOk result (out.new ≡ out.old ++ spec.rule_text r.now) }
+{
+    write_literal(alloc, &r.head, out)?;
+    out.append(b" :- ")?;
+    write_expr(alloc, &r.body, out)?;
+    out.append(b".\n")
+}
+
+fn write_goal(alloc: Global, l: &Literal, out: &mut Text) -> Result<(), Starved>
+    ensures { OnOk result (out.new ≡ out.old ++ spec.goal_text l.now) }
+{
+    out.append(b"!")?;
+    write_literal(alloc, l, out)?;
+    out.append(b".\n")
+}
+
+fn write_label(label: &Option<Text>, out: &mut Text) -> Result<(), Starved>
+    ensures { OnOk result (out.new ≡ out.old ++ spec.label_text label.now) }
+{
+    match label {
+        None => Ok(()),
+        Some(label) => {
+            out.append(b"@")?;
+            out.append(label.as_slice())?;
+            out.append(b" ")
+        }
+    }
+}
+
+fn write_change(add: bool, out: &mut Text) -> Result<(), Starved>
+    ensures { OnOk result (out.new ≡ out.old ++ spec.change_text add) }
+{
+    if add {
+        out.append(b"+")
+    } else {
+        out.append(b"-")
+    }
+}
+
+fn write_kind(kind: Kind, out: &mut Text) -> Result<(), Starved>
+    ensures { OnOk result (out.new ≡ out.old ++ spec.kind_text kind) }
+{
+    match kind {
+        Kind::Belief => Ok(()),
+        Kind::Achieve => out.append(b"!"),
+        Kind::Test => out.append(b"?"),
+    }
+}
+
+fn write_trigger(alloc: Global, t: &Trigger, out: &mut Text) -> Result<(), Starved>
+    ensures { OnOk result (out.new ≡ out.old ++ spec.trigger_text t.now) }
+{
+    write_change(t.add, out)?;
+    write_kind(t.kind, out)?;
+    write_literal(alloc, &t.lit, out)
+}
+
+fn write_context(alloc: Global, e: &Expr, out: &mut Text) -> Result<(), Starved>
+    ensures { OnOk result (out.new ≡ out.old ++ spec.context_text e.now) }
+{
+    match e {
+        Expr::True => Ok(()),
+        _ => {
+            out.append(b" : ")?;
+            write_expr(alloc, e, out)
+        }
+    }
+}
+
+fn write_body(alloc: Global, body: &[Formula], out: &mut Text) -> Result<(), Starved>
+    ensures { OnOk result (out.new ≡ out.old ++ spec.body_text body.now) }
+{
+    match body.split_first() {
+        None => Ok(()),
+        Some((first, rest)) => {
+            out.append(b" <- ")?;
+            write_formula(alloc, first, out)?;
+            'items: for f in rest {
+                out.append(b"; ")?;
+                write_formula(alloc, f, out)?;
+            }
+            Ok(())
+        }
+    }
+}
+
+fn write_plan(alloc: Global, p: &Plan, out: &mut Text) -> Result<(), Starved>
+    ensures { OnOk result (out.new ≡ out.old ++ spec.plan_text p.now) }
+{
+    write_label(&p.label, out)?;
+    write_trigger(alloc, &p.trigger, out)?;
+    write_context(alloc, &p.context, out)?;
+    write_body(alloc, p.body.as_slice(), out)?;
+    out.append(b".\n")
+}
+
+fn write_beliefs(alloc: Global, all: &[Literal], out: &mut Text) -> Result<(), Starved>
+    ensures { OnOk result (out.new ≡ out.old ++ flat_map spec.belief_text all.now) }
+{
+    'beliefs: for l in all {
+        write_belief(alloc, l, out)?;
+    }
+    Ok(())
+}
+
+fn write_rules(alloc: Global, all: &[Clause], out: &mut Text) -> Result<(), Starved>
+    ensures { OnOk result (out.new ≡ out.old ++ flat_map spec.rule_text all.now) }
+{
+    'rules: for r in all {
+        write_rule(alloc, r, out)?;
+    }
+    Ok(())
+}
+
+fn write_goals(alloc: Global, all: &[Literal], out: &mut Text) -> Result<(), Starved>
+    ensures { OnOk result (out.new ≡ out.old ++ flat_map spec.goal_text all.now) }
+{
+    'goals: for l in all {
+        write_goal(alloc, l, out)?;
+    }
+    Ok(())
+}
+
+fn write_plans(alloc: Global, all: &[Plan], out: &mut Text) -> Result<(), Starved>
+    ensures { OnOk result (out.new ≡ out.old ++ flat_map spec.plan_text all.now) }
+{
+    'plans: for p in all {
+        write_plan(alloc, p, out)?;
+    }
+    Ok(())
+}
+
+fn write_agent(alloc: Global, a: &AgentText, out: &mut Text) -> Result<(), Starved>
+    ensures { OnOk result (out.new ≡ out.old ++ spec.agent_text a.now) }
+{
+    write_beliefs(alloc, a.beliefs.as_slice(), out)?;
+    write_rules(alloc, a.rules.as_slice(), out)?;
+    write_goals(alloc, a.goals.as_slice(), out)?;
+    write_plans(alloc, a.plans.as_slice(), out)
+}
+
+/// Appends the text of an agent, whole or not at all.
+pub fn print_agent(a: &AgentText, out: &mut Text) -> Result<(), Starved>
+    ensures ok { OnOk result (out.new ≡ out.old ++ spec.agent_text a.now) }
+    ensures err { OnErr result (out.new ≡ out.old) }
+{
+    let alloc = out.alloc();
+    let mut text = Seq::new(alloc);
+    write_agent(alloc, a, &mut text)?;
+    out.append(text.as_slice())
+}
