@@ -11,14 +11,14 @@ use Rattle.asl_cycle.specs.declared.config.Related.{Related}
 use Rattle.asl_cycle.specs.declared.config.Intended.{Intended}
 use Rattle.asl_cycle.specs.declared.config.Applied.{Applied}
 use Rattle.asl_cycle.specs.declared.config.Applied.TheVariants as applied
-use Rattle.asl_cycle.specs.Mind.{told, told_thought}
+use Rattle.asl_cycle.specs.Mind.{quiet_of, bare_thought}
 use Rattle.asl_cycle.specs.Steps.{Stepped, percept, feed, msg, sel_ev, rel_pl, appl_pl, sel_appl, add_im, sel_int}
 use Rattle.asl_cycle.specs.Cycle.{Ran, from_exec, after_sel_int, from_sel_int, from_sel_appl, after_appl_pl, from_appl_pl, after_rel_pl, from_rel_pl, after_sel_ev, from_sel_ev, cycle}
 use Rattle.asl_cycle.specs.Agent.{Mindset, agent_cycle}
 
--- a cycle that neither acts, sends nor stops: what is told of its thought is all of it
+-- a cycle that neither acts, sends nor stops
 abbrev pub IsBare : Ran → Type 0
-IsBare r = r.thought ≡ told_thought (told r.thought)
+IsBare r = r.thought ≡ bare_thought (quiet_of r.thought)
 
 -- rows that have written these lines, and asked for nothing
 abbrev only : List Line → Sofar
@@ -69,7 +69,7 @@ bare_cycle c i =
     let m = msg f.config i.message in
     bare_sel_ev m.config (more (more (more [] p) f) m)
 
-pub agent_bare : (m : Mindset) (i : Input) → (agent_cycle m i).thought ≡ told_thought (told (agent_cycle m i).thought)
+pub agent_bare : (m : Mindset) (i : Input) → (agent_cycle m i).thought ≡ bare_thought (quiet_of (agent_cycle m i).thought)
 agent_bare m i = bare_cycle m.config i
 
 -- a cycle makes one cycle more

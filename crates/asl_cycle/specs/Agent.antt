@@ -33,7 +33,8 @@ agent_cycle m i = after_cycle m (cycle m.config i)
 abbrev pub agent_kind : Kind Mindset
 agent_kind = record { cycle = agent_cycle; lines = λ m. m.text }
 
--- the agent of a source before its first cycle
+-- the agent of a source before its first cycle. Of the source the plans and the goals are taken; its beliefs and its
+-- rules have no effect yet (no source of today has one)
 abbrev pub opening_mind : ℕ → ℕ → AgentText → Budgets → Level → Mindset
 opening_mind me agents source k level = record {
   config = record { plans = source.plans; agenda = record { events = initial_events source.goals; running = [] }; number = 1 };

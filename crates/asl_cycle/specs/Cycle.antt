@@ -37,9 +37,10 @@ abbrev pub quiet_line : Line → Bool
 quiet_line (line.Rule r) = quiet_row r
 quiet_line other = false
 
-abbrev pub all_quiet : List Line → Bool
-all_quiet [] = true
-all_quiet (l ∷ ls) = quiet_line l && all_quiet ls
+-- every line of the cycle names a row of a quiet one
+abbrev pub quiet_lines : List Line → Bool
+quiet_lines [] = true
+quiet_lines (l ∷ ls) = quiet_line l && quiet_lines ls
 
 -- the outs at the end of a cycle: no row acts on the world
 abbrev pub thought_of : Bool → Sofar → Thought
@@ -61,7 +62,7 @@ from_exec c s cur = and_then s (exec_step c cur) from_clr
 
 -- a cycle that selects no stack ends, and is quiet if all its rows are
 abbrev pub after_sel_int : Config → Sofar → Option (List Means) → Ran
-after_sel_int c s None = ends (all_quiet s.lines) c s
+after_sel_int c s None = ends (quiet_lines s.lines) c s
 after_sel_int c s (Some cur) = from_exec c s cur
 
 abbrev pub from_sel_int : Config → Sofar → Ran

@@ -5,7 +5,6 @@ pub mod Fails
 pub mod Exec
 pub mod Clear
 pub mod Steps
-pub mod Rows
 pub mod Cycle
 pub mod Trace
 pub mod Opening

@@ -21,14 +21,14 @@ abbrev pub no_input : Input
 no_input = record { percepts = []; message = None }
 
 -- whether a cycle was quiet, where it did not end by a spent budget
-abbrev pub told : Thought → Option Bool
-told (thought.Outs outs) = Some outs.quiet
-told thought.Spent = None
+abbrev pub quiet_of : Thought → Option Bool
+quiet_of (thought.Outs outs) = Some outs.quiet
+quiet_of thought.Spent = None
 
--- the thought of a cycle that neither acts, sends nor stops, from what is told of it
-abbrev pub told_thought : Option Bool → Thought
-told_thought (Some quiet) = thought.Outs (record { action = None; messages = []; stop = false; quiet = quiet })
-told_thought None = thought.Spent
+-- the thought of a cycle that neither acts, sends nor stops, where it was quiet or not, or ended by a spent budget
+abbrev pub bare_thought : Option Bool → Thought
+bare_thought (Some quiet) = thought.Outs (record { action = None; messages = []; stop = false; quiet = quiet })
+bare_thought None = thought.Spent
 
 -- the word of a verb, as a source and a trace write it
 abbrev pub verb_text : Verb → List ℕ

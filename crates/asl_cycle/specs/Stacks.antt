@@ -1,12 +1,7 @@
 -- Stacks as lists of means, the top first.
-use Rattle.std.specs.Prelude.{◌≡◌, ◌==◌, Bool, true, false, List, [], ◌∷◌, length, remove, slice_get, Option, None, Some}
+use Rattle.std.specs.Prelude.{◌==◌, Bool, true, false, List, [], ◌∷◌, length, remove, slice_get, Option, None, Some}
 use Rattle.asl_term.specs.declared.syntax.Formula.{Formula}
 use Rattle.asl_cycle.specs.declared.stack.Means.{Means}
-
--- what taking the top out leaves and gives
-abbrev pub TookTop : List Means → List Means → Option Means → Type 0
-TookTop old new None = (old ≡ []) × (new ≡ [])
-TookTop old new (Some m) = old ≡ m ∷ new
 
 -- the first formula of the top
 abbrev pub head : List Means → Option Formula

@@ -44,15 +44,15 @@ with c a = record c { agenda = a }
 abbrev pub fell : {N : Type 0} → Row → Config → List Line → N → Fallen → Stepped N
 fell r c lines next f = by r (with c f.agenda) (lines ++ f.lines) next
 
--- Percept
+-- Percept. Percepts are not read yet, whatever they are: Percept1, and the belief changes that they make, are to come
 abbrev pub percept : Config → List (LiteralOf Term) → Stepped (Unit {0})
 percept c percepts = by row.Percept0 c [] tt
 
--- Feed
+-- Feed. No action is done yet, so none has an answer: FeedDone and FeedFail are to come
 abbrev pub feed : Config → Stepped (Unit {0})
 feed c = by row.Feed0 c [] tt
 
--- Msg
+-- Msg. A message is not read yet, whatever it is: the rows of its verb, Reply, ReplyFail and Ignore are to come
 abbrev pub msg : Config → Option Message → Stepped (Unit {0})
 msg c message = by row.Msg0 c [] tt
 
@@ -146,5 +146,5 @@ written s w = record s { lines = s.lines ++ line.Rule w.row ∷ w.lines }
 -- what the code of a step leaves and answers
 pub record Made {N : Type 0} (w : Stepped N) (config : Config) (before after : Sofar) (next : N) : Type 0 where
   pub changed : config ≡ w.config
-  pub told : after ≡ written before w
+  pub wrote : after ≡ written before w
   pub goes : next ≡ w.next

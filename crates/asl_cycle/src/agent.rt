@@ -1,13 +1,13 @@
 //! An agent: its configuration, and the lines that it has shown.
 
 ghost use Rattle.std.specs.Prelude.{◌≡◌, ◌<◌, ◌≤◌, ◌+◌, IfOk, length};
-ghost use Rattle.asl_cycle.specs.Mind.{no_input, told_thought};
+ghost use Rattle.asl_cycle.specs.Mind.{no_input, bare_thought};
 ghost use Rattle.asl_cycle.specs.Agent.{agent_kind, opening_mind};
 
 use crate::agenda::Agenda;
 use crate::config::Config;
 use crate::cycle::cycle;
-use crate::mind::{Budgets, Level, told};
+use crate::mind::{Budgets, Level, quiet_of};
 use crate::opening::{copy_plans, initial_events};
 use crate::trace::write_lines;
 use asl_term::names::Names;
@@ -44,7 +44,8 @@ impl Model for Agent {
     ghost invariant = { λ a. (a.config.number ≤ a.cycles + 1) × (a.cycles ≤ 1000000) };
 }
 
-/// The agent of a source before its first cycle. It has the place `me` among the names of all agents, from 1.
+/// The agent of a source before its first cycle. It has the place `me` among the names of all agents, from 1. Its
+/// plans and goals are those of the source, whose beliefs and rules have no effect yet.
 pub fn open_agent(
     alloc: Global,
     me: u32,
@@ -83,7 +84,7 @@ impl Agent {
     #[tactic(auto, using(crate::proofs::Laws::bare_cycle))]
     pub fn think(&mut self, alloc: Global) -> Result<Option<bool>, Starved>
         requires { self.old.cycles < 1000000 }
-        ensures made { IfOk result (λ q. agent_kind.cycle self.old no_input ≡ record { mind = self.new; thought = told_thought q }) }
+        ensures made { IfOk result (λ q. agent_kind.cycle self.old no_input ≡ record { mind = self.new; thought = bare_thought q }) }
         ensures cycles { self.new.cycles ≡ self.old.cycles + 1 }
     {
         self.cycles += 1;
@@ -95,7 +96,7 @@ impl Agent {
             self.cycles,
             finished.lines.as_slice(),
         )?;
-        Ok(told(&finished.thought))
+        Ok(quiet_of(&finished.thought))
     }
 
     /// The lines that it has shown so far.
@@ -105,7 +106,7 @@ impl Agent {
         &self.text
     }
 
-    /// How many cycles it has made.
+    /// How many cycles it has made. Who runs it by this count needs none of its own.
     pub fn cycles(&self) -> u64
         ensures { result ≡ self.now.cycles }
     {

@@ -38,8 +38,8 @@ fn quiet_line(line: &Line) -> bool
     }
 }
 
-fn all_quiet(lines: &[Line]) -> bool
-    ensures { result ≡ spec.all_quiet lines.now }
+fn quiet_lines(lines: &[Line]) -> bool
+    ensures { result ≡ spec.quiet_lines lines.now }
 {
     for line in lines {
         if !quiet_line(line) {
@@ -88,7 +88,7 @@ fn from_sel_int(alloc: Global, c: &mut Config, sofar: Sofar) -> Result<Finished,
     match sel_int(c, &mut sofar)? {
         Some(cur) => from_exec(alloc, c, sofar, cur),
         None => {
-            let quiet = all_quiet(sofar.lines.as_slice());
+            let quiet = quiet_lines(sofar.lines.as_slice());
             Ok(ends(sofar, quiet))
         }
     }

@@ -18,16 +18,16 @@ pub enum Verb {
 }
 
 /// The word of a verb, as a source and a trace write it.
-pub fn verb_text(verb: Verb) -> &'static [u8]
+pub fn verb_text(verb: Verb) -> &'static str
     ensures { result.now ≡ spec.verb_text verb }
 {
     match verb {
-        Verb::Tell => b"tell",
-        Verb::Untell => b"untell",
-        Verb::Achieve => b"achieve",
-        Verb::Unachieve => b"unachieve",
-        Verb::AskOne => b"askOne",
-        Verb::AskAll => b"askAll",
+        Verb::Tell => "tell",
+        Verb::Untell => "untell",
+        Verb::Achieve => "achieve",
+        Verb::Unachieve => "unachieve",
+        Verb::AskOne => "askOne",
+        Verb::AskAll => "askAll",
     }
 }
 
@@ -70,8 +70,8 @@ pub enum Thought {
 }
 
 /// Whether a cycle was quiet, where it did not end by a spent budget.
-pub fn told(thought: &Thought) -> Option<bool>
-    ensures { result ≡ spec.told thought.now }
+pub fn quiet_of(thought: &Thought) -> Option<bool>
+    ensures { result ≡ spec.quiet_of thought.now }
 {
     match thought {
         Thought::Outs(outs) => Some(outs.quiet),

@@ -62,13 +62,6 @@ impl Stack {
             Err(_) => Err(Starved),
         }
     }
-
-    /// Takes the top out.
-    pub fn take_top(&mut self) -> Option<Means>
-        ensures { stacks.TookTop self.old self.new result }
-    {
-        self.means.pop()
-    }
 }
 
 fn drop_first(body: &mut Formulas)

@@ -143,8 +143,8 @@ pub fn sel_int(c: &mut Config, sofar: &mut Sofar) -> Result<Option<Stack>, Starv
     }
 }
 
-/// The lines of what a row did.
-fn told(sofar: &mut Sofar, went: Went) -> Result<(), Starved>
+/// Puts the lines of what a row did last.
+fn put_went(sofar: &mut Sofar, went: Went) -> Result<(), Starved>
     ensures { OnOk result (sofar.new ≡ record sofar.old { lines = sofar.old.lines ++ line.Rule (spec.row_of went) ∷ spec.lines_of went }) }
 {
     match went {
@@ -166,7 +166,7 @@ pub fn exec_step(
     ensures { OnOk result (Made (spec.exec_step c.now cur.old) c.now sofar.old sofar.new cur.new) }
 {
     let went = exec(alloc, cur)?;
-    told(sofar, went)
+    put_went(sofar, went)
 }
 
 /// The current stack after a formula.

@@ -123,7 +123,7 @@ fn write_mail(alloc: Global, out: &mut Text, word: &[u8], m: &Mail) -> Result<()
     out.append(word)?;
     out.append(m.who.as_slice())?;
     out.append(b" ")?;
-    out.append(verb_text(m.verb))?;
+    out.append(verb_text(m.verb).as_bytes())?;
     out.append(b" ")?;
     write(alloc, &m.content, out)
 }

@@ -38,12 +38,14 @@ goal_plan name body = record { label = None; trigger = record { add = true; kind
 -- items with `;` between them, and the end: what they say
 pub data ReadsItems : List Token → List Formula → Type 0 where
   last_item : {text : List ℕ} → ReadsItems (Inner (codes "print") ∷ Open ∷ Str text ∷ Close ∷ End ∷ []) (print_item text ∷ [])
-  next_item : {text : List ℕ} {rest : List Token} {items : List Formula} → ReadsItems rest items → ReadsItems (Inner (codes "print") ∷ Open ∷ Str text ∷ Close ∷ Semicolon ∷ rest) (print_item text ∷ items)
+  next_item : {text : List ℕ} {rest : List Token} {items : List Formula} → ReadsItems rest items
+      → ReadsItems (Inner (codes "print") ∷ Open ∷ Str text ∷ Close ∷ Semicolon ∷ rest) (print_item text ∷ items)
 
 -- a clause, with its end: what it says
 pub data Reads : List Token → Sentence → Type 0 where
   goal : {name : List ℕ} → Reads (Bang ∷ Name name ∷ End ∷ []) (sentence.Goal (atom name))
-  plan : {name : List ℕ} {rest : List Token} {items : List Formula} → ReadsItems rest items → Reads (Plus ∷ Bang ∷ Name name ∷ Arrow ∷ rest) (sentence.Plan (goal_plan name items))
+  plan : {name : List ℕ} {rest : List Token} {items : List Formula} → ReadsItems rest items
+      → Reads (Plus ∷ Bang ∷ Name name ∷ Arrow ∷ rest) (sentence.Plan (goal_plan name items))
 
 -- ---- the pieces
 

@@ -77,7 +77,9 @@ item_at ts = do
 -- at most so many items
 unfoldable pub items_by : ℕ → List Token → Option (List Formula)
 items_by zero ts = None
-items_by (suc n) ts = item_at ts >>= λ item. if is_last item.1 then Some (print_item item.0 ∷ []) else (after_semicolon item.1 >>= λ us. items_by n us >>= λ items. Some (print_item item.0 ∷ items))
+items_by (suc n) ts = item_at ts >>= λ item.
+    if is_last item.1 then Some (print_item item.0 ∷ [])
+    else (after_semicolon item.1 >>= λ us. items_by n us >>= λ items. Some (print_item item.0 ∷ items))
 
 unfoldable pub goal_by : List Token → Option Sentence
 goal_by ts = do

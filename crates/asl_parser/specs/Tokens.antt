@@ -36,7 +36,9 @@ starts_quote (b ∷ bytes) = b == 34
 
 -- the words that are no atoms
 abbrev pub is_reserved : List ℕ → Bool
-is_reserved word = (((bytes_eq word (codes "not") || bytes_eq word (codes "div")) || bytes_eq word (codes "mod")) || bytes_eq word (codes "true")) || bytes_eq word (codes "false")
+is_reserved word =
+    (((bytes_eq word (codes "not") || bytes_eq word (codes "div")) || bytes_eq word (codes "mod")) || bytes_eq word (codes "true"))
+    || bytes_eq word (codes "false")
 
 abbrev pub name_token : List ℕ → Token
 name_token word = if is_reserved word then Other else Name word
@@ -47,15 +49,20 @@ name_front b bytes = let n = prefix_len is_word bytes in record { token = name_t
 
 -- behind a dot: a word makes the name of an internal action, and else the dot is the end of a clause
 abbrev pub dot_front : List ℕ → Front
-dot_front bytes = let n = prefix_len is_word bytes in if starts_word bytes then record { token = Inner (take n bytes); more = n } else record { token = End; more = 0 }
+dot_front bytes =
+    let n = prefix_len is_word bytes in
+    if starts_word bytes then record { token = Inner (take n bytes); more = n } else record { token = End; more = 0 }
 
 -- behind a quote: all bytes of a string, and a second quote
 abbrev pub text_front : List ℕ → Front
-text_front bytes = let n = prefix_len is_text bytes in if starts_quote (drop n bytes) then record { token = Str (take n bytes); more = n + 1 } else record { token = Other; more = 0 }
+text_front bytes =
+    let n = prefix_len is_text bytes in
+    if starts_quote (drop n bytes) then record { token = Str (take n bytes); more = n + 1 } else record { token = Other; more = 0 }
 
 -- `!` `+` `(` `)` `;`, and any other byte
 abbrev pub one_sign : ℕ → Token
-one_sign b = if b == 33 then Bang else (if b == 43 then Plus else (if b == 40 then Open else (if b == 41 then Close else (if b == 59 then Semicolon else Other))))
+one_sign b =
+    if b == 33 then Bang else (if b == 43 then Plus else (if b == 40 then Open else (if b == 41 then Close else (if b == 59 then Semicolon else Other))))
 
 -- `<-`, and `!!`, which is one sign and no `!`
 abbrev pub two_sign : ℕ → ℕ → Option Token
@@ -86,7 +93,9 @@ after_all p (b ∷ bytes) = after_all (after p b) bytes
 unfoldable pub tokens_from : Place → ℕ → List ℕ → List Placed
 tokens_from p n [] = []
 tokens_from p (suc n) (b ∷ bytes) = tokens_from (after p b) n bytes
-tokens_from p zero (b ∷ bytes) = if is_blank b then tokens_from (after p b) zero bytes else record { token = (front b bytes).token; place = p } ∷ tokens_from (after p b) (front b bytes).more bytes
+tokens_from p zero (b ∷ bytes) =
+    if is_blank b then tokens_from (after p b) zero bytes
+    else record { token = (front b bytes).token; place = p } ∷ tokens_from (after p b) (front b bytes).more bytes
 
 abbrev pub tokens : List ℕ → List Placed
 tokens bytes = tokens_from start 0 bytes

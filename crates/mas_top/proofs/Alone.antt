@@ -10,7 +10,7 @@ use Rattle.mas_top.specs.declared.board.Phase.TheVariants.{Idle, Busy, Left as G
 use Rattle.mas_top.specs.declared.board.Seat.{Seat}
 use Rattle.mas_top.specs.State.{State, Left, sense, taken, gone_by, all_quiet, least, box_of, seat_at}
 use Rattle.mas_top.specs.Platform.{Platform, turn, after_sense, run, and_run}
-use Rattle.mas_top.specs.Schedule.{Numbers}
+use Rattle.mas_top.specs.Schedule.{AllFromOne}
 use Rattle.mas_top.specs.Alone.{board_of, alone, opens, RanAlone}
 use Rattle.mas_top.specs.Robin.{robin, turns, requeued, robin_on}
 
@@ -105,13 +105,13 @@ pub record Along {V : Type 0} (k : Kind V) (name : List ℕ) (cycles lead : ℕ)
   pub ran : run k first schedule ≡ Some (alone name cycles lead (idle cycle (mark_if quiet) 0) m None)
   pub queued : schedule ++ robin (2 * (cycles - cycle) + 1) k (alone name cycles lead (idle cycle (mark_if quiet) 0) m None) (0 ∷ []) ≡ turns k first
   pub within : cycle ≤ cycles
-  pub numbered : Numbers 65535 schedule
+  pub numbered : AllFromOne 65535 schedule
 
-numbers-append : (most : ℕ) (a b : List ℕ) → Numbers most a → Numbers most b → Numbers most (a ++ b)
+numbers-append : (most : ℕ) (a b : List ℕ) → AllFromOne most a → AllFromOne most b → AllFromOne most (a ++ b)
 numbers-append most [] b g h = h
 numbers-append most (x ∷ a) b g h = (g.0, numbers-append most a b g.1 h)
 
-one : Numbers 65535 (1 ∷ [])
+one : AllFromOne 65535 (1 ∷ [])
 one = ((omega arith, omega arith), tt)
 
 module _ {V : Type 0} (k : Kind V) (name : List ℕ) (cycles lead : ℕ) where

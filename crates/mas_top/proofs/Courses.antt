@@ -1,7 +1,7 @@
 -- The run of one agent, as its code makes it.
 use Rattle.std.proofs.Common.{ℕ, ◌≡◌, ◌+◌, ◌<◌, ◌≤◌, arith, Bool, true, false, List, [], ◌∷◌, ◌++◌, Option, None, Some, refl, ap, sym, subst}
 use Rattle.asl_cycle.specs.declared.mind.End.TheVariants.{Quiet, Cycles, Budget}
-use Rattle.asl_cycle.specs.Mind.{no_input, told_thought}
+use Rattle.asl_cycle.specs.Mind.{no_input, bare_thought}
 use Rattle.asl_cycle.specs.Agent.{Mindset, agent_kind, agent_cycle}
 use Rattle.mas_top.specs.declared.board.Course.{Course}
 use Rattle.mas_top.specs.Alone.{RanAlone, opens}
@@ -19,7 +19,7 @@ calm : (name : List ℕ) (cycles lead : ℕ) (agent : Mindset) (c : Course) (qui
     Along agent_kind name cycles lead (opens name cycles lead agent) c.agent.cycles quiet c.agent c.schedule
 calm name cycles lead agent c quiet e o = subst (λ x. Along agent_kind name cycles lead (opens name cycles lead agent) c.agent.cycles x c.agent c.schedule) e o.along
 
-more : (m : Mindset) (c : Course) (answer : Option Bool) → agent_cycle m no_input ≡ record { mind = c.agent; thought = told_thought answer } → m.cycles + 1 ≡ c.agent.cycles
+more : (m : Mindset) (c : Course) (answer : Option Bool) → agent_cycle m no_input ≡ record { mind = c.agent; thought = bare_thought answer } → m.cycles + 1 ≡ c.agent.cycles
 more m c answer e = ap (λ x. x.mind.cycles) e
 
 pub course_on : (name : List ℕ) (cycles lead : ℕ) (agent : Mindset) (c d : Course) (quiet : Bool) → 0 < lead → c.agent.cycles < cycles → c.quiet ≡ false →

@@ -2,7 +2,7 @@
 use Rattle.std.proofs.Common.{ℕ, ◌≡◌, ◌+◌, ◌*◌, ◌-◌, ◌/◌, ◌%◌, ◌<◌, ◌≤◌, ◌^◌, arith, Bool, true, false, nat_eq, nat_le, ◌&&◌, List, [], ◌∷◌, ◌++◌, length, None, Some, refl, ap, sym, ◌∙◌, append_assoc, append-nil, decimal, codes, if◌then◌else◌}
 use Rattle.std.proofs.lemmas.Grind.{common_steps}
 use Rattle.std.proofs.lemmas.Fmt.{decimal_by_steps}
-use Rattle.mas_top.specs.Schedule.{scan, more_numbers, numbers_text, last_line, printed, Numbers, names_or_none, schedule_text}
+use Rattle.mas_top.specs.Schedule.{scan, more_numbers, numbers_text, last_line, printed, AllFromOne, names_or_none, schedule_text}
 
 -- what is read of the digits of a number
 abbrev pub Scans : ℕ → List ℕ → Type 0
@@ -43,7 +43,7 @@ scan-more n ds l h most names rest p m =
 pub scan-decimal : (n : ℕ) → n < 2 ^ 64 → Scans n (decimal n)
 scan-decimal n l = decimal_by_steps Scans scan-one scan-more n l
 
-scan-rest : (most m : ℕ) (names ns : List ℕ) → most < 2 ^ 64 → Numbers most ns → scan most names (Some m) (more_numbers ns) ≡ Some (names ++ m ∷ ns)
+scan-rest : (most m : ℕ) (names ns : List ℕ) → most < 2 ^ 64 → AllFromOne most ns → scan most names (Some m) (more_numbers ns) ≡ Some (names ++ m ∷ ns)
 scan-rest most m names [] l h = refl
 scan-rest most m names (n ∷ ns) l h =
     let s : n < 2 ^ 64 = let k = h.0.1 in omega arith in
@@ -52,7 +52,7 @@ scan-rest most m names (n ∷ ns) l h =
     ∙ ap Some (append_assoc names (m ∷ []) (n ∷ ns))
 
 -- the text of numbers is read as the numbers
-pub scan-numbers : (most n : ℕ) (ns : List ℕ) → most < 2 ^ 64 → Numbers most (n ∷ ns) → scan most [] None (numbers_text (n ∷ ns)) ≡ Some (n ∷ ns)
+pub scan-numbers : (most n : ℕ) (ns : List ℕ) → most < 2 ^ 64 → AllFromOne most (n ∷ ns) → scan most [] None (numbers_text (n ∷ ns)) ≡ Some (n ∷ ns)
 scan-numbers most n ns l h =
     let s : n < 2 ^ 64 = let k = h.0.1 in omega arith in
     scan-decimal n s most [] (more_numbers ns) h.0.0 h.0.1 ∙ scan-rest most n [] ns l h.1
@@ -75,13 +75,13 @@ FeedFree n ds = NoFeed ds
 pub feed-decimal : (n : ℕ) → n < 2 ^ 64 → NoFeed (decimal n)
 feed-decimal n l = decimal_by_steps FeedFree (λ n l. (no-feed-digit n, tt)) (λ n ds l h. feed-append ds ((48 + n % 10) ∷ []) h (no-feed-digit (n % 10), tt)) n l
 
-feed-more : (most : ℕ) (ns : List ℕ) → most < 2 ^ 64 → Numbers most ns → NoFeed (more_numbers ns)
+feed-more : (most : ℕ) (ns : List ℕ) → most < 2 ^ 64 → AllFromOne most ns → NoFeed (more_numbers ns)
 feed-more most [] l h = tt
 feed-more most (n ∷ ns) l h =
     let s : n < 2 ^ 64 = let k = h.0.1 in omega arith in
     (refl, feed-append (decimal n) (more_numbers ns) (feed-decimal n s) (feed-more most ns l h.1))
 
-pub feed-numbers : (most : ℕ) (ns : List ℕ) → most < 2 ^ 64 → Numbers most ns → NoFeed (numbers_text ns)
+pub feed-numbers : (most : ℕ) (ns : List ℕ) → most < 2 ^ 64 → AllFromOne most ns → NoFeed (numbers_text ns)
 feed-numbers most [] l h = tt
 feed-numbers most (n ∷ ns) l h =
     let s : n < 2 ^ 64 = let k = h.0.1 in omega arith in
@@ -102,7 +102,7 @@ last-line last front (b ∷ before) line h = elim (nat_eq b 10) as (λ c. (if c 
   | false ↦ last-line last (front ++ b ∷ []) before line h
 ]
 
-printed-by : (ns line : List ℕ) → Numbers 65535 ns → line ≡ numbers_text ns → names_or_none (scan 65535 [] None line) ≡ ns
+printed-by : (ns line : List ℕ) → AllFromOne 65535 ns → line ≡ numbers_text ns → names_or_none (scan 65535 [] None line) ≡ ns
 printed-by [] line h e = ap (λ x. names_or_none (scan 65535 [] None x)) e
 printed-by (n ∷ ns) line h e = ap (λ x. names_or_none (scan 65535 [] None x)) e ∙ ap names_or_none (scan-numbers 65535 n ns (omega arith) h)
 
@@ -110,7 +110,7 @@ regroup : (a b c d e : List ℕ) → a ++ ((b ++ (c ++ d)) ++ e) ≡ (a ++ (b ++
 regroup a b c d e = simp append_assoc
 
 -- the numbers that a text ends in are those printed
-pub printed-schedule : (before ns : List ℕ) → Numbers 65535 ns → printed (before ++ schedule_text ns) ≡ ns
+pub printed-schedule : (before ns : List ℕ) → AllFromOne 65535 ns → printed (before ++ schedule_text ns) ≡ ns
 printed-schedule before ns h =
     let front = before ++ (codes "schedule " ++ decimal (length ns)) in
     let e : before ++ schedule_text ns ≡ front ++ 10 ∷ (numbers_text ns ++ 10 ∷ []) = regroup before (codes "schedule ") (decimal (length ns)) (10 ∷ []) (numbers_text ns ++ 10 ∷ []) in

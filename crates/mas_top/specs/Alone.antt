@@ -11,11 +11,19 @@ use Rattle.mas_top.specs.declared.options.Options.{Options}
 use Rattle.mas_top.specs.State.{State, opening_board}
 use Rattle.mas_top.specs.Platform.{Platform, run, opening_platform}
 use Rattle.mas_top.specs.Robin.{turns}
-use Rattle.mas_top.specs.Schedule.{Numbers}
+use Rattle.mas_top.specs.Schedule.{AllFromOne}
 
 -- the board of one agent, without mail
 abbrev pub board_of : List ℕ → ℕ → ℕ → Seat → State
-board_of name cycles lead seat = record { names = name ∷ []; boxes = [] ∷ []; version = 0; stop = false; cycles = cycles; lead = lead; seats = seat ∷ [] }
+board_of name cycles lead seat = record {
+  names = name ∷ [];
+  boxes = [] ∷ [];
+  version = 0;
+  stop = false;
+  cycles = cycles;
+  lead = lead;
+  seats = seat ∷ [];
+}
 
 abbrev pub alone : {V : Type 0} → List ℕ → ℕ → ℕ → Seat → V → Option Thought → Platform V
 alone name cycles lead seat mind thought = record { board = board_of name cycles lead seat; minds = mind ∷ []; thoughts = thought ∷ [] }
@@ -33,8 +41,9 @@ abbrev pub done_alone : Options → Done → Platform Mindset
 done_alone o d = alone d.name o.cycles o.lead (left_seat d.end d.agent.cycles) d.agent None
 
 -- the run of one agent to its end: the last turn was its Leave or a Sense that ended its part
-pub record RanAlone {V : Type 0} (k : Kind V) (name : List ℕ) (cycles lead : ℕ) (first : Platform V) (cycle : ℕ) (end : End) (m : V) (schedule : List ℕ) : Type 0 where
+pub record RanAlone {V : Type 0} (k : Kind V) (name : List ℕ) (cycles lead : ℕ) (first : Platform V) (cycle : ℕ) (end : End) (m : V)
+    (schedule : List ℕ) : Type 0 where
   pub mark : Option ℕ
   pub ran : run k first schedule ≡ Some (alone name cycles lead (record { phase = Gone end; cycle = cycle; mark = mark; kept = 0 }) m None)
   pub queued : schedule ≡ turns k first
-  pub numbered : Numbers 65535 schedule
+  pub numbered : AllFromOne 65535 schedule

@@ -1,6 +1,6 @@
 -- What the code of one agent's run leaves.
 use Rattle.std.specs.Prelude.{ℕ, ◌≡◌, Bool, List, [], ◌∷◌, ◌++◌, Option}
-use Rattle.asl_cycle.specs.Mind.{no_input, told_thought}
+use Rattle.asl_cycle.specs.Mind.{no_input, bare_thought}
 use Rattle.asl_cycle.specs.Agent.{Mindset, agent_cycle, agent_kind}
 use Rattle.mas_top.specs.declared.board.Course.{Course}
 use Rattle.mas_top.specs.declared.board.Done.{Done}
@@ -8,7 +8,7 @@ use Rattle.mas_top.specs.Alone.{RanAlone, opens}
 
 -- a cycle of the agent, and its two turns
 pub record CycleMade (before after : Course) (answer : Option Bool) : Type 0 where
-  pub thought : agent_cycle before.agent no_input ≡ record { mind = after.agent; thought = told_thought answer }
+  pub thought : agent_cycle before.agent no_input ≡ record { mind = after.agent; thought = bare_thought answer }
   pub schedule : after.schedule ≡ (before.schedule ++ 1 ∷ []) ++ 1 ∷ []
 
 -- the whole run of the agent of this name

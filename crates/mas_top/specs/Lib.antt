@@ -1,6 +1,7 @@
 pub mod Causes
 pub mod Shelf
 pub mod Sink
+pub mod Told
 pub mod Writing
 pub mod Memory
 pub mod Limits
@@ -11,6 +12,7 @@ pub mod Robin
 pub mod Schedule
 pub mod Report
 pub mod Reading
+pub mod Files
 pub mod Headline
 pub mod Alone
 pub mod Course

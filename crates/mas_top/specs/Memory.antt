@@ -33,15 +33,15 @@ abbrev pub shelf_after : MemoryShelf → MemoryShelf
 shelf_after s = record { files = s.files; calls = called s.calls (is_refused s.calls) }
 
 -- how many bytes of a piece a put can take
-abbrev pub taken : MemorySink → List ℕ → ℕ
-taken s piece = min (length piece) (min s.short s.room.spare)
+abbrev pub taken_len : MemorySink → List ℕ → ℕ
+taken_len s piece = min (length piece) (min s.short s.room.spare)
 
 -- a put fails by its number, or where it can take nothing
 abbrev pub put_fails : MemorySink → List ℕ → Bool
-put_fails s piece = is_refused s.calls || (taken s piece == 0)
+put_fails s piece = is_refused s.calls || (taken_len s piece == 0)
 
 abbrev pub put_answer : MemorySink → List ℕ → Put
-put_answer s piece = if put_fails s piece then put.Failed else put.Took (taken s piece)
+put_answer s piece = if put_fails s piece then put.Failed else put.Took (taken_len s piece)
 
 -- the bytes stand behind the others, in places that were free
 abbrev pub filled : WithSpare ℕ → List ℕ → WithSpare ℕ
@@ -50,7 +50,7 @@ filled room bytes = record { list = room.list ++ bytes; spare = room.spare - len
 -- the sink after a put
 abbrev pub sink_after : MemorySink → List ℕ → MemorySink
 sink_after s piece = record {
-  room = if put_fails s piece then s.room else filled s.room (take (taken s piece) piece);
+  room = if put_fails s piece then s.room else filled s.room (take (taken_len s piece) piece);
   short = s.short;
   calls = called s.calls (put_fails s piece);
 }

@@ -1,5 +1,6 @@
 -- The platform over any meaning V of minds: a turn of one agent, and the run along a list of agents.
-use Rattle.std.specs.Prelude.{ℕ, zero, suc, Bool, true, ◌&&◌, List, [], ◌∷◌, map, Option, None, Some, slice_get, slice_set, length, nat_lt, if◌then◌else◌}
+use Rattle.std.specs.Prelude.{ℕ, zero, suc, nat_lt, Bool, true, ◌&&◌, if◌then◌else◌, Option, None, Some}
+use Rattle.std.specs.Prelude.{List, [], ◌∷◌, map, length, slice_get, slice_set}
 use Rattle.asl_cycle.specs.declared.mind.Input.{Input}
 use Rattle.asl_cycle.specs.declared.mind.Thought.{Thought}
 use Rattle.asl_cycle.specs.declared.mind.Thought.TheVariants.{Outs as Acts, Spent}

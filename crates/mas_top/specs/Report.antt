@@ -1,5 +1,5 @@
 -- The text of a run's report. Every line ends in a line feed.
-use Rattle.std.specs.Prelude.{ℕ, zero, suc, List, [], ◌∷◌, ◌++◌, Option, None, Some, codes, decimal, slice_get}
+use Rattle.std.specs.Prelude.{ℕ, zero, suc, ◌≡◌, true, List, [], ◌∷◌, ◌++◌, Option, None, Some, codes, decimal, slice_get}
 use Rattle.std.specs.List.{flat_map}
 use Rattle.asl_term.specs.Texts.{text}
 use Rattle.asl_cycle.specs.declared.mind.Message.{Message}
@@ -7,14 +7,14 @@ use Rattle.asl_cycle.specs.declared.mind.End.{End}
 use Rattle.asl_cycle.specs.declared.mind.End.TheVariants.{Quiet, Stopped, Cycles, Budget}
 use Rattle.asl_cycle.specs.declared.mind.Level.{Level}
 use Rattle.asl_cycle.specs.declared.mind.Level.TheVariants.{Say, Acts, Rules}
-use Rattle.asl_cycle.specs.Mind.{verb_text}
+use Rattle.asl_cycle.specs.Mind.{verb_text, Kind}
 use Rattle.mas_top.specs.declared.board.Phase.{Phase}
 use Rattle.mas_top.specs.declared.board.Phase.TheVariants.{Idle, Busy, Left as Gone}
 use Rattle.mas_top.specs.declared.board.Seat.{Seat}
 use Rattle.mas_top.specs.declared.options.Options.{Options}
 use Rattle.mas_top.specs.State.{State}
-use Rattle.mas_top.specs.Platform.{Platform}
-use Rattle.mas_top.specs.Schedule.{schedule_text, line_feed}
+use Rattle.mas_top.specs.Platform.{Platform, run, ended}
+use Rattle.mas_top.specs.Schedule.{schedule_text, line_feed, printed}
 
 abbrev pub level_word : Level → List ℕ
 level_word Say = codes "say"
@@ -71,7 +71,8 @@ name_of names (suc i) = text_or_none (slice_get names i)
 -- `for TO from FROM VERB CONTENT`
 abbrev pub message_line : List (List ℕ) → Message → List ℕ
 message_line names m =
-    codes "for " ++ (name_of names m.to ++ (codes " from " ++ (name_of names m.from ++ (codes " " ++ (verb_text m.verb ++ (codes " " ++ (text m.content ++ line_feed)))))))
+    codes "for " ++ (name_of names m.to ++ (codes " from " ++ (name_of names m.from ++ (codes " " ++ (verb_text m.verb
+    ++ (codes " " ++ (text m.content ++ line_feed)))))))
 
 -- the unread messages, by receiver and place
 abbrev pub mail_text : List (List ℕ) → List (List Message) → List ℕ
@@ -93,3 +94,11 @@ front_text lines_of o board minds =
 -- the report of the state to which the schedule has led
 abbrev pub report_text : {V : Type 0} → (V → List ℕ) → Options → Platform V → List ℕ → List ℕ
 report_text lines_of o p names = front_text lines_of o p.board p.minds ++ schedule_text names
+
+-- the text is the report of the run from p along the numbers in its own last line: every turn of these is legal,
+-- and every agent has left at the end
+pub record IsReport {V : Type 0} (k : Kind V) (o : Options) (p : Platform V) (w : List ℕ) : Type 0 where
+  pub done : Platform V
+  pub ran : run k p (printed w) ≡ Some done
+  pub ended : ended done.board.seats ≡ true
+  pub is : w ≡ report_text k.lines o done (printed w)

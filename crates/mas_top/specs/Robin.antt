@@ -1,11 +1,12 @@
 -- The round robin: the schedule of a queue of all agents, in order. The first makes its turn; it stays first
 -- while it is busy, and else goes to the back unless it has left.
-use Rattle.std.specs.Prelude.{ℕ, zero, suc, ◌+◌, ◌*◌, List, [], ◌∷◌, ◌++◌, Option, None, Some, length}
+use Rattle.std.specs.Prelude.{ℕ, zero, suc, ◌≡◌, ◌+◌, ◌*◌, List, [], ◌∷◌, ◌++◌, Option, None, Some, length}
 use Rattle.asl_cycle.specs.Mind.{Kind}
 use Rattle.mas_top.specs.declared.board.Phase.{Phase}
 use Rattle.mas_top.specs.declared.board.Phase.TheVariants.{Idle, Busy, Left as Gone}
 use Rattle.mas_top.specs.State.{State, seat_at}
 use Rattle.mas_top.specs.Platform.{Platform, turn_at}
+use Rattle.mas_top.specs.Schedule.{printed}
 
 abbrev pub requeued : Phase → ℕ → List ℕ → List ℕ
 requeued Busy i queue = i ∷ queue
@@ -33,3 +34,7 @@ most_turns s = length s.seats * (2 * s.cycles + 1)
 
 unfoldable pub turns : {V : Type 0} → Kind V → Platform V → List ℕ
 turns k p = robin (most_turns p.board) k p (places 0 (length p.board.seats))
+
+-- the numbers in the last line of the text are the schedule of the round robin from p
+pub record IsRobin {V : Type 0} (k : Kind V) (p : Platform V) (w : List ℕ) : Type 0 where
+  pub robin : printed w ≡ turns k p

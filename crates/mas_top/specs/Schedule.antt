@@ -1,5 +1,6 @@
 -- The two lines of a schedule, and how the numbers of a text's last line are read.
-use Rattle.std.specs.Prelude.{ℕ, ◌<◌, ◌≤◌, ◌+◌, ◌*◌, ◌-◌, ◌&&◌, nat_eq, nat_le, List, [], ◌∷◌, ◌++◌, codes, decimal, length, if◌then◌else◌, Option, None, Some}
+use Rattle.std.specs.Prelude.{ℕ, ◌<◌, ◌≤◌, ◌+◌, ◌*◌, ◌-◌, nat_eq, nat_le, ◌&&◌, if◌then◌else◌, Option, None, Some}
+use Rattle.std.specs.Prelude.{List, [], ◌∷◌, ◌++◌, length, codes, decimal}
 
 abbrev pub line_feed : List ℕ
 line_feed = 10 ∷ []
@@ -44,7 +45,7 @@ names_or_none (Some names) = names
 abbrev pub printed : List ℕ → List ℕ
 printed text = names_or_none (scan 65535 [] None (last_line [] [] text))
 
--- numbers from 1 to the most
-abbrev pub Numbers : ℕ → List ℕ → Type 0
-Numbers most [] = Unit {0}
-Numbers most (n ∷ ns) = ((0 < n) × (n ≤ most)) × Numbers most ns
+-- all of them are from 1 to the most
+abbrev pub AllFromOne : ℕ → List ℕ → Type 0
+AllFromOne most [] = Unit {0}
+AllFromOne most (n ∷ ns) = ((0 < n) × (n ≤ most)) × AllFromOne most ns

@@ -18,7 +18,7 @@ fetched (file ∷ files) name most = if bytes_eq file.name name then limited fil
 -- Failed comes only where the count rose; any other answer is that of the files, where they are told
 pub record FetchFits (held : Option (List Filed)) (name : List ℕ) (most before now : ℕ) (answer : Fetched) : Type 0 where
   pub failed : answer ≡ Failed → Rose before now
-  pub told : answer ≢ Failed → IfSome held (λ files. answer ≡ fetched files name most)
+  pub answers : answer ≢ Failed → IfSome held (λ files. answer ≡ fetched files name most)
 
 -- the answer is the bytes of a file, whose copy takes memory
 abbrev pub IsCopy : Fetched → Type 0

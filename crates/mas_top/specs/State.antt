@@ -1,6 +1,7 @@
 -- The shared board: one seat and one box for each agent, and what a turn of an agent changes on it.
 -- Agents stand at places from 0; their numbers, in messages, turns and schedules, are from 1.
-use Rattle.std.specs.Prelude.{ℕ, zero, suc, ◌+◌, min, Bool, true, false, ◌&&◌, ◌||◌, List, [], ◌∷◌, ◌++◌, map, Option, None, Some, nat_eq, nat_le, slice_get, slice_set, drop, if◌then◌else◌}
+use Rattle.std.specs.Prelude.{ℕ, zero, suc, ◌+◌, min, nat_eq, nat_le, Bool, true, false, ◌&&◌, ◌||◌, if◌then◌else◌}
+use Rattle.std.specs.Prelude.{List, [], ◌∷◌, ◌++◌, map, slice_get, slice_set, drop, Option, None, Some}
 use Rattle.asl_cycle.specs.declared.mind.Message.{Message}
 use Rattle.asl_cycle.specs.declared.mind.Input.{Input}
 use Rattle.asl_cycle.specs.declared.mind.Outs.{Outs}
@@ -40,11 +41,18 @@ abbrev pub is_empty : List Message → Bool
 is_empty [] = true
 is_empty (m ∷ ms) = false
 
--- every agent that has not left has the present version as its mark and an empty box
+abbrev pub box_of : Option (List Message) → List Message
+box_of None = []
+box_of (Some box) = box
+
+-- the agent has left, or has the present version as its mark and an empty box
+abbrev pub is_quiet : ℕ → Seat → List Message → Bool
+is_quiet version seat box = is_gone seat.phase || (is_mark seat.mark version && is_empty box)
+
+-- every agent is quiet; a box that is missing is empty
 abbrev pub all_quiet : ℕ → List Seat → List (List Message) → Bool
 all_quiet version [] boxes = true
-all_quiet version (s ∷ ss) [] = true
-all_quiet version (s ∷ ss) (b ∷ bs) = (is_gone s.phase || (is_mark s.mark version && is_empty b)) && all_quiet version ss bs
+all_quiet version (s ∷ ss) boxes = is_quiet version s (box_of (slice_get boxes 0)) && all_quiet version ss (drop 1 boxes)
 
 -- the least of this cycle number and those of the agents that have not left
 abbrev pub least : ℕ → List Seat → ℕ
@@ -62,10 +70,6 @@ seat_of (Some seat) = seat
 abbrev pub seat_at : State → ℕ → Seat
 seat_at s i = seat_of (slice_get s.seats i)
 
-abbrev pub box_of : Option (List Message) → List Message
-box_of None = []
-box_of (Some box) = box
-
 abbrev pub seated : State → ℕ → Seat → State
 seated s i seat = record s { seats = slice_set s.seats i seat }
 
@@ -78,7 +82,10 @@ gone_by s i seat end = seated s i (record seat { phase = Gone end })
 abbrev pub taken : State → ℕ → Seat → List Message → Sensed × State
 taken s i seat box = (
   Given record { percepts = []; message = slice_get box 0 },
-  record s { boxes = slice_set s.boxes i (drop 1 box); seats = slice_set s.seats i (record { phase = Busy; cycle = seat.cycle + 1; mark = None; kept = s.version }) },
+  record s {
+    boxes = slice_set s.boxes i (drop 1 box);
+    seats = slice_set s.seats i (record { phase = Busy; cycle = seat.cycle + 1; mark = None; kept = s.version });
+  },
 )
 
 -- a Sense of an idle agent: the first that applies

@@ -4,7 +4,7 @@ ghost use Rattle.std.specs.Prelude.{◌≡◌, ◌≢◌, ◌≤◌, ◌<◌, So
 ghost use Rattle.mas_top.specs.declared.shelf.Fetched.TheVariants.{Failed};
 ghost use Rattle.mas_top.specs.Shelf.{FetchFits, IsCopy, fetched};
 ghost use Rattle.mas_top.specs.Sink.{PutFits};
-ghost use Rattle.mas_top.specs.Memory.{called, filled, is_refused, no_calls, put_answer, shelf_after, shelf_answer, sink_after, taken};
+ghost use Rattle.mas_top.specs.Memory.{called, filled, is_refused, no_calls, put_answer, shelf_after, shelf_answer, sink_after, taken_len};
 
 use crate::shelf::{Fetched, Shelf};
 use crate::sink::{Put, Sink};
@@ -151,8 +151,8 @@ impl MemorySink {
         self.room.as_slice()
     }
 
-    fn taken(&self, piece: &[u8]) -> usize
-        ensures { result ≡ taken self.now piece.now }
+    fn taken_len(&self, piece: &[u8]) -> usize
+        ensures { result ≡ taken_len self.now piece.now }
     {
         let most = self.short.min(self.room.spare());
         (piece.len() as u64).min(most) as usize
@@ -171,7 +171,7 @@ impl Sink for MemorySink {
         ensures answer { result ≡ put_answer self.old piece.now }
         ensures after { self.new ≡ sink_after self.old piece.now }
     {
-        let taken = self.taken(piece);
+        let taken = self.taken_len(piece);
         if self.calls.is_refused() || taken == 0 {
             self.calls.call(true);
             return Put::Failed;

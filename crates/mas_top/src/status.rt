@@ -22,6 +22,16 @@ pub enum Status {
     Memory,
 }
 
+impl From<Starved> for Status {
+    ghost use Rattle.mas_top.specs.declared.status.Status.TheVariants.{Memory};
+
+    ghost from_gives = { λ _ s. s ≡ Memory };
+
+    fn from(_e: Starved) -> Status {
+        Status::Memory
+    }
+}
+
 /// The status with which the process ends.
 pub fn code(s: &Status) -> u8
     ensures { result ≡ status_code s.now }

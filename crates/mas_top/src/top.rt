@@ -1,10 +1,12 @@
 //! The top call: what the words ask for, from the files to the report.
 
-ghost use Rattle.std.specs.Prelude.{◌≡◌, List, map, IfOk, string_bytes};
+ghost use Rattle.std.specs.Prelude.{◌≡◌, ◌≤◌, List, map, IfOk, MatchResult, string_bytes};
 ghost use Rattle.mas_top.specs.Limits.{IsWithin, defaults};
-ghost use Rattle.mas_top.specs.Reading.{opening};
-ghost use Rattle.mas_top.specs.Headline.{IsReport, IsHeadline, IsComplete, AnswerFits, BytesCaused, FileCaused, WordsCaused};
-ghost use Rattle.asl_cycle.specs.Agent.{agent_kind, opening_mind};
+ghost use Rattle.mas_top.specs.Told.{told_of, IsKept};
+ghost use Rattle.mas_top.specs.Files.{FileCaused, ForBytes, ForFile, IsRefusal};
+ghost use Rattle.mas_top.specs.Headline.{AskFor, HaveSource, IsComplete, IsHeadline, IsReportOf, IsRobinReport, IsRobinRun, WordsCaused};
+ghost use Rattle.asl_cycle.specs.Agent.{opening_mind};
+ghost use Rattle.asl_parser.specs.Grammar.{IsFault};
 
 use crate::board::run_alone;
 use crate::options::{Options, default_options};
@@ -44,10 +46,9 @@ fn open_solo(alloc: Global, o: &Options, source: &AgentText) -> Result<Agent, St
 }
 
 /// The report of the run of this source.
-#[tactic(auto, using(crate::proofs::Reports::source_report))]
 fn run_source(alloc: Global, o: &Options, source: &AgentText) -> Result<Text, Starved>
     requires { IsWithin o.now }
-    ensures { IfOk result (IsReport agent_kind o.now (opening o.now source.now)) }
+    ensures { IfOk result (IsRobinReport o.now source.now) }
 {
     let agent = open_solo(alloc, o, source)?;
     let name = text_of(alloc, b"solo")?;
@@ -56,40 +57,68 @@ fn run_source(alloc: Global, o: &Options, source: &AgentText) -> Result<Text, St
     Ok(text)
 }
 
-/// What the bytes of a source give: the report of its run, or the number of the first clause that can't be
-/// read yet.
-#[derive(Drop)]
-pub enum Answer {
-    Printed(Text),
-    Unread(u64),
+/// The report of the run of the agent whose source the bytes are.
+fn run_bytes(alloc: Global, o: &Options, bytes: &[u8]) -> Result<Text, TextFault>
+    requires { IsWithin o.now }
+    ensures { MatchResult result (ForBytes (IsRobinReport o.now) bytes.now) (IsFault bytes.now) }
+{
+    let source = agent(alloc, bytes)?;
+    let text = run_source(alloc, o, &source)?;
+    Ok(text)
 }
 
-fn answer_to(alloc: Global, o: &Options, bytes: &[u8]) -> Result<Answer, Starved>
+/// The report of the run of the agent whose source the file of this name has, or why there is none.
+#[tactic(auto, using(crate::proofs::Files::source_file, crate::proofs::Files::unread_file))]
+fn run_file<S: Shelf>(
+    alloc: Global,
+    o: &Options,
+    name: &Text,
+    shelf: &mut S,
+) -> Result<Text, Status>
     requires { IsWithin o.now }
-    ensures { IfOk result (AnswerFits o.now bytes.now) }
+    ensures same { S.holds shelf.new ≡ S.holds shelf.old }
+    ensures later { S.faults shelf.old ≤ S.faults shelf.new }
+    ensures answer { let held = S.holds shelf.old in
+        MatchResult result
+        (ForFile (IsRobinReport o.now) held name.now)
+        (IsRefusal name.now held (S.faults shelf.old) (S.faults shelf.new)) }
 {
-    match agent(alloc, bytes) {
-        Ok(source) => {
-            let text = run_source(alloc, o, &source)?;
-            Ok(Answer::Printed(text))
-        }
-        Err(TextFault::Clause { number, .. }) => Ok(Answer::Unread(number)),
-        Err(TextFault::Memory) => Err(Starved),
+    match shelf.fetch(alloc, name, MOST_BYTES)? {
+        Fetched::Failed => Err(Status::ReadFault),
+        Fetched::Missing => Err(Status::Missing(copy_text(alloc, name)?)),
+        Fetched::TooLong => Err(Status::Later {
+            file: copy_text(alloc, name)?,
+            place: 0,
+        }),
+        Fetched::Bytes(bytes) => match run_bytes(alloc, o, bytes.as_slice()) {
+            Ok(text) => Ok(text),
+            Err(TextFault::Memory) => Err(Status::Memory),
+            Err(TextFault::Clause { number, .. }) => Err(Status::Later {
+                file: copy_text(alloc, name)?,
+                place: number,
+            }),
+        },
     }
 }
 
-/// Writes what the bytes of a source give.
-fn run_bytes<K: Sink>(alloc: Global, o: &Options, name: &Text, bytes: &[u8], sink: &mut K) -> Status
+/// Runs the file of this name and writes the report.
+#[tactic(auto, using(crate::proofs::Files::refused_file))]
+fn print_file<S: Shelf, K: Sink>(
+    alloc: Global,
+    o: &Options,
+    name: &Text,
+    shelf: &mut S,
+    sink: &mut K,
+) -> Status
     requires { IsWithin o.now }
-    ensures { BytesCaused o.now name.now bytes.now (K.faults sink.old) (K.faults sink.new) (K.written sink.old) (K.written sink.new) result }
+    ensures kept { let told = told_of S.holds S.faults K.written K.faults in
+        IsKept (told shelf.old sink.old) (told shelf.new sink.new) }
+    ensures caused { let told = told_of S.holds S.faults K.written K.faults in
+        FileCaused (IsRobinReport o.now) name.now (told shelf.old sink.old) (told shelf.new sink.new) result }
 {
-    match answer_to(alloc, o, bytes) {
-        Err(_) => Status::Memory,
-        Ok(Answer::Unread(place)) => match copy_text(alloc, name) {
-            Ok(file) => Status::Later { file, place },
-            Err(_) => Status::Memory,
-        },
-        Ok(Answer::Printed(text)) => match write_all(sink, text.as_slice()) {
+    match run_file(alloc, o, name, shelf) {
+        Err(status) => status,
+        Ok(text) => match write_all(sink, text.as_slice()) {
             Ok(()) => Status::Ok,
             Err(_) => Status::WriteFault,
         },
@@ -97,8 +126,8 @@ fn run_bytes<K: Sink>(alloc: Global, o: &Options, name: &Text, bytes: &[u8], sin
 }
 
 /// Fetches the file of an agent, runs it and writes the report: the whole of it, or after a write fault a
-/// prefix, or nothing.
-#[tactic(auto, using(crate::proofs::Files::bytes_file))]
+/// prefix, or nothing. The clauses say what a report is that was written whole, with which schedule, when no fault
+/// may be answered, and the cause of each status.
 pub fn run_project<R: Threads + Wait + Sync, S: Shelf, K: Sink>(
     _rt: &R,
     alloc: Global,
@@ -108,55 +137,65 @@ pub fn run_project<R: Threads + Wait + Sync, S: Shelf, K: Sink>(
     sink: &mut K,
 ) -> Status
     requires { IsWithin o.now }
-    ensures { FileCaused o.now project.now (record { held = S.holds shelf.old; shelf_before = S.faults shelf.old; shelf_after = S.faults shelf.new; sink_before = K.faults sink.old; sink_after = K.faults sink.new; before = K.written sink.old; after = K.written sink.new }) result }
+    ensures headline { let told = told_of S.holds S.faults K.written K.faults in
+        IsHeadline o.now (HaveSource project.now) (told shelf.old sink.old) (told shelf.new sink.new) result }
+    ensures robin { let told = told_of S.holds S.faults K.written K.faults in
+        IsRobinRun o.now (HaveSource project.now) (told shelf.old sink.old) (told shelf.new sink.new) result }
+    ensures complete { let told = told_of S.holds S.faults K.written K.faults in
+        IsComplete (HaveSource project.now) (told shelf.old sink.old) (told shelf.new sink.new) result }
+    ensures kept { let told = told_of S.holds S.faults K.written K.faults in
+        IsKept (told shelf.old sink.old) (told shelf.new sink.new) }
+    ensures caused { let told = told_of S.holds S.faults K.written K.faults in
+        FileCaused (IsReportOf o.now) project.now (told shelf.old sink.old) (told shelf.new sink.new) result }
 {
-    match shelf.fetch(alloc, project, MOST_BYTES) {
-        Err(_) => Status::Memory,
-        Ok(Fetched::Failed) => Status::ReadFault,
-        Ok(Fetched::TooLong) => match copy_text(alloc, project) {
-            Ok(file) => Status::Later { file, place: 0 },
-            Err(_) => Status::Memory,
-        },
-        Ok(Fetched::Missing) => match copy_text(alloc, project) {
-            Ok(lacked) => Status::Missing(lacked),
-            Err(_) => Status::Memory,
-        },
-        Ok(Fetched::Bytes(bytes)) => run_bytes(alloc, o, project, bytes.as_slice(), sink),
-    }
+    print_file(alloc, o, project, shelf, sink)
 }
 
 /// Does what the words ask for.
-fn run_read<R: Threads + Wait + Sync, S: Shelf, K: Sink>(
-    rt: &R,
+fn run_read<S: Shelf, K: Sink>(
     alloc: Global,
     words: &[String],
     shelf: &mut S,
     sink: &mut K,
 ) -> Status
-    ensures { WordsCaused defaults (map string_bytes words.now) (record { held = S.holds shelf.old; shelf_before = S.faults shelf.old; shelf_after = S.faults shelf.new; sink_before = K.faults sink.old; sink_after = K.faults sink.new; before = K.written sink.old; after = K.written sink.new }) result }
+    ensures kept { let told = told_of S.holds S.faults K.written K.faults in
+        IsKept (told shelf.old sink.old) (told shelf.new sink.new) }
+    ensures caused { let told = told_of S.holds S.faults K.written K.faults in
+        let asked = map string_bytes words.now in
+        WordsCaused (IsRobinReport defaults) asked (told shelf.old sink.old) (told shelf.new sink.new) result }
 {
     match file_of(words) {
         None => Status::Usage,
         Some(name) => match text_of(alloc, name) {
             Err(_) => Status::Memory,
-            Ok(project) => run_project(rt, alloc, &default_options(), &project, shelf, sink),
+            Ok(name) => print_file(alloc, &default_options(), &name, shelf, sink),
         },
     }
 }
 
-/// The top call: does what the words ask for. They leave out the program's own name. The clauses say what a
-/// report is that was written whole, when no fault may be answered, and the cause of each status.
-#[tactic(auto, using(crate::proofs::Laws::headline))]
+/// The top call: does what the words ask for. They leave out the program's own name. The clauses are those of
+/// `run_project`, for the file that the words name.
 pub fn run_words<R: Threads + Wait + Sync, S: Shelf, K: Sink>(
-    rt: &R,
+    _rt: &R,
     alloc: Global,
     words: &[String],
     shelf: &mut S,
     sink: &mut K,
 ) -> Status
-    ensures headline { IsHeadline defaults (map string_bytes words.now) (record { held = S.holds shelf.old; shelf_before = S.faults shelf.old; shelf_after = S.faults shelf.new; sink_before = K.faults sink.old; sink_after = K.faults sink.new; before = K.written sink.old; after = K.written sink.new }) result }
-    ensures complete { IsComplete (map string_bytes words.now) (record { held = S.holds shelf.old; shelf_before = S.faults shelf.old; shelf_after = S.faults shelf.new; sink_before = K.faults sink.old; sink_after = K.faults sink.new; before = K.written sink.old; after = K.written sink.new }) result }
-    ensures caused { WordsCaused defaults (map string_bytes words.now) (record { held = S.holds shelf.old; shelf_before = S.faults shelf.old; shelf_after = S.faults shelf.new; sink_before = K.faults sink.old; sink_after = K.faults sink.new; before = K.written sink.old; after = K.written sink.new }) result }
+    ensures headline { let told = told_of S.holds S.faults K.written K.faults in
+        let asked = map string_bytes words.now in
+        IsHeadline defaults (AskFor asked) (told shelf.old sink.old) (told shelf.new sink.new) result }
+    ensures robin { let told = told_of S.holds S.faults K.written K.faults in
+        let asked = map string_bytes words.now in
+        IsRobinRun defaults (AskFor asked) (told shelf.old sink.old) (told shelf.new sink.new) result }
+    ensures complete { let told = told_of S.holds S.faults K.written K.faults in
+        let asked = map string_bytes words.now in
+        IsComplete (AskFor asked) (told shelf.old sink.old) (told shelf.new sink.new) result }
+    ensures kept { let told = told_of S.holds S.faults K.written K.faults in
+        IsKept (told shelf.old sink.old) (told shelf.new sink.new) }
+    ensures caused { let told = told_of S.holds S.faults K.written K.faults in
+        let asked = map string_bytes words.now in
+        WordsCaused (IsReportOf defaults) asked (told shelf.old sink.old) (told shelf.new sink.new) result }
 {
-    run_read(rt, alloc, words, shelf, sink)
+    run_read(alloc, words, shelf, sink)
 }
