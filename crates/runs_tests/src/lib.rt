@@ -1,4 +1,5 @@
-//! Tests of the crates above the trees: sources, cycles, the edge, and whole runs.
+//! Tests of the crates above the trees that no case can say: the place of a fault, a cycle by itself, and real
+//! files and output.
 #![tactic(auto)]
 
 #[cfg(test)]
@@ -7,5 +8,3 @@ mod cycle;
 mod edge;
 #[cfg(test)]
 mod reading;
-#[cfg(test)]
-mod runs;
