@@ -1,0 +1,177 @@
+//! Means with the substitutions that are still to be put into them.
+
+ghost use Rattle.std.specs.Prelude.{◌≡◌, IfOk, IfErr, drop};
+ghost use Rattle.asl_unify.specs.Limits.{Passes};
+ghost use Rattle.asl_intend.specs.Entries as spec;
+ghost use Rattle.asl_intend.specs.Stacks as stacks;
+
+use crate::goal::{can_name, names_goal};
+use asl_term::sequence::Starved;
+use asl_term::syntax::{Formula, Formulas, Literal, Trigger};
+use asl_unify::apply::apply_formula;
+use asl_unify::build::build_literal;
+use asl_unify::limits::{TermFault, apply_literal, fits_literal};
+use asl_unify::subst::Subst;
+use std::alloc::Global;
+
+/// What is treated, and the formulas that are left to do for it.
+#[derive(Drop)]
+pub struct Means {
+    pub trigger: Trigger,
+    pub body: Formulas,
+}
+
+/// A formula, and how many substitutions the stack had bound when it was put there.
+#[derive(Drop)]
+pub struct First {
+    pub formula: Formula,
+    pub since: u64,
+}
+
+/// Means as they were pushed, but for the formulas that were taken away.
+#[derive(Drop)]
+pub struct Entry {
+    pub trigger: Trigger,
+    /// Put into these means alone, before what is bound later.
+    pub own: Subst,
+    /// How many substitutions the stack had bound when they were pushed.
+    pub since: u64,
+    /// The first formula, where it was put in the place of another.
+    pub first: Option<First>,
+    /// The formulas after that one.
+    pub body: Formulas,
+}
+
+/// A trigger with more nodes or more levels is not built.
+const TRIGGER_NODES: u64 = 1_000_000;
+
+const TRIGGER_LEVELS: u64 = 1_000;
+
+/// What was bound after the first `n` substitutions.
+fn bound_since(log: &[Subst], n: u64) -> &[Subst]
+    ensures { result.now ≡ drop n log.now }
+{
+    if n <= log.len() as u64 {
+        &log[n as usize..]
+    } else {
+        &[]
+    }
+}
+
+impl Entry {
+    /// Whether there is a first formula.
+    pub fn has_first(&self) -> bool
+        ensures { result ≡ spec.has_first self.now }
+    {
+        self.first.is_some() || self.body.at(0).is_some()
+    }
+
+    /// Takes away the first formula. False where there is none.
+    pub fn remove_first(&mut self) -> bool
+        ensures value { result ≡ spec.has_first self.old }
+        ensures rest { self.new ≡ spec.without_first self.old }
+    {
+        if self.first.is_some() {
+            self.first = None;
+            return true;
+        }
+        self.body.remove(0).is_some()
+    }
+
+    /// Puts a formula in the place of the first one. False where there is none.
+    pub fn set_first(&mut self, formula: Formula, since: u64) -> bool
+        ensures value { result ≡ spec.has_first self.old }
+        ensures rest { self.new ≡ spec.with_first formula since self.old }
+    {
+        if !self.remove_first() {
+            return false;
+        }
+        self.first = Some(First { formula, since });
+        true
+    }
+
+    /// The same where no formula was put in the place of the first one.
+    fn first_of_body(&self, alloc: Global, log: &[Subst]) -> Result<Option<Formula>, TermFault>
+        ensures ok { IfOk result (λ r. (r ≡ spec.first_of_body log.now self.now) × stacks.Bounded r) }
+        ensures fault { IfErr result (λ e. Passes (stacks.is_bounded (spec.first_of_body log.now self.now)) e) }
+    {
+        match self.body.at(0) {
+            None => Ok(None),
+            Some(f) => match apply_formula(
+                alloc,
+                f,
+                self.own.pairs(),
+                bound_since(log, self.since),
+            ) {
+                Ok(r) => Ok(Some(r)),
+                Err(e) => Err(e),
+            },
+        }
+    }
+
+    /// The first formula, with what is bound put into it. One that passes the limits is not built.
+    #[tactic(auto, using(crate::proofs::Logs::first_put, crate::proofs::Logs::first_own))]
+    pub fn first_formula(&self, alloc: Global, log: &[Subst]) -> Result<Option<Formula>, TermFault>
+        ensures ok { IfOk result (λ r. (r ≡ stacks.first (spec.seen log.now self.now)) × stacks.Bounded r) }
+        ensures fault { IfErr result (λ e. Passes (stacks.is_bounded (stacks.first (spec.seen log.now self.now))) e) }
+    {
+        match &self.first {
+            Some(f) => match apply_formula(alloc, &f.formula, &[], bound_since(log, f.since)) {
+                Ok(r) => Ok(Some(r)),
+                Err(e) => Err(e),
+            },
+            None => self.first_of_body(alloc, log),
+        }
+    }
+
+    /// The trigger, with what is bound put into it. One that has more than 1,000,000 nodes or 1,000 levels is not
+    /// built: the answer is that memory is short.
+    pub fn full_trigger(&self, alloc: Global, log: &[Subst]) -> Result<Trigger, Starved>
+        ensures value { IfOk result (λ r. r ≡ (spec.seen log.now self.now).trigger) }
+        ensures small { IfOk result stacks.IsBuildable }
+    {
+        let own = self.own.pairs();
+        let rest = bound_since(log, self.since);
+        let goal = &self.trigger.lit;
+        let Some(_) = fits_literal(goal, own, rest, TRIGGER_LEVELS, TRIGGER_NODES) else {
+            return Err(Starved);
+        };
+        let lit = build_literal(alloc, goal, own, rest)?;
+        Ok(Trigger {
+            add: self.trigger.add,
+            kind: self.trigger.kind,
+            lit,
+        })
+    }
+
+    /// Whether the literal names the goal of the trigger, which is built only where it may be named.
+    pub fn is_named(&self, alloc: Global, log: &[Subst], g: &Literal) -> Result<bool, Starved>
+        ensures { IfOk result (λ r. r ≡ stacks.names_goal g.now (spec.seen log.now self.now).trigger) }
+    {
+        if !can_name(g, &self.trigger) {
+            return Ok(false);
+        }
+        let t = self.full_trigger(alloc, log)?;
+        names_goal(alloc, g, &t)
+    }
+
+    /// The trigger, with what is bound put into it. One that passes the limits of a term is not built.
+    pub fn bounded_trigger(&self, alloc: Global, log: &[Subst]) -> Result<Trigger, TermFault>
+        ensures ok { IfOk result (λ r. (r ≡ (spec.seen log.now self.now).trigger) × stacks.BoundedTrigger r) }
+        ensures fault { IfErr result (λ e. Passes (stacks.is_bounded_trigger (spec.seen log.now self.now).trigger) e) }
+    {
+        match apply_literal(
+            alloc,
+            &self.trigger.lit,
+            self.own.pairs(),
+            bound_since(log, self.since),
+        ) {
+            Ok(lit) => Ok(Trigger {
+                add: self.trigger.add,
+                kind: self.trigger.kind,
+                lit,
+            }),
+            Err(e) => Err(e),
+        }
+    }
+}

@@ -1,0 +1,234 @@
+//! Stacks of means. Substitutions are kept, and put into no more than what is asked for.
+
+ghost use Rattle.std.specs.Prelude.{◌≡◌, [], ◌∷◌, ◌++◌, None, Some, MatchOption, OnOk, OnErr, IfOk, IfErr, IfSome, drop, length, map, reverse, slice_get};
+ghost use Rattle.asl_unify.specs.Limits.{Passes};
+ghost use Rattle.asl_intend.specs.Entries as spec;
+ghost use Rattle.asl_intend.specs.Means as means;
+ghost use Rattle.asl_intend.specs.Stacks as stacks;
+
+use crate::entry::{Entry, Means};
+use asl_term::sequence::{Seq, Starved};
+use asl_term::syntax::{Formula, Literal, Trigger};
+use asl_unify::limits::TermFault;
+use asl_unify::subst::{Subst, copy_subst};
+use std::alloc::Global;
+use std::marker::Model;
+
+/// Means, the top first in contracts. The top is the last entry.
+#[derive(Drop)]
+pub struct Stack {
+    /// What was bound, the oldest first.
+    log: Seq<Subst>,
+    entries: Vec<Entry>,
+}
+
+impl Model for Stack {
+    ghost use Rattle.std.specs.Prelude.{List, map, reverse, length};
+    ghost use Rattle.std.specs.List.{AllByRecursion};
+    ghost use Rattle.asl_intend.specs.declared.entry.Means.{Means};
+    ghost use Rattle.asl_intend.specs.Entries as spec;
+    ghost use Rattle.asl_term.specs.contracts.syntax.Term as term;
+    ghost use Rattle.asl_term.specs.contracts.syntax.Expr as expr;
+    ghost use Rattle.std.specs.Coded.{codes};
+
+    ghost Value = { List Means };
+
+    ghost coded = { Prim.hlevel (codes, term.the_row.coded, expr.the_row.coded) };
+
+    ghost view = { λ s. map (spec.seen s.log) (reverse s.entries.items) };
+
+    ghost invariant = { λ s. AllByRecursion (spec.Since (length s.log)) (reverse s.entries.items) };
+}
+
+/// The entry at a place, the last being 0.
+fn from_top(entries: &[Entry], k: u64) -> Option<&Entry>
+    ensures { MatchOption result (slice_get (reverse entries.now) k ≡ None) (λ e. slice_get (reverse entries.now) k ≡ Some e.now) }
+{
+    let n = entries.len() as u64;
+    if k < n {
+        Some(&entries[(n - 1 - k) as usize])
+    } else {
+        None
+    }
+}
+
+/// Puts an entry last.
+fn put_last(entries: &mut Vec<Entry>, e: Entry) -> Result<(), Starved>
+    ensures ok { OnOk result (entries.new.items ≡ entries.old.items ++ e ∷ []) }
+    ensures err { OnErr result (entries.new.items ≡ entries.old.items) }
+{
+    match entries.push(e) {
+        Ok(()) => Ok(()),
+        Err(_) => Err(Starved),
+    }
+}
+
+/// Takes away the first formula of the last entry. False where there is none.
+fn remove_last_first(entries: &mut Vec<Entry>) -> bool
+    ensures value { result ≡ spec.top_has (reverse entries.old.items) }
+    ensures rest { reverse entries.new.items ≡ spec.on_top spec.without_first (reverse entries.old.items) }
+{
+    let n = entries.len();
+    if n == 0 {
+        return false;
+    }
+    entries[n - 1].remove_first()
+}
+
+/// Puts a formula in the place of the first one of the last entry. False where there is none.
+fn set_last_first(entries: &mut Vec<Entry>, f: Formula, since: u64) -> bool
+    ensures value { result ≡ spec.top_has (reverse entries.old.items) }
+    ensures rest { reverse entries.new.items ≡ spec.on_top (spec.with_first f since) (reverse entries.old.items) }
+{
+    let n = entries.len();
+    if n == 0 {
+        return false;
+    }
+    entries[n - 1].set_first(f, since)
+}
+
+/// Whether the literal names the goal of some entry.
+fn any_names(alloc: Global, entries: &[Entry], log: &[Subst], g: &Literal) -> Result<bool, Starved>
+    ensures { IfOk result (λ r. r ≡ stacks.has_goal g.now (map (spec.seen log.now) entries.now)) }
+{
+    for e in entries {
+        if e.is_named(alloc, log, g)? {
+            return Ok(true);
+        }
+    }
+    Ok(false)
+}
+
+impl Stack {
+    pub fn new(alloc: Global) -> Stack
+        ensures { result ≡ [] }
+    {
+        Stack {
+            log: Seq::new(alloc),
+            entries: Vec::new(alloc),
+        }
+    }
+
+    /// The number of means.
+    pub fn len(&self) -> u64
+        ensures { result ≡ length self.now }
+    {
+        self.entries.len() as u64
+    }
+
+    /// Puts the means on top, with the substitution put into them and into no others.
+    pub fn push(&mut self, m: Means, s: &Subst) -> Result<(), Starved>
+        ensures ok { OnOk result (self.new ≡ means.applied_means s.now m ∷ self.old) }
+        ensures err { OnErr result (self.new ≡ self.old) }
+    {
+        let own = copy_subst(self.log.alloc(), s)?;
+        let Means { trigger, body } = m;
+        let since = self.log.len();
+        let entry = Entry {
+            trigger,
+            own,
+            since,
+            first: None,
+            body,
+        };
+        put_last(&mut self.entries, entry)
+    }
+
+    /// Takes the top away. False where there is none.
+    pub fn pop(&mut self) -> bool
+        ensures value { result ≡ stacks.has_means self.old }
+        ensures rest { self.new ≡ drop 1 self.old }
+    {
+        if self.entries.pop().is_none() {
+            return false;
+        }
+        if self.entries.len() == 0 {
+            self.log.truncate(0);
+        }
+        true
+    }
+
+    /// Puts the substitution into all means.
+    pub fn bind(&mut self, s: &Subst) -> Result<(), Starved>
+        ensures ok { OnOk result (self.new ≡ stacks.bound s.now self.old) }
+        ensures err { OnErr result (self.new ≡ self.old) }
+    {
+        let next = copy_subst(self.log.alloc(), s)?;
+        self.log.push(next)
+    }
+
+    /// Whether the top has a formula left. Nothing is built.
+    pub fn has_head(&self) -> bool
+        ensures { result ≡ stacks.has_head self.now }
+    {
+        match from_top(&self.entries, 0) {
+            None => false,
+            Some(top) => top.has_first(),
+        }
+    }
+
+    /// Takes away the first formula of the top. False where there is none.
+    pub fn remove_head(&mut self) -> bool
+        ensures value { result ≡ stacks.has_head self.old }
+        ensures rest { self.new ≡ stacks.without_head self.old }
+    {
+        remove_last_first(&mut self.entries)
+    }
+
+    /// Puts a formula in the place of the first one of the top. False where there is none.
+    pub fn set_head(&mut self, f: Formula) -> Result<bool, Starved>
+        ensures value { IfOk result (λ r. r ≡ stacks.has_head self.old) }
+        ensures ok { OnOk result (self.new ≡ stacks.with_head f self.old) }
+        ensures err { OnErr result (self.new ≡ self.old) }
+    {
+        let since = self.log.len();
+        Ok(set_last_first(&mut self.entries, f, since))
+    }
+
+    /// The first formula of the top. One that passes the limits is not built.
+    pub fn head(&self, alloc: Global) -> Result<Option<Formula>, TermFault>
+        ensures ok { IfOk result (λ r. (r ≡ stacks.head self.now) × stacks.Bounded r) }
+        ensures fault { IfErr result (λ e. Passes (stacks.is_bounded (stacks.head self.now)) e) }
+    {
+        match from_top(&self.entries, 0) {
+            None => Ok(None),
+            Some(top) => top.first_formula(alloc, self.log.as_slice()),
+        }
+    }
+
+    /// The trigger of the means at a place, that of the top being 0. One that has more than 1,000,000 nodes or 1,000
+    /// levels is not built: the answer is that memory is short.
+    pub fn trigger(&self, alloc: Global, k: u64) -> Result<Option<Trigger>, Starved>
+        ensures value { IfOk result (λ r. r ≡ stacks.trigger_at self.now k) }
+        ensures small { IfOk result (λ r. IfSome r stacks.IsBuildable) }
+    {
+        match from_top(&self.entries, k) {
+            None => Ok(None),
+            Some(e) => {
+                let r = e.full_trigger(alloc, self.log.as_slice())?;
+                Ok(Some(r))
+            }
+        }
+    }
+
+    /// The same, but one that passes the limits of a term is a fault of its own.
+    pub fn bounded_trigger(&self, alloc: Global, k: u64) -> Result<Option<Trigger>, TermFault>
+        ensures ok { IfOk result (λ r. (r ≡ stacks.trigger_at self.now k) × stacks.BoundedAt r) }
+        ensures fault { IfErr result (λ e. Passes (stacks.is_bounded_at (stacks.trigger_at self.now k)) e) }
+    {
+        match from_top(&self.entries, k) {
+            None => Ok(None),
+            Some(e) => match e.bounded_trigger(alloc, self.log.as_slice()) {
+                Ok(t) => Ok(Some(t)),
+                Err(f) => Err(f),
+            },
+        }
+    }
+
+    /// Whether the literal names the goal of some means. A trigger that may be the one is built as by `trigger`.
+    pub fn has_goal(&self, alloc: Global, g: &Literal) -> Result<bool, Starved>
+        ensures { IfOk result (λ r. r ≡ stacks.has_goal g.now self.now) }
+    {
+        any_names(alloc, &self.entries, self.log.as_slice(), g)
+    }
+}
