@@ -1,0 +1,12 @@
+pub mod Keys
+pub mod Sound
+pub mod Added
+pub mod Taken
+pub mod Pieces
+pub mod Walks
+pub mod Initial
+pub mod Kth
+pub mod Believed
+pub mod Lost
+pub mod Held
+pub mod Percepts
