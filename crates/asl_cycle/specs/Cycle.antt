@@ -1,26 +1,30 @@
 -- A cycle: the steps, each followed by a later one.
-use Rattle.std.specs.Prelude.{Bool, true, false, ◌&&◌, List, [], ◌∷◌, Option, None, Some}
+use Rattle.std.specs.Prelude.{ℕ, zero, suc, Bool, true, false, ◌&&◌, List, [], ◌∷◌, length, Option, None, Some}
+use Rattle.asl_term.specs.declared.syntax.LiteralOf.{LiteralOf}
+use Rattle.asl_term.specs.declared.syntax.Term.{Term}
+use Rattle.asl_intend.specs.declared.entry.Means.{Means}
+use Rattle.asl_intend.specs.declared.agenda.Event.{Event}
+use Rattle.asl_exec.specs.declared.rows.Row.{Row}
+use Rattle.asl_exec.specs.declared.rows.Row.TheVariants as row
+use Rattle.asl_exec.specs.Parts.{Around, Parts}
 use Rattle.asl_cycle.specs.declared.mind.Message.{Message}
 use Rattle.asl_cycle.specs.declared.mind.Input.{Input}
 use Rattle.asl_cycle.specs.declared.mind.Thought.{Thought}
 use Rattle.asl_cycle.specs.declared.mind.Thought.TheVariants as thought
-use Rattle.asl_cycle.specs.declared.rows.Row.{Row}
-use Rattle.asl_cycle.specs.declared.rows.Row.TheVariants as row
 use Rattle.asl_cycle.specs.declared.rows.Line.{Line}
 use Rattle.asl_cycle.specs.declared.rows.Line.TheVariants as line
 use Rattle.asl_cycle.specs.declared.rows.Sofar.{Sofar}
-use Rattle.asl_cycle.specs.declared.stack.Means.{Means}
-use Rattle.asl_cycle.specs.declared.agenda.Event.{Event}
-use Rattle.asl_cycle.specs.declared.config.Config.{Config}
 use Rattle.asl_cycle.specs.declared.config.Related.{Related}
 use Rattle.asl_cycle.specs.declared.config.Intended.{Intended}
 use Rattle.asl_cycle.specs.declared.config.Applied.{Applied}
 use Rattle.asl_cycle.specs.declared.config.Applied.TheVariants as applied
-use Rattle.asl_cycle.specs.Steps.{Stepped, written, percept, feed, msg, sel_ev, rel_pl, appl_pl, sel_appl, add_im, sel_int, exec_step, clear_step}
+use Rattle.asl_cycle.specs.declared.config.After.{After}
+use Rattle.asl_cycle.specs.declared.config.After.TheVariants as after
+use Rattle.asl_cycle.specs.Steps.{Stepped, Onward, written, percept, feed, msg, sel_ev, rel_pl, appl_pl, sel_appl, add_im, sel_int, exec_step, clear_step}
 
 -- what a cycle leaves, writes and thinks
 pub record Ran : Type 0 where
-  pub config : Config
+  pub parts : Parts
   pub lines : List Line
   pub thought : Thought
 
@@ -42,71 +46,92 @@ abbrev pub quiet_lines : List Line → Bool
 quiet_lines [] = true
 quiet_lines (l ∷ ls) = quiet_line l && quiet_lines ls
 
--- the outs at the end of a cycle: no row acts on the world
-abbrev pub thought_of : Bool → Sofar → Thought
-thought_of quiet s = thought.Outs (record { action = None; messages = s.messages; stop = s.stop; quiet = quiet })
+-- the outs at the end of a cycle
+abbrev pub outs : Option (LiteralOf Term) → Bool → Sofar → Thought
+outs action quiet s = thought.Outs (record { action = action; messages = s.messages; stop = s.stop; quiet = quiet })
 
 -- the end of a cycle
-abbrev pub ends : Bool → Config → Sofar → Ran
-ends quiet c s = record { config = c; lines = s.lines; thought = thought_of quiet s }
+abbrev pub ends : Option (LiteralOf Term) → Bool → Parts → Sofar → Ran
+ends action quiet p s = record { parts = p; lines = s.lines; thought = outs action quiet s }
+
+-- the end of a cycle by a spent budget: its outs are dropped
+abbrev pub spends : Parts → Sofar → Ran
+spends p s = record { parts = p; lines = s.lines; thought = thought.Spent }
 
 -- the row of a step, and then the rest of the cycle
-abbrev pub and_then : {N : Type 0} → Sofar → Stepped N → (Config → Sofar → N → Ran) → Ran
-and_then s w rest = rest w.config (written s w) w.next
+abbrev pub and_then : {N : Type 0} → Sofar → Stepped N → (Parts → Sofar → N → Ran) → Ran
+and_then s w rest = rest w.parts (written s w) w.next
 
-abbrev pub from_clr : Config → Sofar → List Means → Ran
-from_clr c s cur = and_then s (clear_step c cur) (λ d t _. ends false d t)
+module _ (k : Around) where
+  -- after a row for the current stack: on to Clr, or the end
+  abbrev pub goes_to : (Parts → Sofar → List Means → Ran) → Parts → Sofar → List Means → After → Ran
+  goes_to rest p s cur after.Clears = rest p s cur
+  goes_to rest p s cur after.Ends = ends None false p s
+  goes_to rest p s cur (after.Acts l) = ends (Some l) false p s
+  goes_to rest p s cur after.Spends = spends p s
 
-abbrev pub from_exec : Config → Sofar → List Means → Ran
-from_exec c s cur = and_then s (exec_step c cur) from_clr
+  abbrev pub goes_on : (Parts → Sofar → List Means → Ran) → Parts → Sofar → Onward → Ran
+  goes_on rest p s o = goes_to rest p s o.cur o.after
 
--- a cycle that selects no stack ends, and is quiet if all its rows are
-abbrev pub after_sel_int : Config → Sofar → Option (List Means) → Ran
-after_sel_int c s None = ends (quiet_lines s.lines) c s
-after_sel_int c s (Some cur) = from_exec c s cur
+  -- at most so many rows of Clr. Each that leads to Clr again pops means, so one more than there are means is enough
+  abbrev pub from_clr : ℕ → Parts → Sofar → List Means → Ran
+  from_clr zero p s cur = ends None false p s
+  from_clr (suc n) p s cur = and_then s (clear_step k p cur) (goes_on (from_clr n))
 
-abbrev pub from_sel_int : Config → Sofar → Ran
-from_sel_int c s = and_then s (sel_int c) after_sel_int
+  abbrev pub clears : Parts → Sofar → List Means → Ran
+  clears p s cur = from_clr (suc (length cur)) p s cur
 
-abbrev pub from_add_im : Config → Sofar → Intended → Ran
-from_add_im c s i = and_then s (add_im c i) (λ d t _. from_sel_int d t)
+  abbrev pub from_exec : Parts → Sofar → List Means → Ran
+  from_exec p s cur = and_then s (exec_step k p cur) (goes_on clears)
 
-abbrev pub from_sel_appl : Config → Sofar → Intended → Ran
-from_sel_appl c s i = and_then s (sel_appl c) (λ d t _. from_add_im d t i)
+  -- a cycle that selects no stack ends, and is quiet if all its rows are
+  abbrev pub after_sel_int : Parts → Sofar → Option (List Means) → Ran
+  after_sel_int p s None = ends None (quiet_lines s.lines) p s
+  after_sel_int p s (Some cur) = from_exec p s cur
 
-abbrev pub after_appl_pl : Config → Sofar → Applied → Ran
-after_appl_pl c s (applied.Plan i) = from_sel_appl c s i
-after_appl_pl c s applied.Nothing = from_sel_int c s
+  abbrev pub from_sel_int : Parts → Sofar → Ran
+  from_sel_int p s = and_then s (sel_int p) after_sel_int
 
-abbrev pub from_appl_pl : Config → Sofar → Related → Ran
-from_appl_pl c s r = and_then s (appl_pl c r) after_appl_pl
+  abbrev pub from_add_im : Parts → Sofar → Intended → Ran
+  from_add_im p s i = and_then s (add_im p i) (λ q t _. from_sel_int q t)
 
-abbrev pub after_rel_pl : Config → Sofar → Option Related → Ran
-after_rel_pl c s None = from_sel_int c s
-after_rel_pl c s (Some r) = from_appl_pl c s r
+  abbrev pub from_sel_appl : Parts → Sofar → Intended → Ran
+  from_sel_appl p s i = and_then s (sel_appl p i) (λ q t _. from_add_im q t i)
 
-abbrev pub from_rel_pl : Config → Sofar → Event → Ran
-from_rel_pl c s e = and_then s (rel_pl c e) after_rel_pl
+  abbrev pub after_appl_pl : Parts → Sofar → Applied → Ran
+  after_appl_pl p s (applied.Plan i) = from_sel_appl p s i
+  after_appl_pl p s applied.Nothing = from_sel_int p s
+  after_appl_pl p s applied.Spent = spends p s
 
-abbrev pub after_sel_ev : Config → Sofar → Option Event → Ran
-after_sel_ev c s None = from_sel_int c s
-after_sel_ev c s (Some e) = from_rel_pl c s e
+  abbrev pub from_appl_pl : Parts → Sofar → Related → Ran
+  from_appl_pl p s r = and_then s (appl_pl k p r) after_appl_pl
 
-abbrev pub from_sel_ev : Config → Sofar → Ran
-from_sel_ev c s = and_then s (sel_ev c) after_sel_ev
+  abbrev pub after_rel_pl : Parts → Sofar → Option Related → Ran
+  after_rel_pl p s None = from_sel_int p s
+  after_rel_pl p s (Some r) = from_appl_pl p s r
 
-abbrev pub from_msg : Config → Sofar → Option Message → Ran
-from_msg c s message = and_then s (msg c message) (λ d t _. from_sel_ev d t)
+  abbrev pub from_rel_pl : Parts → Sofar → Event → Ran
+  from_rel_pl p s v = and_then s (rel_pl k p v) after_rel_pl
 
-abbrev pub from_feed : Config → Sofar → Option Message → Ran
-from_feed c s message = and_then s (feed c) (λ d t _. from_msg d t message)
+  abbrev pub after_sel_ev : Parts → Sofar → Option Event → Ran
+  after_sel_ev p s None = from_sel_int p s
+  after_sel_ev p s (Some v) = from_rel_pl p s v
 
-abbrev pub from_percept : Config → Sofar → Input → Ran
-from_percept c s i = and_then s (percept c i.percepts) (λ d t _. from_feed d t i.message)
+  abbrev pub from_sel_ev : Parts → Sofar → Ran
+  from_sel_ev p s = and_then s (sel_ev p) after_sel_ev
+
+  abbrev pub from_msg : Parts → Sofar → Option Message → Ran
+  from_msg p s message = and_then s (msg p message) (λ q t _. from_sel_ev q t)
+
+  abbrev pub from_feed : Parts → Sofar → Option Message → Ran
+  from_feed p s message = and_then s (feed p) (λ q t _. from_msg q t message)
+
+  abbrev pub from_percept : Parts → Sofar → Input → Ran
+  from_percept p s i = and_then s (percept p i.percepts) (λ q t _. from_feed q t i.message)
 
 -- a cycle writes nothing and asks for nothing before its first row
 abbrev pub nothing_yet : Sofar
 nothing_yet = record { lines = []; messages = []; stop = false }
 
-abbrev pub cycle : Config → Input → Ran
-cycle c i = from_percept c nothing_yet i
+abbrev pub cycle : Around → Parts → Input → Ran
+cycle k p i = from_percept k p nothing_yet i

@@ -1,11 +1,8 @@
 pub mod Mind
-pub mod Plans
-pub mod Stacks
-pub mod Fails
-pub mod Exec
-pub mod Clear
+pub mod Solving
 pub mod Steps
 pub mod Cycle
 pub mod Trace
 pub mod Opening
 pub mod Agent
+pub mod inner

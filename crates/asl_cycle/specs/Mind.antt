@@ -1,5 +1,5 @@
 -- What a cycle of a mind gives, over any meaning V of minds.
-use Rattle.std.specs.Prelude.{ℕ, Bool, false, List, [], Option, None, Some, codes}
+use Rattle.std.specs.Prelude.{ℕ, ◌≡◌, Bool, false, List, [], Option, None, Some, codes}
 use Rattle.asl_cycle.specs.declared.mind.Input.{Input}
 use Rattle.asl_cycle.specs.declared.mind.Thought.{Thought}
 use Rattle.asl_cycle.specs.declared.mind.Thought.TheVariants as thought
@@ -25,10 +25,12 @@ abbrev pub quiet_of : Thought → Option Bool
 quiet_of (thought.Outs outs) = Some outs.quiet
 quiet_of thought.Spent = None
 
--- the thought of a cycle that neither acts, sends nor stops, where it was quiet or not, or ended by a spent budget
-abbrev pub bare_thought : Option Bool → Thought
-bare_thought (Some quiet) = thought.Outs (record { action = None; messages = []; stop = false; quiet = quiet })
-bare_thought None = thought.Spent
+-- a thought that sends nothing and does not stop the run: quiet or not, or spent
+abbrev pub IsSilent : Option Bool → Thought → Type 0
+IsSilent (Some quiet) (thought.Outs outs) = (outs.messages ≡ []) × ((outs.stop ≡ false) × (outs.quiet ≡ quiet))
+IsSilent (Some quiet) thought.Spent = ⊥
+IsSilent None (thought.Outs outs) = ⊥
+IsSilent None thought.Spent = Unit {0}
 
 -- the word of a verb, as a source and a trace write it
 abbrev pub verb_text : Verb → List ℕ

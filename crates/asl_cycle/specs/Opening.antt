@@ -1,40 +1,23 @@
--- The events that an agent begins with.
-use Rattle.std.specs.Prelude.{ℕ, Bool, true, false, ◌&&◌, ◌==◌, if◌then◌else◌, List, [], ◌∷◌, ◌++◌, map, length, None, codes}
-use Rattle.std.specs.Str.{bytes_eq}
-use Rattle.std.specs.List.{list_any}
+-- What an agent begins with.
+use Rattle.std.specs.Prelude.{true, List, ◌++◌, map}
+use Rattle.asl_term.specs.declared.syntax.AgentText.{AgentText}
 use Rattle.asl_term.specs.declared.syntax.LiteralOf.{LiteralOf}
 use Rattle.asl_term.specs.declared.syntax.Term.{Term}
-use Rattle.asl_term.specs.declared.syntax.Term.TheVariants as term
-use Rattle.asl_term.specs.declared.syntax.Term.TheOpen.{Term-F}
-use Rattle.asl_term.specs.declared.syntax.Term.TheOpen as layer
-use Rattle.asl_term.specs.declared.syntax.Term.TheViews.{out-Term}
+use Rattle.asl_term.specs.declared.syntax.Trigger.{Trigger}
 use Rattle.asl_term.specs.declared.syntax.Kind.TheVariants as kind
-use Rattle.asl_cycle.specs.declared.agenda.Event.{Event}
+use Rattle.asl_beliefs.specs.Sources.{with_source}
+use Rattle.asl_beliefs.specs.Bases as beliefs
+use Rattle.asl_intend.specs.Agendas as agendas
+use Rattle.asl_exec.specs.Parts.{Parts, parts}
 
--- a positive literal without annotations
-abbrev pub plain : List ℕ → List Term → Term
-plain functor args = term.Lit (record { neg = false; functor = functor; args = args; annots = [] })
+-- what an initial goal is the event of
+abbrev pub initial_goal : LiteralOf Term → Trigger
+initial_goal g = record { add = true; kind = kind.Achieve; lit = with_source g }
 
--- `source(self)`
-abbrev pub source_self : Term
-source_self = plain (codes "source") (plain (codes "self") [] ∷ [])
+-- the initial beliefs are added in order, and then come the initial goals
+abbrev pub initial : AgentText → List Trigger
+initial source = (beliefs.opening source).events ++ map initial_goal source.goals
 
-abbrev pub layer_is_source : Term-F Term → Bool
-layer_is_source (layer.Lit l) = if l.neg then false else bytes_eq l.functor (codes "source") && (length l.args == 1) && (length l.annots == 0)
-layer_is_source other = false
-
--- whether a term is a positive literal `source(t)`, of one argument and without annotations
-abbrev pub is_source : Term → Bool
-is_source t = layer_is_source (out-Term t)
-
--- a literal that names no source gets the agent itself as its source
-abbrev pub with_source : LiteralOf Term → LiteralOf Term
-with_source l = if list_any is_source l.annots then l else record l { annots = l.annots ++ source_self ∷ [] }
-
--- the external event of an initial goal
-abbrev pub initial_event : LiteralOf Term → Event
-initial_event g = record { trigger = record { add = true; kind = kind.Achieve; lit = with_source g }; stack = []; error = None }
-
--- those of the initial goals, in their order
-abbrev pub initial_events : List (LiteralOf Term) → List Event
-initial_events goals = map initial_event goals
+-- the counter begins at 1
+abbrev pub opening_parts : AgentText → Parts
+opening_parts source = parts (beliefs.opening source).beliefs (agendas.opening (initial source)) 1

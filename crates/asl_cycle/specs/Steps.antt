@@ -1,72 +1,73 @@
 -- The steps of a cycle. Each is a table: its rows are asked from above, and the first whose condition holds applies.
-use Rattle.std.specs.Prelude.{ℕ, ◌≡◌, ◌+◌, List, [], ◌∷◌, ◌++◌, Option, None, Some}
+use Rattle.std.specs.Prelude.{ℕ, ◌≡◌, ◌+◌, ◌-◌, Bool, true, false, List, [], ◌∷◌, ◌++◌, map, replicate, slice_get, Option, None, Some}
 use Rattle.asl_term.specs.declared.syntax.LiteralOf.{LiteralOf}
 use Rattle.asl_term.specs.declared.syntax.Term.{Term}
+use Rattle.asl_term.specs.declared.syntax.Kind.{Kind}
+use Rattle.asl_term.specs.declared.syntax.Kind.TheVariants as kind
+use Rattle.asl_term.specs.declared.syntax.Trigger.{Trigger}
+use Rattle.asl_term.specs.declared.syntax.Plan.{Plan}
+use Rattle.asl_unify.specs.declared.subst.Pair.{Pair}
+use Rattle.asl_unify.specs.Renamed.{renamed_literal, renamed_formula, renamed_expr}
+use Rattle.asl_beliefs.specs.Changes.{Changed, updated}
+use Rattle.asl_beliefs.specs.Bases.{facts_of}
+use Rattle.asl_resolve.specs.declared.answers.Answer.{Answer}
+use Rattle.asl_resolve.specs.declared.answers.Answer.TheVariants as answer
+use Rattle.asl_resolve.specs.Base.{base}
+use Rattle.asl_resolve.specs.Marks.{marks, decide}
+use Rattle.asl_plans.specs.declared.library.Choice.{Choice}
+use Rattle.asl_plans.specs.Plans.{relevant}
+use Rattle.asl_intend.specs.declared.entry.Means.{Means}
+use Rattle.asl_intend.specs.declared.agenda.Error.{Error}
+use Rattle.asl_intend.specs.declared.agenda.Error.TheVariants as error
+use Rattle.asl_intend.specs.declared.agenda.Event.{Event}
+use Rattle.asl_intend.specs.Means.{applied_means}
+use Rattle.asl_fail.specs.declared.fail.Fell.{Fell}
+use Rattle.asl_fail.specs.declared.fail.Fell.TheVariants.{Raised, Dropped}
+use Rattle.asl_fail.specs.Fails.{fails}
+use Rattle.asl_exec.specs.declared.rows.Row.{Row}
+use Rattle.asl_exec.specs.declared.rows.Row.TheVariants as row
+use Rattle.asl_exec.specs.declared.went.Went.{Went}
+use Rattle.asl_exec.specs.declared.went.Went.TheVariants as went
+use Rattle.asl_exec.specs.Parts.{Around, Parts, Made, with_agenda, with_number, believing, failed}
+use Rattle.asl_exec.specs.Exec.{exec}
+use Rattle.asl_exec.specs.Clear.{clear}
 use Rattle.asl_cycle.specs.declared.mind.Message.{Message}
-use Rattle.asl_cycle.specs.declared.rows.Row.{Row}
-use Rattle.asl_cycle.specs.declared.rows.Row.TheVariants as row
-use Rattle.asl_cycle.specs.declared.rows.Error.{Error}
-use Rattle.asl_cycle.specs.declared.rows.Error.TheVariants as error
 use Rattle.asl_cycle.specs.declared.rows.Line.{Line}
 use Rattle.asl_cycle.specs.declared.rows.Line.TheVariants as line
 use Rattle.asl_cycle.specs.declared.rows.Sofar.{Sofar}
-use Rattle.asl_cycle.specs.declared.stack.Means.{Means}
-use Rattle.asl_cycle.specs.declared.agenda.Event.{Event}
-use Rattle.asl_cycle.specs.declared.agenda.Agenda.{Agenda}
-use Rattle.asl_cycle.specs.declared.config.Config.{Config}
+use Rattle.asl_cycle.specs.declared.config.Related.{Related}
 use Rattle.asl_cycle.specs.declared.config.Chosen.{Chosen}
 use Rattle.asl_cycle.specs.declared.config.Chosen.TheVariants as chosen
-use Rattle.asl_cycle.specs.declared.config.Related.{Related}
 use Rattle.asl_cycle.specs.declared.config.Intended.{Intended}
 use Rattle.asl_cycle.specs.declared.config.Applied.{Applied}
 use Rattle.asl_cycle.specs.declared.config.Applied.TheVariants as applied
-use Rattle.asl_cycle.specs.declared.exec.Went.{Went}
-use Rattle.asl_cycle.specs.declared.exec.Went.TheVariants as went
-use Rattle.asl_cycle.specs.Plans.{relevant, choose}
-use Rattle.asl_cycle.specs.Fails.{Fallen, fails}
-use Rattle.asl_cycle.specs.Exec.{Execd, exec}
-use Rattle.asl_cycle.specs.Clear.{Cleared, clear}
+use Rattle.asl_cycle.specs.declared.config.After.{After}
+use Rattle.asl_cycle.specs.declared.config.After.TheVariants as after
 
 -- the row that a step makes: its change, its lines behind that of its own name, and what the next step is given
 pub record Stepped (N : Type 0) : Type 0 where
   pub row : Row
-  pub config : Config
+  pub parts : Parts
   pub lines : List Line
   pub next : N
 
-abbrev pub by : {N : Type 0} → Row → Config → List Line → N → Stepped N
-by r c lines next = record { row = r; config = c; lines = lines; next = next }
+abbrev pub by : {N : Type 0} → Row → Parts → List Line → N → Stepped N
+by r p lines next = record { row = r; parts = p; lines = lines; next = next }
 
-abbrev pub with : Config → Agenda → Config
-with c a = record c { agenda = a }
+-- ---- what fails
 
--- a row that makes a stack fail: its change, and its lines before those of the failure
-abbrev pub fell : {N : Type 0} → Row → Config → List Line → N → Fallen → Stepped N
-fell r c lines next f = by r (with c f.agenda) (lines ++ f.lines) next
+-- so many rows Fail2
+abbrev pub pops : ℕ → List Line
+pops n = replicate n (line.Rule row.Fail2)
 
--- Percept. Percepts are not read yet, whatever they are: Percept1, and the belief changes that they make, are to come
-abbrev pub percept : Config → List (LiteralOf Term) → Stepped (Unit {0})
-percept c percepts = by row.Percept0 c [] tt
+-- the rows of a failure: Fail2 for each means that is popped, and then Fail1 or Fail3
+abbrev pub fall_lines : Error → Fell → List Line
+fall_lines e (Raised n) = pops (n - 1) ++ line.Rule row.Fail1 ∷ []
+fall_lines e (Dropped n) = pops n ++ line.Rule row.Fail3 ∷ line.Drops e ∷ []
 
--- Feed. No action is done yet, so none has an answer: FeedDone and FeedFail are to come
-abbrev pub feed : Config → Stepped (Unit {0})
-feed c = by row.Feed0 c [] tt
-
--- Msg. A message is not read yet, whatever it is: the rows of its verb, Reply, ReplyFail and Ignore are to come
-abbrev pub msg : Config → Option Message → Stepped (Unit {0})
-msg c message = by row.Msg0 c [] tt
-
--- SelEv: the oldest event, where there is one
-abbrev pub sel_ev_on : Config → List Event → Stepped (Option Event)
-sel_ev_on c (e ∷ es) = by row.SelEv1 (with c (record c.agenda { events = es })) [] (Some e)
-sel_ev_on c [] = by row.SelEv2 c [] None
-
-abbrev pub sel_ev : Config → Stepped (Option Event)
-sel_ev c = sel_ev_on c c.agenda.events
-
--- the stack of an event, under virtual means: those have the event's trigger and no body
+-- the stack of an event, under virtual means: those have the event's trigger, with nothing put into it, and no body
 abbrev pub virtual : Event → List Means
-virtual e = record { trigger = e.trigger; body = [] } ∷ e.stack
+virtual v = applied_means [] (record { trigger = v.trigger; body = [] }) ∷ v.stack
 
 -- the event's own error, where it has one
 abbrev pub error_of : Option Error → Error → Error
@@ -74,77 +75,196 @@ error_of (Some own) other = own
 error_of None other = other
 
 -- an event for which there is no plan: its stack fails
-abbrev pub no_plan : {N : Type 0} → Row → Config → Event → Error → N → Stepped N
-no_plan r c e other next = fell r c [] next (fails c.agenda (virtual e) (error_of e.error other))
+abbrev pub no_plan : {N : Type 0} → Around → Row → Parts → Event → Error → N → Stepped N
+no_plan k r p v other next =
+    let e = error_of v.error other in
+    let f = fails k.plans p.number e p.agenda (virtual v) in
+    by r (with_agenda p f.agenda) (fall_lines e f.fell) next
 
--- RelPl: the event with its relevant plans, where there are any
-abbrev pub rel_pl_on : Config → Event → List ℕ → Stepped (Option Related)
-rel_pl_on c e (k ∷ ks) = by row.Rel1 (record c { number = c.number + 1 }) [] (Some record { event = e; places = k ∷ ks })
-rel_pl_on c e [] = no_plan row.Rel3 c e error.NoRelevant None
+-- an event of a belief is dropped
+abbrev pub dropped_or_fails : {N : Type 0} → Around → (ofBelief other : Row) → Parts → Event → Kind → Error → N → Stepped N
+dropped_or_fails k b r p v kind.Belief e next = by b p [] next
+dropped_or_fails k b r p v kind.Achieve e next = no_plan k r p v e next
+dropped_or_fails k b r p v kind.Test e next = no_plan k r p v e next
 
-abbrev pub rel_pl : Config → Event → Stepped (Option Related)
-rel_pl c e = rel_pl_on c e (relevant c.plans e.trigger)
+-- ---- Percept, Feed, Msg
 
--- ApplPl: the event with the means that are chosen for it, where there are any
-abbrev pub appl_pl_on : Config → Event → Chosen → Stepped Applied
-appl_pl_on c e (chosen.Plan m) = by row.Appl1 c [] (applied.Plan record { event = e; means = m })
-appl_pl_on c e chosen.Nothing = no_plan row.Appl3 c e error.NoApplicable applied.Nothing
+abbrev pub percept_row : List Trigger → Row
+percept_row [] = row.Percept0
+percept_row (e ∷ events) = row.Percept1
 
-abbrev pub appl_pl : Config → Related → Stepped Applied
-appl_pl c r = appl_pl_on c r.event (choose c.plans r.places)
+abbrev pub percept_on : Parts → Changed → Stepped (Unit {0})
+percept_on p c = by (percept_row c.events) (believing p c.beliefs c.events) [] tt
 
--- SelAppl
-abbrev pub sel_appl : Config → Stepped (Unit {0})
-sel_appl c = by row.SelAppl c [] tt
+abbrev pub percept : Parts → List (LiteralOf Term) → Stepped (Unit {0})
+percept p percepts = percept_on p (updated percepts p.beliefs)
+
+-- Feed. No action is done yet, so none has an answer: FeedDone and FeedFail are to come
+abbrev pub feed : Parts → Stepped (Unit {0})
+feed p = by row.Feed0 p [] tt
+
+-- Msg. A message is not read yet, whatever it is: the rows of its verb, Reply, ReplyFail and Ignore are to come
+abbrev pub msg : Parts → Option Message → Stepped (Unit {0})
+msg p message = by row.Msg0 p [] tt
+
+-- ---- SelEv: the oldest event, where there is one
+
+abbrev pub sel_ev_on : Parts → List Event → Stepped (Option Event)
+sel_ev_on p (v ∷ events) = by row.SelEv1 (with_agenda p (record p.agenda { events = events })) [] (Some v)
+sel_ev_on p [] = by row.SelEv2 p [] None
+
+abbrev pub sel_ev : Parts → Stepped (Option Event)
+sel_ev p = sel_ev_on p p.agenda.events
+
+-- ---- RelPl: the event with its relevant plans, where there are any. These are renamed by the counter, which rises by one
+
+-- the error of an event without a relevant plan
+abbrev pub irrelevant : Bool → Kind → Error
+irrelevant true kind.Test = error.TestFailed
+irrelevant add other = error.NoRelevant
+
+abbrev pub rel_pl_on : Around → Parts → Event → List Choice → Stepped (Option Related)
+rel_pl_on k p v (c ∷ choices) = by row.Rel1 (with_number p (p.number + 1)) [] (Some record { event = v; choices = c ∷ choices; number = p.number })
+rel_pl_on k p v [] = dropped_or_fails k row.Rel2 row.Rel3 p v v.trigger.kind (irrelevant v.trigger.add v.trigger.kind) None
+
+abbrev pub rel_pl : Around → Parts → Event → Stepped (Option Related)
+rel_pl k p v = rel_pl_on k p v (relevant k.plans p.number v.trigger)
+
+-- ---- ApplPl: the first plan whose context is found
+
+abbrev pub renamed_trigger : ℕ → Trigger → Trigger
+renamed_trigger n t = record { add = t.add; kind = t.kind; lit = renamed_literal n t.lit }
+
+-- a plan's means, renamed
+abbrev pub renamed_means : ℕ → Plan → Means
+renamed_means n plan = record { trigger = renamed_trigger n plan.trigger; body = map (renamed_formula n) plan.body }
+
+-- what the search for a plan's context answers, renamed, under the plan's match and from the counter
+abbrev pub sought : Around → Parts → ℕ → Plan → List Pair → Answer
+sought k p n plan s = decide k.budgets.tries (marks (base (facts_of p.beliefs k.rules) k.solve) k.budgets.depth (renamed_expr n plan.context) s p.number)
+
+-- a context that is Found chooses its plan, one that is Spent ends the cycle, and all others lead to the next plan
+abbrev pub choose_by : ℕ → Plan → Answer → Chosen → Chosen
+choose_by n plan (answer.Found s m) rest = chosen.Plan (renamed_means n plan) s m
+choose_by n plan (answer.Spent b) rest = chosen.Spent b
+choose_by n plan other rest = rest
+
+abbrev pub choose_at : Around → Parts → ℕ → Option Plan → List Pair → Chosen → Chosen
+choose_at k p n None s rest = rest
+choose_at k p n (Some plan) s rest = choose_by n plan (sought k p n plan s) rest
+
+abbrev pub choose : Around → Parts → ℕ → List Choice → Chosen
+choose k p n [] = chosen.Nothing
+choose k p n (c ∷ choices) = choose_at k p n (slice_get k.plans c.plan) c.subst (choose k p n choices)
+
+abbrev pub appl_pl_on : Around → Parts → Event → Chosen → Stepped Applied
+appl_pl_on k p v (chosen.Plan m s n) = by row.Appl1 p [] (applied.Plan record { event = v; means = m; subst = s; next = n })
+appl_pl_on k p v chosen.Nothing = dropped_or_fails k row.Appl2 row.Appl3 p v v.trigger.kind error.NoApplicable applied.Nothing
+appl_pl_on k p v (chosen.Spent b) = by row.ApplSpent p (line.Spent b ∷ []) applied.Spent
+
+abbrev pub appl_pl : Around → Parts → Related → Stepped Applied
+appl_pl k p r = appl_pl_on k p r.event (choose k p r.number r.choices)
+
+-- ---- SelAppl: that plan with its solution, whose next number the counter becomes
+
+abbrev pub sel_appl : Parts → Intended → Stepped (Unit {0})
+sel_appl p i = by row.SelAppl (with_number p i.next) [] tt
+
+-- ---- AddIM: the means of an external event are a stack of their own, others go on top of the event's
 
 -- the stack goes to the back of those that run
-abbrev pub running : Config → List Means → Config
-running c stack = with c (record c.agenda { running = c.agenda.running ++ stack ∷ [] })
+abbrev pub running : Parts → List Means → Parts
+running p stack = with_agenda p (record p.agenda { running = p.agenda.running ++ stack ∷ [] })
 
--- AddIM: the means of an external event are a stack of their own, others go on top of the event's
-abbrev pub add_im_on : Config → Means → List Means → Stepped (Unit {0})
-add_im_on c m [] = by row.ExtEv (running c (m ∷ [])) [] tt
-add_im_on c m (n ∷ below) = by row.IntEv (running c (m ∷ n ∷ below)) [] tt
+abbrev pub add_im_row : List Means → Row
+add_im_row [] = row.ExtEv
+add_im_row (m ∷ below) = row.IntEv
 
-abbrev pub add_im : Config → Intended → Stepped (Unit {0})
-add_im c i = add_im_on c i.means i.event.stack
+-- only the chosen means have the solution applied
+abbrev pub add_im : Parts → Intended → Stepped (Unit {0})
+add_im p i = by (add_im_row i.event.stack) (running p (applied_means i.subst i.means ∷ i.event.stack)) [] tt
 
--- SelInt: the first of the stacks that run, where there is one
-abbrev pub sel_int_on : Config → List (List Means) → Stepped (Option (List Means))
-sel_int_on c (s ∷ ss) = by row.SelInt1 (with c (record c.agenda { running = ss })) [] (Some s)
-sel_int_on c [] = by row.SelInt2 c [] None
+-- ---- SelInt: the first of the stacks that run, where there is one
 
-abbrev pub sel_int : Config → Stepped (Option (List Means))
-sel_int c = sel_int_on c c.agenda.running
+abbrev pub sel_int_on : Parts → List (List Means) → Stepped (Option (List Means))
+sel_int_on p (s ∷ stacks) = by row.SelInt1 (with_agenda p (record p.agenda { running = stacks })) [] (Some s)
+sel_int_on p [] = by row.SelInt2 p [] None
 
--- Exec: the row of an answer, and its lines
+abbrev pub sel_int : Parts → Stepped (Option (List Means))
+sel_int p = sel_int_on p p.agenda.running
+
+-- ---- Exec and Clr: the row of an answer, its lines, and where it leads
+
 abbrev pub row_of : Went → Row
 row_of (went.Row r) = r
-row_of (went.Say t) = row.IaOk
+row_of (went.Say text) = row.IaOk
+row_of (went.Action l) = row.Action
+row_of (went.Outer c) = row.IaFail
+row_of (went.Failed r fall) = r
+row_of (went.Spent r b) = r
 
 abbrev pub lines_of : Went → List Line
 lines_of (went.Row r) = []
-lines_of (went.Say t) = line.Say t ∷ []
+lines_of (went.Say text) = line.Say text ∷ []
+lines_of (went.Action l) = line.Does l ∷ []
+lines_of (went.Outer c) = []
+lines_of (went.Failed r fall) = fall_lines fall.error fall.fell
+lines_of (went.Spent r b) = line.Spent b ∷ []
 
-abbrev pub of_execd : Config → Execd → Stepped (List Means)
-of_execd c x = by (row_of x.went) c (lines_of x.went) x.cur
+-- the rows that lead to Clr, and the others, which end the cycle
+abbrev pub after_row : Row → After
+after_row row.Exec0 = after.Clears
+after_row row.AchvNew = after.Clears
+after_row row.TestGl1 = after.Clears
+after_row row.AddBel = after.Clears
+after_row row.DelBel = after.Clears
+after_row row.RepBel = after.Clears
+after_row row.RelYes = after.Clears
+after_row row.IaOk = after.Clears
+after_row row.ClrInt2 = after.Clears
+after_row other = after.Ends
 
-abbrev pub exec_step : Config → List Means → Stepped (List Means)
-exec_step c cur = of_execd c (exec cur)
+abbrev pub after_of : Went → After
+after_of (went.Row r) = after_row r
+after_of (went.Say text) = after.Clears
+after_of (went.Action l) = after.Acts l
+after_of (went.Outer c) = after.Ends
+after_of (went.Failed r fall) = after.Ends
+after_of (went.Spent r b) = after.Spends
 
--- Clr
-abbrev pub of_cleared : Config → Cleared → Stepped (Unit {0})
-of_cleared c x = by x.row (with c x.agenda) [] tt
+-- the current stack, and where a row leads
+pub record Onward : Type 0 where
+  pub cur : List Means
+  pub after : After
 
-abbrev pub clear_step : Config → List Means → Stepped (Unit {0})
-clear_step c cur = of_cleared c (clear c.agenda cur)
+abbrev pub onward : List Means → After → Onward
+onward cur a = record { cur = cur; after = a }
+
+abbrev pub of_made : Made → Stepped Onward
+of_made x = by (row_of x.went) x.parts (lines_of x.went) (onward x.cur (after_of x.went))
+
+-- the internal actions on goals, beliefs and other agents are to come: until then they have no solution
+abbrev pub undone : Around → Made → Went → Made
+undone k x (went.Outer c) = failed k row.IaFail error.IaFailed x.parts x.cur
+undone k x other = x
+
+abbrev pub exec_on : Around → Made → Stepped Onward
+exec_on k x = of_made (undone k x x.went)
+
+abbrev pub exec_step : Around → Parts → List Means → Stepped Onward
+exec_step k p cur = exec_on k (exec k p cur)
+
+abbrev pub clear_step : Around → Parts → List Means → Stepped Onward
+clear_step k p cur = of_made (clear k p cur)
+
+-- ---- lines
 
 -- the lines so far, and behind them that of a row's name and its others
 abbrev pub written : {N : Type 0} → Sofar → Stepped N → Sofar
 written s w = record s { lines = s.lines ++ line.Rule w.row ∷ w.lines }
 
 -- what the code of a step leaves and answers
-pub record Made {N : Type 0} (w : Stepped N) (config : Config) (before after : Sofar) (next : N) : Type 0 where
-  pub changed : config ≡ w.config
+pub record Wrought {N : Type 0} (w : Stepped N) (p : Parts) (before after : Sofar) (next : N) : Type 0 where
+  pub changed : p ≡ w.parts
   pub wrote : after ≡ written before w
   pub goes : next ≡ w.next

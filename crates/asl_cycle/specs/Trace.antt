@@ -6,12 +6,11 @@ use Rattle.asl_term.specs.Texts.{text}
 use Rattle.asl_term.specs.Exprs.{literal_text}
 use Rattle.asl_cycle.specs.declared.mind.Level.{Level}
 use Rattle.asl_cycle.specs.declared.mind.Level.TheVariants as level
-use Rattle.asl_cycle.specs.declared.rows.Row.{Row}
-use Rattle.asl_cycle.specs.declared.rows.Row.TheVariants as row
-use Rattle.asl_cycle.specs.declared.rows.Error.{Error}
-use Rattle.asl_cycle.specs.declared.rows.Error.TheVariants as error
-use Rattle.asl_cycle.specs.declared.rows.Spent.{Spent}
-use Rattle.asl_cycle.specs.declared.rows.Spent.TheVariants as spent
+use Rattle.asl_exec.specs.declared.rows.Row.{Row}
+use Rattle.asl_exec.specs.declared.rows.Row.TheVariants as row
+use Rattle.asl_fail.specs.Fails.{error_name}
+use Rattle.asl_resolve.specs.declared.answers.Spent.{Spent}
+use Rattle.asl_resolve.specs.declared.answers.Spent.TheVariants as spent
 use Rattle.asl_cycle.specs.declared.rows.Mail.{Mail}
 use Rattle.asl_cycle.specs.declared.rows.Line.{Line}
 use Rattle.asl_cycle.specs.declared.rows.Line.TheVariants as line
@@ -77,16 +76,6 @@ row_name row.ClrLimit = codes "ClrLimit"
 row_name row.Fail1 = codes "Fail1"
 row_name row.Fail2 = codes "Fail2"
 row_name row.Fail3 = codes "Fail3"
-
-abbrev pub error_name : Error → List ℕ
-error_name error.NoRelevant = codes "no_relevant"
-error_name error.NoApplicable = codes "no_applicable"
-error_name error.ActionFailed = codes "action_failed"
-error_name error.IaFailed = codes "ia_failed"
-error_name error.TestFailed = codes "test_failed"
-error_name error.Arith = codes "arith"
-error_name error.TermLimit = codes "term_limit"
-error_name error.NotGround = codes "not_ground"
 
 abbrev pub spent_name : Spent → List ℕ
 spent_name spent.Depth = codes "depth"

@@ -1,15 +1,19 @@
 //! An agent: its configuration, and the lines that it has shown.
 
-ghost use Rattle.std.specs.Prelude.{◌≡◌, ◌<◌, ◌≤◌, ◌+◌, IfOk, length};
-ghost use Rattle.asl_cycle.specs.Mind.{no_input, bare_thought};
-ghost use Rattle.asl_cycle.specs.Agent.{agent_kind, opening_mind};
+ghost use Rattle.std.specs.Prelude.{◌≡◌, ◌<◌, ◌≤◌, ◌+◌, true, IfOk, length};
+ghost use Rattle.asl_beliefs.specs.Bases.{all_ground};
+ghost use Rattle.asl_cycle.specs.Agent.{Thinks, opening_mind};
 
-use crate::agenda::Agenda;
-use crate::config::Config;
 use crate::cycle::cycle;
-use crate::mind::{Budgets, Level, quiet_of};
-use crate::opening::{copy_plans, initial_events};
+use crate::inner::NoActions;
+use crate::mind::{Level, quiet_of};
+use crate::opening::{add_goals, copy_plans};
 use crate::trace::write_lines;
+use asl_beliefs::beliefs::Beliefs;
+use asl_exec::parts::{Around, Parts};
+use asl_intend::opening::agenda;
+use asl_plans::library::Library;
+use asl_resolve::answers::Budgets;
 use asl_term::names::Names;
 use asl_term::sequence::{Seq, Starved};
 use asl_term::syntax::{AgentText, Text};
@@ -19,17 +23,17 @@ use std::marker::Model;
 /// An agent. It makes at most 1,000,000 cycles.
 #[derive(Drop)]
 pub struct Agent {
-    config: Config,
+    around: Around<NoActions>,
+    parts: Parts<Beliefs>,
     cycles: u64,
     level: Level,
-    budgets: Budgets,
     me: u32,
     agents: u32,
     text: Text,
 }
 
 impl Model for Agent {
-    ghost use Rattle.std.specs.Prelude.{◌≤◌, ◌+◌};
+    ghost use Rattle.std.specs.Prelude.{◌≤◌, ◌+◌, ◌*◌};
     ghost use Rattle.asl_cycle.specs.Agent.{Mindset};
     ghost use Rattle.asl_term.specs.contracts.syntax.Term as term;
     ghost use Rattle.asl_term.specs.contracts.syntax.Expr as expr;
@@ -39,39 +43,55 @@ impl Model for Agent {
 
     ghost coded = { Prim.hlevel (codes, term.the_row.coded, expr.the_row.coded) };
 
-    ghost view = { λ a. record { config = a.config; cycles = a.cycles; level = a.level; budgets = a.budgets; me = a.me; agents = a.agents; text = a.text } };
+    ghost view = { λ a. record {
+      plans = a.around.lib.plans;
+      rules = a.parts.beliefs.rules;
+      parts = record { beliefs = a.parts.beliefs.beliefs; agenda = a.parts.agenda; number = a.parts.number };
+      cycles = a.cycles;
+      level = a.level;
+      budgets = a.around.budgets;
+      me = a.me;
+      agents = a.agents;
+      text = a.text;
+    } };
 
-    ghost invariant = { λ a. (a.config.number ≤ a.cycles + 1) × (a.cycles ≤ 1000000) };
+    ghost invariant = { λ a. (a.parts.number ≤ 1 + 20000001 * a.cycles) × ((a.cycles ≤ 1000000) × (a.around.budgets.tries ≤ 10000000)) };
 }
 
 /// The agent of a source before its first cycle. It has the place `me` among the names of all agents, from 1. Its
-/// plans and goals are those of the source, whose beliefs and rules have no effect yet.
+/// first events are those of its initial beliefs, in order, and then one for each initial goal.
 pub fn open_agent(
     alloc: Global,
     me: u32,
     names: &Names,
     source: &AgentText,
-    k: Budgets,
+    budgets: Budgets,
     level: Level,
 ) -> Result<Agent, Starved>
     requires from_one { 1 ≤ me }
     requires named { me ≤ length names.now }
-    ensures { IfOk result (λ a. a ≡ opening_mind me (length names.now) source.now k level) }
+    requires ground { all_ground source.now.beliefs ≡ true }
+    requires tries { budgets.tries ≤ 10000000 }
+    ensures { IfOk result (λ a. a ≡ opening_mind me (length names.now) source.now budgets level) }
 {
     let plans = copy_plans(alloc, source.plans.as_slice())?;
-    let events = initial_events(alloc, source.goals.as_slice())?;
+    let mut events = Seq::new(alloc);
+    let beliefs = Beliefs::open(alloc, source, &mut events)?;
+    add_goals(alloc, source.goals.as_slice(), &mut events)?;
+    let agenda = agenda(alloc, events)?;
     Ok(Agent {
-        config: Config {
-            plans,
-            agenda: Agenda {
-                events,
-                running: Seq::new(alloc),
-            },
+        around: Around {
+            lib: Library { plans },
+            actions: NoActions,
+            budgets,
+        },
+        parts: Parts {
+            beliefs,
+            agenda,
             number: 1,
         },
         cycles: 0,
         level,
-        budgets: k,
         me,
         agents: names.len(),
         text: Seq::new(alloc),
@@ -81,14 +101,14 @@ pub fn open_agent(
 impl Agent {
     /// A cycle without percepts and mail: whether it was quiet, or `None` where it ended by a spent budget.
     /// After `Starved` it counts too, and what it has done and shown is not said.
-    #[tactic(auto, using(crate::proofs::Laws::bare_cycle))]
+    #[tactic(auto, using(crate::proofs::Laws::thinks))]
     pub fn think(&mut self, alloc: Global) -> Result<Option<bool>, Starved>
         requires { self.old.cycles < 1000000 }
-        ensures made { IfOk result (λ q. agent_kind.cycle self.old no_input ≡ record { mind = self.new; thought = bare_thought q }) }
+        ensures made { IfOk result (Thinks self.old self.new) }
         ensures cycles { self.new.cycles ≡ self.old.cycles + 1 }
     {
         self.cycles += 1;
-        let finished = cycle(alloc, &mut self.config)?;
+        let finished = cycle(alloc, &self.around, &mut self.parts)?;
         write_lines(
             alloc,
             &mut self.text,

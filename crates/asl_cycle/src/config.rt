@@ -1,36 +1,36 @@
-//! The configuration of an agent, and what one step hands to the next.
+//! What one step of a cycle hands to the next.
 
-use crate::agenda::{Agenda, Event};
-use crate::stack::Means;
-use asl_term::syntax::{Numbers, Plans};
+use asl_intend::agenda::Event;
+use asl_intend::entry::Means;
+use asl_plans::library::Choices;
+use asl_resolve::answers::Spent;
+use asl_term::syntax::Literal;
+use asl_unify::subst::Subst;
 
-/// What the rows read and change. The number is the next fresh one: it names the variables of a plan anew.
+/// An event with its relevant plans, and the number by which these are renamed.
 #[derive(Drop)]
-pub struct Config {
-    pub plans: Plans,
-    pub agenda: Agenda,
+pub struct Related {
+    pub event: Event,
+    pub choices: Choices,
     pub number: u64,
 }
 
 /// What the contexts of the relevant plans give.
 #[derive(Drop)]
 pub enum Chosen {
-    Plan(Means),
+    /// The renamed means of the first plan whose context is found, with the solution and its next fresh number.
+    Plan(Means, Subst, u64),
     Nothing,
+    Spent(Spent),
 }
 
-/// An event with the places of its relevant plans in the list of plans, from 0.
-#[derive(Drop)]
-pub struct Related {
-    pub event: Event,
-    pub places: Numbers,
-}
-
-/// An event with the means that were chosen for it.
+/// An event with the means that were chosen for it, their solution and its next fresh number.
 #[derive(Drop)]
 pub struct Intended {
     pub event: Event,
     pub means: Means,
+    pub subst: Subst,
+    pub next: u64,
 }
 
 /// What the search for an applicable plan hands on.
@@ -38,4 +38,18 @@ pub struct Intended {
 pub enum Applied {
     Plan(Intended),
     Nothing,
+    Spent,
+}
+
+/// Where a row for the current stack leads.
+#[derive(Drop)]
+pub enum After {
+    /// To Clr.
+    Clears,
+    /// To the end of the cycle.
+    Ends,
+    /// To its end, with an action on the world.
+    Acts(Literal),
+    /// To its end by a spent budget.
+    Spends,
 }

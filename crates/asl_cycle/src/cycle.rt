@@ -1,16 +1,24 @@
 //! A cycle: from each step to the end.
 
-ghost use Rattle.std.specs.Prelude.{◌≡◌, ◌≤◌, ◌<◌, ◌^◌, ◌+◌, IfOk};
+ghost use Rattle.std.specs.Prelude.{◌≡◌, ◌≤◌, ◌<◌, ◌^◌, ◌+◌, ◌-◌, ◌*◌, IfOk};
+ghost use Rattle.asl_exec.specs.Parts.{around, parts};
 ghost use Rattle.asl_cycle.specs.Mind.{no_input};
 ghost use Rattle.asl_cycle.specs.Cycle as spec;
 
-use crate::agenda::Event;
-use crate::config::{Applied, Config, Intended, Related};
+use crate::config::{After, Applied, Intended, Related};
 use crate::mind::{Outs, Thought};
-use crate::rows::{Line, Lines, Row, Sofar};
-use crate::stack::Stack;
-use crate::steps::{add_im, appl_pl, clear_step, exec_step, rel_pl, rule, sel_ev, sel_int};
+use crate::rows::{Line, Lines, Sofar};
+use crate::steps::{
+    add_im, appl_pl, clear_step, exec_step, percept, rel_pl, rule, sel_appl, sel_ev, sel_int,
+};
+use asl_beliefs::base::BeliefBase;
+use asl_exec::parts::{Around, Parts};
+use asl_exec::rows::Row;
+use asl_intend::agenda::Event;
+use asl_intend::stack::Stack;
+use asl_resolve::actions::Actions;
 use asl_term::sequence::{Seq, Starved};
+use asl_term::syntax::Literal;
 use std::alloc::Global;
 
 /// The lines and the thought of a whole cycle.
@@ -49,9 +57,9 @@ fn quiet_lines(lines: &[Line]) -> bool
     true
 }
 
-fn ends(sofar: Sofar, quiet: bool) -> Finished
+fn ends(sofar: Sofar, action: Option<Literal>, quiet: bool) -> Finished
     ensures lines { result.lines ≡ sofar.lines }
-    ensures thought { result.thought ≡ spec.thought_of quiet sofar }
+    ensures thought { result.thought ≡ spec.outs action quiet sofar }
 {
     let Sofar {
         lines,
@@ -61,7 +69,7 @@ fn ends(sofar: Sofar, quiet: bool) -> Finished
     Finished {
         lines,
         thought: Thought::Outs(Outs {
-            action: None,
+            action,
             messages,
             stop,
             quiet,
@@ -69,104 +77,215 @@ fn ends(sofar: Sofar, quiet: bool) -> Finished
     }
 }
 
-fn from_exec(alloc: Global, c: &mut Config, sofar: Sofar, cur: Stack) -> Result<Finished, Starved>
-    ensures made { IfOk result (λ f. spec.from_exec c.old sofar cur ≡ record { config = c.new; lines = f.lines; thought = f.thought }) }
-    ensures number { c.new.number ≡ c.old.number }
+fn spends(sofar: Sofar) -> Finished
+    ensures lines { result.lines ≡ sofar.lines }
+    ensures thought { result.thought ≡ Thought.Spent }
+{
+    let Sofar {
+        lines,
+        messages: _,
+        stop: _,
+    } = sofar;
+    Finished {
+        lines,
+        thought: Thought::Spent,
+    }
+}
+
+/// Row after row of Clr, while the stack gets shorter.
+#[tactic(auto, using(crate::proofs::Clears::more))]
+fn from_clr<B: BeliefBase, A: Actions>(
+    alloc: Global,
+    k: &Around<A>,
+    p: &mut Parts<B>,
+    sofar: Sofar,
+    cur: Stack,
+) -> Result<Finished, Starved>
+    ensures made { let e = around k.now.lib.plans (B.rules p.old.beliefs) (A.solve k.now.actions) k.now.budgets in
+        let old = parts (B.beliefs p.old.beliefs) p.old.agenda p.old.number in
+        let new = parts (B.beliefs p.new.beliefs) p.new.agenda p.new.number in
+        IfOk result (λ f. spec.clears e old sofar cur ≡ record { parts = new; lines = f.lines; thought = f.thought }) }
+    ensures rules { B.rules p.new.beliefs ≡ B.rules p.old.beliefs }
+    ensures number { p.new.number ≡ p.old.number }
 {
     let mut sofar = sofar;
     let mut cur = cur;
-    exec_step(alloc, c, &mut sofar, &mut cur)?;
-    clear_step(c, &mut sofar, cur)?;
-    Ok(ends(sofar, false))
-}
-
-fn from_sel_int(alloc: Global, c: &mut Config, sofar: Sofar) -> Result<Finished, Starved>
-    ensures made { IfOk result (λ f. spec.from_sel_int c.old sofar ≡ record { config = c.new; lines = f.lines; thought = f.thought }) }
-    ensures number { c.new.number ≡ c.old.number }
-{
-    let mut sofar = sofar;
-    match sel_int(c, &mut sofar)? {
-        Some(cur) => from_exec(alloc, c, sofar, cur),
-        None => {
-            let quiet = quiet_lines(sofar.lines.as_slice());
-            Ok(ends(sofar, quiet))
+    let mut left = cur.len();
+    'rows: loop {
+        match clear_step(alloc, k, p, &mut sofar, &mut cur)? {
+            After::Clears => {
+                if left == 0 {
+                    return Ok(ends(sofar, None, false));
+                }
+                left -= 1;
+            }
+            After::Ends => return Ok(ends(sofar, None, false)),
+            After::Acts(action) => return Ok(ends(sofar, Some(action), false)),
+            After::Spends => return Ok(spends(sofar)),
         }
     }
 }
 
-fn from_sel_appl(
+fn from_exec<B: BeliefBase, A: Actions>(
     alloc: Global,
-    c: &mut Config,
+    k: &Around<A>,
+    p: &mut Parts<B>,
+    sofar: Sofar,
+    cur: Stack,
+) -> Result<Finished, Starved>
+    requires { p.old.number + k.now.budgets.tries < 2 ^ 64 - 1 }
+    ensures made { let e = around k.now.lib.plans (B.rules p.old.beliefs) (A.solve k.now.actions) k.now.budgets in
+        let old = parts (B.beliefs p.old.beliefs) p.old.agenda p.old.number in
+        let new = parts (B.beliefs p.new.beliefs) p.new.agenda p.new.number in
+        IfOk result (λ f. spec.from_exec e old sofar cur ≡ record { parts = new; lines = f.lines; thought = f.thought }) }
+    ensures rules { B.rules p.new.beliefs ≡ B.rules p.old.beliefs }
+    ensures number { p.new.number ≤ p.old.number + k.now.budgets.tries }
+{
+    let mut sofar = sofar;
+    let mut cur = cur;
+    match exec_step(alloc, k, p, &mut sofar, &mut cur)? {
+        After::Clears => from_clr(alloc, k, p, sofar, cur),
+        After::Ends => Ok(ends(sofar, None, false)),
+        After::Acts(action) => Ok(ends(sofar, Some(action), false)),
+        After::Spends => Ok(spends(sofar)),
+    }
+}
+
+fn from_sel_int<B: BeliefBase, A: Actions>(
+    alloc: Global,
+    k: &Around<A>,
+    p: &mut Parts<B>,
+    sofar: Sofar,
+) -> Result<Finished, Starved>
+    requires { p.old.number + k.now.budgets.tries < 2 ^ 64 - 1 }
+    ensures made { let e = around k.now.lib.plans (B.rules p.old.beliefs) (A.solve k.now.actions) k.now.budgets in
+        let old = parts (B.beliefs p.old.beliefs) p.old.agenda p.old.number in
+        let new = parts (B.beliefs p.new.beliefs) p.new.agenda p.new.number in
+        IfOk result (λ f. spec.from_sel_int e old sofar ≡ record { parts = new; lines = f.lines; thought = f.thought }) }
+    ensures rules { B.rules p.new.beliefs ≡ B.rules p.old.beliefs }
+    ensures number { p.new.number ≤ p.old.number + k.now.budgets.tries }
+{
+    let mut sofar = sofar;
+    match sel_int(p, &mut sofar)? {
+        Some(cur) => from_exec(alloc, k, p, sofar, cur),
+        None => {
+            let quiet = quiet_lines(sofar.lines.as_slice());
+            Ok(ends(sofar, None, quiet))
+        }
+    }
+}
+
+fn from_sel_appl<B: BeliefBase, A: Actions>(
+    alloc: Global,
+    k: &Around<A>,
+    p: &mut Parts<B>,
     sofar: Sofar,
     intended: Intended,
 ) -> Result<Finished, Starved>
-    ensures made { IfOk result (λ f. spec.from_sel_appl c.old sofar intended ≡ record { config = c.new; lines = f.lines; thought = f.thought }) }
-    ensures number { c.new.number ≡ c.old.number }
+    requires { intended.next + k.now.budgets.tries < 2 ^ 64 - 1 }
+    ensures made { let e = around k.now.lib.plans (B.rules p.old.beliefs) (A.solve k.now.actions) k.now.budgets in
+        let old = parts (B.beliefs p.old.beliefs) p.old.agenda p.old.number in
+        let new = parts (B.beliefs p.new.beliefs) p.new.agenda p.new.number in
+        IfOk result (λ f. spec.from_sel_appl e old sofar intended ≡ record { parts = new; lines = f.lines; thought = f.thought }) }
+    ensures rules { B.rules p.new.beliefs ≡ B.rules p.old.beliefs }
+    ensures number { p.new.number ≤ intended.next + k.now.budgets.tries }
 {
     let mut sofar = sofar;
-    rule(&mut sofar, Row::SelAppl)?;
-    add_im(c, &mut sofar, intended)?;
-    from_sel_int(alloc, c, sofar)
+    sel_appl(p, &mut sofar, &intended)?;
+    add_im(p, &mut sofar, intended)?;
+    from_sel_int(alloc, k, p, sofar)
 }
 
-fn from_appl_pl(
+fn from_appl_pl<B: BeliefBase, A: Actions>(
     alloc: Global,
-    c: &mut Config,
+    k: &Around<A>,
+    p: &mut Parts<B>,
     sofar: Sofar,
     related: Related,
 ) -> Result<Finished, Starved>
-    ensures made { IfOk result (λ f. spec.from_appl_pl c.old sofar related ≡ record { config = c.new; lines = f.lines; thought = f.thought }) }
-    ensures number { c.new.number ≡ c.old.number }
+    requires { p.old.number + 2 * k.now.budgets.tries < 2 ^ 64 - 1 }
+    ensures made { let e = around k.now.lib.plans (B.rules p.old.beliefs) (A.solve k.now.actions) k.now.budgets in
+        let old = parts (B.beliefs p.old.beliefs) p.old.agenda p.old.number in
+        let new = parts (B.beliefs p.new.beliefs) p.new.agenda p.new.number in
+        IfOk result (λ f. spec.from_appl_pl e old sofar related ≡ record { parts = new; lines = f.lines; thought = f.thought }) }
+    ensures rules { B.rules p.new.beliefs ≡ B.rules p.old.beliefs }
+    ensures number { p.new.number ≤ p.old.number + 2 * k.now.budgets.tries }
 {
     let mut sofar = sofar;
-    match appl_pl(alloc, c, &mut sofar, related)? {
-        Applied::Plan(intended) => from_sel_appl(alloc, c, sofar, intended),
-        Applied::Nothing => from_sel_int(alloc, c, sofar),
+    match appl_pl(alloc, k, p, &mut sofar, related)? {
+        Applied::Plan(intended) => from_sel_appl(alloc, k, p, sofar, intended),
+        Applied::Nothing => from_sel_int(alloc, k, p, sofar),
+        Applied::Spent => Ok(spends(sofar)),
     }
 }
 
-fn from_rel_pl(
+fn from_rel_pl<B: BeliefBase, A: Actions>(
     alloc: Global,
-    c: &mut Config,
+    k: &Around<A>,
+    p: &mut Parts<B>,
     sofar: Sofar,
     event: Event,
 ) -> Result<Finished, Starved>
-    requires { c.old.number < 2 ^ 63 }
-    ensures made { IfOk result (λ f. spec.from_rel_pl c.old sofar event ≡ record { config = c.new; lines = f.lines; thought = f.thought }) }
-    ensures number { c.new.number ≤ c.old.number + 1 }
+    requires tries { k.now.budgets.tries ≤ 10000000 }
+    requires room { p.old.number < 2 ^ 63 }
+    ensures made { let e = around k.now.lib.plans (B.rules p.old.beliefs) (A.solve k.now.actions) k.now.budgets in
+        let old = parts (B.beliefs p.old.beliefs) p.old.agenda p.old.number in
+        let new = parts (B.beliefs p.new.beliefs) p.new.agenda p.new.number in
+        IfOk result (λ f. spec.from_rel_pl e old sofar event ≡ record { parts = new; lines = f.lines; thought = f.thought }) }
+    ensures rules { B.rules p.new.beliefs ≡ B.rules p.old.beliefs }
+    ensures number { p.new.number ≤ p.old.number + (1 + 2 * k.now.budgets.tries) }
 {
     let mut sofar = sofar;
-    match rel_pl(alloc, c, &mut sofar, event)? {
-        Some(related) => from_appl_pl(alloc, c, sofar, related),
-        None => from_sel_int(alloc, c, sofar),
+    match rel_pl(alloc, k, p, &mut sofar, event)? {
+        Some(related) => from_appl_pl(alloc, k, p, sofar, related),
+        None => from_sel_int(alloc, k, p, sofar),
     }
 }
 
-fn from_sel_ev(alloc: Global, c: &mut Config, sofar: Sofar) -> Result<Finished, Starved>
-    requires { c.old.number < 2 ^ 63 }
-    ensures made { IfOk result (λ f. spec.from_sel_ev c.old sofar ≡ record { config = c.new; lines = f.lines; thought = f.thought }) }
-    ensures number { c.new.number ≤ c.old.number + 1 }
+fn from_sel_ev<B: BeliefBase, A: Actions>(
+    alloc: Global,
+    k: &Around<A>,
+    p: &mut Parts<B>,
+    sofar: Sofar,
+) -> Result<Finished, Starved>
+    requires tries { k.now.budgets.tries ≤ 10000000 }
+    requires room { p.old.number < 2 ^ 63 }
+    ensures made { let e = around k.now.lib.plans (B.rules p.old.beliefs) (A.solve k.now.actions) k.now.budgets in
+        let old = parts (B.beliefs p.old.beliefs) p.old.agenda p.old.number in
+        let new = parts (B.beliefs p.new.beliefs) p.new.agenda p.new.number in
+        IfOk result (λ f. spec.from_sel_ev e old sofar ≡ record { parts = new; lines = f.lines; thought = f.thought }) }
+    ensures rules { B.rules p.new.beliefs ≡ B.rules p.old.beliefs }
+    ensures number { p.new.number ≤ p.old.number + (1 + 2 * k.now.budgets.tries) }
 {
     let mut sofar = sofar;
-    match sel_ev(c, &mut sofar)? {
-        Some(event) => from_rel_pl(alloc, c, sofar, event),
-        None => from_sel_int(alloc, c, sofar),
+    match sel_ev(p, &mut sofar)? {
+        Some(event) => from_rel_pl(alloc, k, p, sofar, event),
+        None => from_sel_int(alloc, k, p, sofar),
     }
 }
 
-/// A whole cycle of an agent that senses nothing and has no mail.
-pub fn cycle(alloc: Global, c: &mut Config) -> Result<Finished, Starved>
-    requires { c.old.number < 2 ^ 63 }
-    ensures made { IfOk result (λ f. spec.cycle c.old no_input ≡ record { config = c.new; lines = f.lines; thought = f.thought }) }
-    ensures number { c.new.number ≤ c.old.number + 1 }
+/// A whole cycle of an agent that senses nothing and has no mail. The counter rises by at most one and twice the tries.
+pub fn cycle<B: BeliefBase, A: Actions>(
+    alloc: Global,
+    k: &Around<A>,
+    p: &mut Parts<B>,
+) -> Result<Finished, Starved>
+    requires tries { k.now.budgets.tries ≤ 10000000 }
+    requires room { p.old.number < 2 ^ 63 }
+    ensures made { let e = around k.now.lib.plans (B.rules p.old.beliefs) (A.solve k.now.actions) k.now.budgets in
+        let old = parts (B.beliefs p.old.beliefs) p.old.agenda p.old.number in
+        let new = parts (B.beliefs p.new.beliefs) p.new.agenda p.new.number in
+        IfOk result (λ f. spec.cycle e old no_input ≡ record { parts = new; lines = f.lines; thought = f.thought }) }
+    ensures rules { B.rules p.new.beliefs ≡ B.rules p.old.beliefs }
+    ensures number { p.new.number ≤ p.old.number + (1 + 2 * k.now.budgets.tries) }
 {
     let mut sofar = Sofar {
         lines: Seq::new(alloc),
         messages: Seq::new(alloc),
         stop: false,
     };
-    rule(&mut sofar, Row::Percept0)?;
+    percept(alloc, p, &mut sofar, &Seq::new(alloc))?;
     rule(&mut sofar, Row::Feed0)?;
     rule(&mut sofar, Row::Msg0)?;
-    from_sel_ev(alloc, c, sofar)
+    from_sel_ev(alloc, k, p, sofar)
 }

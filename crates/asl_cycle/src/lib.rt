@@ -1,17 +1,13 @@
-//! The reasoning cycle of an agent.
+//! An agent: its configuration, the steps of its cycle, and its trace.
 #![tactic(auto)]
 
-pub mod agenda;
 pub mod agent;
-pub mod clear;
+pub mod choosing;
 pub mod config;
 pub mod cycle;
-pub mod exec;
-pub mod fail;
+pub mod inner;
 pub mod mind;
 pub mod opening;
-pub mod plans;
 pub mod rows;
-pub mod stack;
 pub mod steps;
 pub mod trace;

@@ -95,11 +95,3 @@ pub enum Level {
     Acts,
     Rules,
 }
-
-/// What one search may use: rules one inside another, from 1 to 10,000, and tries of a head, from 1 to
-/// 10,000,000.
-#[derive(Clone, Copy, Debug, PartialEq, Eq, Drop)]
-pub struct Budgets {
-    pub depth: u64,
-    pub tries: u64,
-}

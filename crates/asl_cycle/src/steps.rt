@@ -1,20 +1,32 @@
 //! The steps of a cycle: each makes the one row of its table that applies.
 
-ghost use Rattle.std.specs.Prelude.{◌≡◌, ◌<◌, ◌≤◌, ◌+◌, ◌^◌, ◌++◌, [], ◌∷◌, IfOk, OnOk};
+ghost use Rattle.std.specs.Prelude.{◌≡◌, ◌<◌, ◌≤◌, ◌+◌, ◌-◌, ◌*◌, ◌^◌, ◌++◌, [], ◌∷◌, true, IfOk, OnOk};
+ghost use Rattle.asl_beliefs.specs.Bases.{all_ground};
 ghost use Rattle.asl_cycle.specs.declared.rows.Line.TheVariants as line;
-ghost use Rattle.asl_cycle.specs.Fails.{drop_lines as fail_lines};
+ghost use Rattle.asl_exec.specs.Parts.{around, parts, made};
 ghost use Rattle.asl_cycle.specs.Steps as spec;
-ghost use Rattle.asl_cycle.specs.Steps.{Made};
+ghost use Rattle.asl_cycle.specs.Steps.{Wrought};
+ghost use Rattle.asl_cycle.specs.inner.Choosing.{AppliedAtMost};
 
-use crate::agenda::Event;
-use crate::clear::clear;
-use crate::config::{Applied, Chosen, Config, Intended, Related};
-use crate::exec::{Went, exec};
-use crate::fail::drop_lines;
-use crate::plans::{choose, relevant};
-use crate::rows::{Error, Line, Row, Sofar};
-use crate::stack::Stack;
-use asl_term::sequence::Starved;
+use crate::choosing::choose;
+use crate::config::{After, Applied, Chosen, Intended, Related};
+use crate::rows::{Line, Lines, Sofar};
+use asl_beliefs::base::BeliefBase;
+use asl_beliefs::removed::BeliefFault;
+use asl_exec::clear::clear;
+use asl_exec::exec::exec;
+use asl_exec::parts::{Around, Parts, fails_as, tell};
+use asl_exec::rows::Row;
+use asl_exec::went::Went;
+use asl_fail::fail::{Fell, fail};
+use asl_intend::agenda::{Error, Event};
+use asl_intend::entry::Means;
+use asl_intend::stack::Stack;
+use asl_resolve::actions::Actions;
+use asl_term::copying::{copy_literal, copy_trigger};
+use asl_term::sequence::{Seq, Starved};
+use asl_term::syntax::{Kind, Literals, Trigger};
+use asl_unify::subst::no_subst;
 use std::alloc::Global;
 
 /// Puts the line of a row last.
@@ -24,19 +36,29 @@ pub fn rule(sofar: &mut Sofar, row: Row) -> Result<(), Starved>
     sofar.lines.push(Line::Rule(row))
 }
 
-/// The oldest event.
-pub fn sel_ev(c: &mut Config, sofar: &mut Sofar) -> Result<Option<Event>, Starved>
-    ensures made { IfOk result (Made (spec.sel_ev c.old) c.new sofar.old sofar.new) }
-    ensures number { c.new.number ≡ c.old.number }
+/// Puts so many rows Fail2 last.
+fn put_popped(lines: &mut Lines, n: u64) -> Result<(), Starved>
+    ensures { OnOk result (lines.new ≡ lines.old ++ spec.pops n) }
 {
-    match c.agenda.events.remove(0) {
-        Some(event) => {
-            rule(sofar, Row::SelEv1)?;
-            Ok(Some(event))
+    for _ in 0..n {
+        lines.push(Line::Rule(Row::Fail2))?;
+    }
+    Ok(())
+}
+
+/// Puts the rows of a failure last.
+fn put_fall(lines: &mut Lines, e: Error, fell: Fell) -> Result<(), Starved>
+    ensures { OnOk result (lines.new ≡ lines.old ++ spec.fall_lines e fell) }
+{
+    match fell {
+        Fell::Raised(n) => {
+            put_popped(lines, n.saturating_sub(1))?;
+            lines.push(Line::Rule(Row::Fail1))
         }
-        None => {
-            rule(sofar, Row::SelEv2)?;
-            Ok(None)
+        Fell::Dropped(n) => {
+            put_popped(lines, n)?;
+            lines.push(Line::Rule(Row::Fail3))?;
+            lines.push(Line::Drops(e))
         }
     }
 }
@@ -50,67 +72,245 @@ fn error_of(own: Option<Error>, other: Error) -> Error
     }
 }
 
-/// The lines of an event for which there is no plan.
-fn no_plan(sofar: &mut Sofar, row: Row, error: Error) -> Result<(), Starved>
-    ensures { OnOk result (sofar.new ≡ record sofar.old { lines = sofar.old.lines ++ line.Rule row ∷ fail_lines error }) }
+/// The stack of an event, under virtual means.
+fn virtual_stack(alloc: Global, event: Event) -> Result<Stack, Starved>
+    ensures { IfOk result (λ r. r ≡ spec.virtual event) }
 {
-    rule(sofar, row)?;
-    drop_lines(&mut sofar.lines, error)
+    let Event {
+        trigger,
+        stack,
+        error: _,
+    } = event;
+    let mut stack = stack;
+    let means = Means {
+        trigger,
+        body: Seq::new(alloc),
+    };
+    stack.push(means, &no_subst(alloc))?;
+    Ok(stack)
 }
 
-/// The event with its relevant plans.
-pub fn rel_pl(
+/// The row of an event for which there is no plan.
+fn no_plan<B: BeliefBase, A: Actions>(
     alloc: Global,
-    c: &mut Config,
+    k: &Around<A>,
+    p: &mut Parts<B>,
+    sofar: &mut Sofar,
+    row: Row,
+    event: Event,
+    other: Error,
+) -> Result<(), Starved>
+    ensures made { let e = around k.now.lib.plans (B.rules p.old.beliefs) (A.solve k.now.actions) k.now.budgets in
+        let old = parts (B.beliefs p.old.beliefs) p.old.agenda p.old.number in
+        let new = parts (B.beliefs p.new.beliefs) p.new.agenda p.new.number in
+        OnOk result (Wrought (spec.no_plan e row old event other (tt {0})) new sofar.old sofar.new (tt {0})) }
+    ensures beliefs { p.new.beliefs ≡ p.old.beliefs }
+    ensures number { p.new.number ≡ p.old.number }
+{
+    let error = error_of(event.error, other);
+    let mut stack = virtual_stack(alloc, event)?;
+    let fell = fail(alloc, &mut p.agenda, &k.lib, &mut stack, error, p.number)?;
+    rule(sofar, row)?;
+    put_fall(&mut sofar.lines, error, fell)
+}
+
+/// An event of a belief is dropped; else it is one for which there is no plan.
+fn drop_or_fail<B: BeliefBase, A: Actions>(
+    alloc: Global,
+    k: &Around<A>,
+    p: &mut Parts<B>,
+    sofar: &mut Sofar,
+    rows: (Row, Row),
+    event: Event,
+    other: Error,
+) -> Result<(), Starved>
+    ensures made { let e = around k.now.lib.plans (B.rules p.old.beliefs) (A.solve k.now.actions) k.now.budgets in
+        let old = parts (B.beliefs p.old.beliefs) p.old.agenda p.old.number in
+        let new = parts (B.beliefs p.new.beliefs) p.new.agenda p.new.number in
+        OnOk result (Wrought (spec.dropped_or_fails e rows.0 rows.1 old event event.trigger.kind other (tt {0})) new sofar.old sofar.new (tt {0})) }
+    ensures beliefs { p.new.beliefs ≡ p.old.beliefs }
+    ensures number { p.new.number ≡ p.old.number }
+{
+    let (dropped, failed) = rows;
+    match event.trigger.kind {
+        Kind::Belief => rule(sofar, dropped),
+        Kind::Achieve | Kind::Test => no_plan(alloc, k, p, sofar, failed, event, other),
+    }
+}
+
+fn percept_row(events: &[Trigger]) -> Row
+    ensures { result ≡ spec.percept_row events.now }
+{
+    match events {
+        [] => Row::Percept0,
+        [_, ..] => Row::Percept1,
+    }
+}
+
+/// The percepts are believed, and those of before no longer.
+pub fn percept<B: BeliefBase>(
+    alloc: Global,
+    p: &mut Parts<B>,
+    sofar: &mut Sofar,
+    percepts: &Literals,
+) -> Result<(), Starved>
+    requires { all_ground percepts.now ≡ true }
+    ensures made { let old = parts (B.beliefs p.old.beliefs) p.old.agenda p.old.number in
+        let new = parts (B.beliefs p.new.beliefs) p.new.agenda p.new.number in
+        OnOk result (Wrought (spec.percept old percepts.now) new sofar.old sofar.new (tt {0})) }
+    ensures rules { B.rules p.new.beliefs ≡ B.rules p.old.beliefs }
+    ensures number { p.new.number ≡ p.old.number }
+{
+    match p.beliefs.update_percepts(alloc, percepts) {
+        Ok(events) => {
+            let row = percept_row(events.as_slice());
+            tell(alloc, &mut p.agenda, events)?;
+            rule(sofar, row)
+        }
+        Err(_) => Err(Starved),
+    }
+}
+
+/// The oldest event.
+pub fn sel_ev<B: BeliefBase>(p: &mut Parts<B>, sofar: &mut Sofar) -> Result<Option<Event>, Starved>
+    ensures made { let old = parts (B.beliefs p.old.beliefs) p.old.agenda p.old.number in
+        let new = parts (B.beliefs p.new.beliefs) p.new.agenda p.new.number in
+        IfOk result (Wrought (spec.sel_ev old) new sofar.old sofar.new) }
+    ensures beliefs { p.new.beliefs ≡ p.old.beliefs }
+    ensures number { p.new.number ≡ p.old.number }
+{
+    match p.agenda.events.remove(0) {
+        Some(event) => {
+            rule(sofar, Row::SelEv1)?;
+            Ok(Some(event))
+        }
+        None => {
+            rule(sofar, Row::SelEv2)?;
+            Ok(None)
+        }
+    }
+}
+
+fn irrelevant(add: bool, kind: Kind) -> Error
+    ensures { result ≡ spec.irrelevant add kind }
+{
+    match (add, kind) {
+        (true, Kind::Test) => Error::TestFailed,
+        _ => Error::NoRelevant,
+    }
+}
+
+/// The event with its relevant plans. The counter rises by one at most.
+pub fn rel_pl<B: BeliefBase, A: Actions>(
+    alloc: Global,
+    k: &Around<A>,
+    p: &mut Parts<B>,
     sofar: &mut Sofar,
     event: Event,
 ) -> Result<Option<Related>, Starved>
-    requires { c.old.number < 2 ^ 63 }
-    ensures made { IfOk result (Made (spec.rel_pl c.old event) c.new sofar.old sofar.new) }
-    ensures number { c.new.number ≤ c.old.number + 1 }
+    requires { p.old.number < 2 ^ 63 }
+    ensures made { let e = around k.now.lib.plans (B.rules p.old.beliefs) (A.solve k.now.actions) k.now.budgets in
+        let old = parts (B.beliefs p.old.beliefs) p.old.agenda p.old.number in
+        let new = parts (B.beliefs p.new.beliefs) p.new.agenda p.new.number in
+        IfOk result (Wrought (spec.rel_pl e old event) new sofar.old sofar.new) }
+    ensures beliefs { p.new.beliefs ≡ p.old.beliefs }
+    ensures number { p.new.number ≤ p.old.number + 1 }
 {
-    let places = relevant(alloc, c.plans.as_slice(), &event.trigger)?;
-    if places.len() == 0 {
-        no_plan(sofar, Row::Rel3, error_of(event.error, Error::NoRelevant))?;
+    let number = p.number;
+    let choices = k.lib.relevant(alloc, &event.trigger, number)?;
+    if choices.len() == 0 {
+        let other = irrelevant(event.trigger.add, event.trigger.kind);
+        drop_or_fail(alloc, k, p, sofar, (Row::Rel2, Row::Rel3), event, other)?;
         return Ok(None);
     }
-    c.number += 1;
+    p.number = number + 1;
     rule(sofar, Row::Rel1)?;
-    Ok(Some(Related { event, places }))
+    Ok(Some(Related {
+        event,
+        choices,
+        number,
+    }))
 }
 
-/// The event with the means that are chosen for it.
-pub fn appl_pl(
+/// The event with the first of its plans whose context is found.
+pub fn appl_pl<B: BeliefBase, A: Actions>(
     alloc: Global,
-    c: &Config,
+    k: &Around<A>,
+    p: &mut Parts<B>,
     sofar: &mut Sofar,
     related: Related,
 ) -> Result<Applied, Starved>
-    ensures { IfOk result (Made (spec.appl_pl c.now related) c.now sofar.old sofar.new) }
+    requires { p.old.number + k.now.budgets.tries < 2 ^ 64 - 1 }
+    ensures made { let e = around k.now.lib.plans (B.rules p.old.beliefs) (A.solve k.now.actions) k.now.budgets in
+        let old = parts (B.beliefs p.old.beliefs) p.old.agenda p.old.number in
+        let new = parts (B.beliefs p.new.beliefs) p.new.agenda p.new.number in
+        IfOk result (Wrought (spec.appl_pl e old related) new sofar.old sofar.new) }
+    ensures beliefs { p.new.beliefs ≡ p.old.beliefs }
+    ensures number { p.new.number ≡ p.old.number }
+    ensures next { IfOk result (AppliedAtMost (p.old.number + k.now.budgets.tries)) }
 {
-    let Related { event, places } = related;
-    match choose(alloc, &c.plans, places.as_slice())? {
-        Chosen::Plan(means) => {
+    let Related {
+        event,
+        choices,
+        number,
+    } = related;
+    match choose(alloc, k, p, number, choices.as_slice())? {
+        Chosen::Plan(means, subst, next) => {
             rule(sofar, Row::Appl1)?;
-            Ok(Applied::Plan(Intended { event, means }))
+            Ok(Applied::Plan(Intended {
+                event,
+                means,
+                subst,
+                next,
+            }))
         }
         Chosen::Nothing => {
-            no_plan(
-                sofar,
-                Row::Appl3,
-                error_of(event.error, Error::NoApplicable),
-            )?;
+            let rows = (Row::Appl2, Row::Appl3);
+            drop_or_fail(alloc, k, p, sofar, rows, event, Error::NoApplicable)?;
             Ok(Applied::Nothing)
+        }
+        Chosen::Spent(spent) => {
+            rule(sofar, Row::ApplSpent)?;
+            sofar.lines.push(Line::Spent(spent))?;
+            Ok(Applied::Spent)
         }
     }
 }
 
-/// The means go on top of the event's stack, which runs.
-pub fn add_im(c: &mut Config, sofar: &mut Sofar, intended: Intended) -> Result<(), Starved>
-    ensures made { IfOk result (Made (spec.add_im c.old intended) c.new sofar.old sofar.new) }
-    ensures number { c.new.number ≡ c.old.number }
+/// The counter becomes the next fresh number of the solution.
+pub fn sel_appl<B: BeliefBase>(
+    p: &mut Parts<B>,
+    sofar: &mut Sofar,
+    intended: &Intended,
+) -> Result<(), Starved>
+    ensures made { let old = parts (B.beliefs p.old.beliefs) p.old.agenda p.old.number in
+        let new = parts (B.beliefs p.new.beliefs) p.new.agenda p.new.number in
+        OnOk result (Wrought (spec.sel_appl old intended.now) new sofar.old sofar.new (tt {0})) }
+    ensures beliefs { p.new.beliefs ≡ p.old.beliefs }
+    ensures number { p.new.number ≡ intended.now.next }
 {
-    let Intended { event, means } = intended;
+    p.number = intended.next;
+    rule(sofar, Row::SelAppl)
+}
+
+/// The means, with their solution, go on top of the event's stack, which runs.
+pub fn add_im<B: BeliefBase>(
+    p: &mut Parts<B>,
+    sofar: &mut Sofar,
+    intended: Intended,
+) -> Result<(), Starved>
+    ensures made { let old = parts (B.beliefs p.old.beliefs) p.old.agenda p.old.number in
+        let new = parts (B.beliefs p.new.beliefs) p.new.agenda p.new.number in
+        OnOk result (Wrought (spec.add_im old intended) new sofar.old sofar.new (tt {0})) }
+    ensures beliefs { p.new.beliefs ≡ p.old.beliefs }
+    ensures number { p.new.number ≡ p.old.number }
+{
+    let Intended {
+        event,
+        means,
+        subst,
+        next: _,
+    } = intended;
     let Event {
         trigger: _,
         stack,
@@ -118,8 +318,8 @@ pub fn add_im(c: &mut Config, sofar: &mut Sofar, intended: Intended) -> Result<(
     } = event;
     let external = stack.len() == 0;
     let mut stack = stack;
-    stack.put(means)?;
-    c.agenda.running.push(stack)?;
+    stack.push(means, &subst)?;
+    p.agenda.running.push(stack)?;
     if external {
         return rule(sofar, Row::ExtEv);
     }
@@ -127,11 +327,14 @@ pub fn add_im(c: &mut Config, sofar: &mut Sofar, intended: Intended) -> Result<(
 }
 
 /// The first of the stacks that run.
-pub fn sel_int(c: &mut Config, sofar: &mut Sofar) -> Result<Option<Stack>, Starved>
-    ensures made { IfOk result (Made (spec.sel_int c.old) c.new sofar.old sofar.new) }
-    ensures number { c.new.number ≡ c.old.number }
+pub fn sel_int<B: BeliefBase>(p: &mut Parts<B>, sofar: &mut Sofar) -> Result<Option<Stack>, Starved>
+    ensures made { let old = parts (B.beliefs p.old.beliefs) p.old.agenda p.old.number in
+        let new = parts (B.beliefs p.new.beliefs) p.new.agenda p.new.number in
+        IfOk result (Wrought (spec.sel_int old) new sofar.old sofar.new) }
+    ensures beliefs { p.new.beliefs ≡ p.old.beliefs }
+    ensures number { p.new.number ≡ p.old.number }
 {
-    match c.agenda.running.remove(0) {
+    match p.agenda.running.remove(0) {
         Some(stack) => {
             rule(sofar, Row::SelInt1)?;
             Ok(Some(stack))
@@ -143,37 +346,117 @@ pub fn sel_int(c: &mut Config, sofar: &mut Sofar) -> Result<Option<Stack>, Starv
     }
 }
 
-/// Puts the lines of what a row did last.
-fn put_went(sofar: &mut Sofar, went: Went) -> Result<(), Starved>
-    ensures { OnOk result (sofar.new ≡ record sofar.old { lines = sofar.old.lines ++ line.Rule (spec.row_of went) ∷ spec.lines_of went }) }
+fn after_row(row: Row) -> After
+    ensures { result ≡ spec.after_row row }
+{
+    match row {
+        Row::Exec0
+        | Row::AchvNew
+        | Row::TestGl1
+        | Row::AddBel
+        | Row::DelBel
+        | Row::RepBel
+        | Row::RelYes
+        | Row::IaOk
+        | Row::ClrInt2 => After::Clears,
+        _ => After::Ends,
+    }
+}
+
+/// Puts the lines of what a row did last, and says where it leads.
+fn put_went(alloc: Global, sofar: &mut Sofar, went: Went) -> Result<After, Starved>
+    ensures lines { OnOk result (sofar.new ≡ record sofar.old { lines = sofar.old.lines ++ line.Rule (spec.row_of went) ∷ spec.lines_of went }) }
+    ensures leads { IfOk result (λ a. a ≡ spec.after_of went) }
 {
     match went {
-        Went::Row(row) => rule(sofar, row),
+        Went::Row(row) => {
+            rule(sofar, row)?;
+            Ok(after_row(row))
+        }
         Went::Say(text) => {
             rule(sofar, Row::IaOk)?;
-            sofar.lines.push(Line::Say(text))
+            sofar.lines.push(Line::Say(text))?;
+            Ok(After::Clears)
+        }
+        Went::Action(action) => {
+            rule(sofar, Row::Action)?;
+            sofar.lines.push(Line::Does(copy_literal(alloc, &action)?))?;
+            Ok(After::Acts(action))
+        }
+        Went::Outer(_) => {
+            rule(sofar, Row::IaFail)?;
+            Ok(After::Ends)
+        }
+        Went::Failed { row, fall } => {
+            rule(sofar, row)?;
+            put_fall(&mut sofar.lines, fall.error, fall.fell)?;
+            Ok(After::Ends)
+        }
+        Went::Spent { row, spent } => {
+            rule(sofar, row)?;
+            sofar.lines.push(Line::Spent(spent))?;
+            Ok(After::Spends)
         }
     }
 }
 
-/// The first formula of the current stack, which then goes on to Clr.
-pub fn exec_step(
+/// What a row did, where the internal actions that are to come have no solution.
+fn undone<B: BeliefBase, A: Actions>(
     alloc: Global,
-    c: &Config,
-    sofar: &mut Sofar,
+    k: &Around<A>,
+    p: &mut Parts<B>,
     cur: &mut Stack,
-) -> Result<(), Starved>
-    ensures { OnOk result (Made (spec.exec_step c.now cur.old) c.now sofar.old sofar.new cur.new) }
+    went: Went,
+) -> Result<Went, Starved>
+    ensures made { let e = around k.now.lib.plans (B.rules p.old.beliefs) (A.solve k.now.actions) k.now.budgets in
+        let old = parts (B.beliefs p.old.beliefs) p.old.agenda p.old.number in
+        let new = parts (B.beliefs p.new.beliefs) p.new.agenda p.new.number in
+        IfOk result (λ w. spec.undone e (made old cur.old went) went ≡ made new cur.new w) }
+    ensures beliefs { p.new.beliefs ≡ p.old.beliefs }
+    ensures number { p.new.number ≡ p.old.number }
 {
-    let went = exec(alloc, cur)?;
-    put_went(sofar, went)
+    match went {
+        Went::Outer(_) => fails_as(alloc, k, p, cur, Row::IaFail, Error::IaFailed),
+        other => Ok(other),
+    }
 }
 
-/// The current stack after a formula.
-pub fn clear_step(c: &mut Config, sofar: &mut Sofar, cur: Stack) -> Result<(), Starved>
-    ensures made { IfOk result (Made (spec.clear_step c.old cur) c.new sofar.old sofar.new) }
-    ensures number { c.new.number ≡ c.old.number }
+/// The row for the first formula of the current stack. The counter rises by `tries` at most.
+pub fn exec_step<B: BeliefBase, A: Actions>(
+    alloc: Global,
+    k: &Around<A>,
+    p: &mut Parts<B>,
+    sofar: &mut Sofar,
+    cur: &mut Stack,
+) -> Result<After, Starved>
+    requires { p.old.number + k.now.budgets.tries < 2 ^ 64 - 1 }
+    ensures made { let e = around k.now.lib.plans (B.rules p.old.beliefs) (A.solve k.now.actions) k.now.budgets in
+        let old = parts (B.beliefs p.old.beliefs) p.old.agenda p.old.number in
+        let new = parts (B.beliefs p.new.beliefs) p.new.agenda p.new.number in
+        IfOk result (λ a. Wrought (spec.exec_step e old cur.old) new sofar.old sofar.new (spec.onward cur.new a)) }
+    ensures rules { B.rules p.new.beliefs ≡ B.rules p.old.beliefs }
+    ensures number { p.new.number ≤ p.old.number + k.now.budgets.tries }
 {
-    let row = clear(&mut c.agenda, cur)?;
-    rule(sofar, row)
+    let tried = exec(alloc, k, p, cur)?;
+    let went = undone(alloc, k, p, cur, tried)?;
+    put_went(alloc, sofar, went)
+}
+
+/// The row for the current stack after a formula.
+pub fn clear_step<B: BeliefBase, A: Actions>(
+    alloc: Global,
+    k: &Around<A>,
+    p: &mut Parts<B>,
+    sofar: &mut Sofar,
+    cur: &mut Stack,
+) -> Result<After, Starved>
+    ensures made { let e = around k.now.lib.plans (B.rules p.old.beliefs) (A.solve k.now.actions) k.now.budgets in
+        let old = parts (B.beliefs p.old.beliefs) p.old.agenda p.old.number in
+        let new = parts (B.beliefs p.new.beliefs) p.new.agenda p.new.number in
+        IfOk result (λ a. Wrought (spec.clear_step e old cur.old) new sofar.old sofar.new (spec.onward cur.new a)) }
+    ensures beliefs { p.new.beliefs ≡ p.old.beliefs }
+    ensures number { p.new.number ≡ p.old.number }
+{
+    let went = clear(alloc, k, p, cur)?;
+    put_went(alloc, sofar, went)
 }

@@ -3,9 +3,13 @@
 ghost use Rattle.std.specs.Prelude.{◌≡◌, ◌++◌, OnOk};
 ghost use Rattle.asl_term.specs.Exprs.{literal_text};
 ghost use Rattle.asl_cycle.specs.Trace as spec;
+ghost use Rattle.asl_fail.specs.Fails as errors;
 
 use crate::mind::{Level, verb_text};
-use crate::rows::{Error, Line, Mail, Row, Spent};
+use crate::rows::{Line, Mail};
+use asl_exec::rows::Row;
+use asl_intend::agenda::Error;
+use asl_resolve::answers::Spent;
 use asl_term::printing::{write, write_number};
 use asl_term::printing_expr::write_literal;
 use asl_term::sequence::Starved;
@@ -79,7 +83,7 @@ fn row_name(row: Row) -> &'static [u8]
 }
 
 fn error_name(error: Error) -> &'static [u8]
-    ensures { result.now ≡ spec.error_name error }
+    ensures { result.now ≡ errors.error_name error }
 {
     match error {
         Error::NoRelevant => b"no_relevant",

@@ -3,71 +3,124 @@
 ghost use Rattle.std.specs.Prelude.{◌≤◌};
 ghost use Rattle.mas_top.specs.Limits.{IsWithin};
 
+use asl_term::sequence::{Seq, Starved};
 use asl_term::syntax::{Files, Numbers, Text};
 use mas_top::options::Options;
+use std::alloc::Global;
+
+/// A line of a file: its number, from 1, its first word, and what stands behind the blank that ends this word.
+#[derive(Clone, Copy)]
+pub struct Line<'a> {
+    pub number: u64,
+    pub word: &'a [u8],
+    pub rest: &'a [u8],
+}
+
+/// What stands under a key: the number of its line, what stands there behind the key, and the lines of its text.
+#[derive(Clone, Copy)]
+pub struct Entry<'a> {
+    pub number: u64,
+    pub rest: &'a [u8],
+    pub pieces: &'a [Line<'a>],
+}
+
+/// A case, or a refused file: the number of the line that begins it and names it, and the lines behind it.
+#[derive(Clone, Copy)]
+pub struct Section<'a> {
+    pub number: u64,
+    pub is_case: bool,
+    pub name: &'a [u8],
+    pub body: &'a [Line<'a>],
+}
+
+/// Why a file of cases can't be read, and its line; 0 where it is the fault of no line.
+#[derive(Clone, Copy)]
+pub struct Fault {
+    pub line: u64,
+    pub what: &'static str,
+}
+
+impl From<Starved> for Fault {
+    fn from(_starved: Starved) -> Fault {
+        Fault {
+            line: 0,
+            what: "memory",
+        }
+    }
+}
 
 /// Options within their limits.
-#[derive(Clone, Copy, Debug)]
+#[derive(Clone, Copy)]
 pub struct Permitted {
     pub options: Options,
     ghost within: { IsWithin options },
 }
 
-/// The call of a case: by words, or of a project by its name and options.
-#[derive(Drop)]
-pub enum Ask {
-    Words(Vec<String>),
-    Project(Text, Permitted),
+/// A place of what is wanted: a line of the output, or the line of a number among those that stand in order.
+#[derive(Clone, Copy)]
+pub enum Place {
+    Status,
+    Fault,
+    Line(u64),
+    InOrder(u64),
 }
 
-/// The files of the shelf, which calls of shelf and sink fail, the most bytes a put takes, and the free places
-/// of the sink.
+/// What the output has to be: the wanted text; sections of agents; or one that has the wanted lines in order.
+#[derive(Clone, Copy)]
+pub enum Mode {
+    Whole,
+    Agents,
+    InOrder,
+}
+
+/// What a case says in numbers and words: the most bytes a put takes, the free places of the sink, the status,
+/// whether it is the call of a project, and the place, if any, at which the call has to differ first.
+#[derive(Clone, Copy)]
+pub struct Plain {
+    pub short: u64,
+    pub room: u64,
+    pub status: u64,
+    pub is_project: bool,
+    pub permitted: Permitted,
+    pub mode: Mode,
+    pub differs: Option<Place>,
+    ghost some: { 1 ≤ short },
+}
+
+/// The files of the shelf, which calls of shelf and sink fail, the words, and the name of the project.
 #[derive(Drop)]
 pub struct Given {
     pub files: Files,
     pub shelf_fails: Numbers,
     pub sink_fails: Numbers,
-    pub short: u64,
-    pub room: u64,
-    ghost some: { 1 ≤ short },
+    pub words: Vec<String>,
+    pub project: Text,
 }
 
-/// What the output has to be: these bytes; these sections of agents; or one that has these lines in this order.
-#[derive(Drop)]
-pub enum Output {
-    Whole(Text),
-    Agents(Text),
-    InOrder(Vec<String>),
+impl Given {
+    pub fn new(alloc: Global) -> Given {
+        Given {
+            files: Seq::new(alloc),
+            shelf_fails: Seq::new(alloc),
+            sink_fails: Seq::new(alloc),
+            words: Vec::new(alloc),
+            project: Seq::new(alloc),
+        }
+    }
 }
 
-/// The status by its code, the fault line without its line feed, and the output.
+/// The fault line with its line feed, and what is wanted of the output.
 #[derive(Drop)]
 pub struct Wanted {
-    pub status: u64,
     pub fault: Text,
-    pub output: Output,
+    pub output: Text,
 }
 
-/// A case. Where `differs` names a place, the call has to differ from what is wanted, and there first.
-#[derive(Drop)]
-pub struct Case {
-    pub name: String,
-    pub given: Given,
-    pub ask: Ask,
-    pub wanted: Wanted,
-    pub differs: Option<String>,
-}
-
-/// The text of a file of cases that can't be read, and the message that tells why.
-#[derive(Drop)]
-pub struct Refused {
-    pub name: String,
-    pub file: String,
-    pub message: String,
-}
-
-#[derive(Drop)]
-pub struct CaseFile {
-    pub cases: Vec<Case>,
-    pub refused: Vec<Refused>,
+impl Wanted {
+    pub fn new(alloc: Global) -> Wanted {
+        Wanted {
+            fault: Seq::new(alloc),
+            output: Seq::new(alloc),
+        }
+    }
 }

@@ -1,309 +1,348 @@
-//! Cases from the text of a file.
+//! Cases from the lines of a file.
 
-ghost use Rattle.std.specs.Prelude.{◌≡◌};
+ghost use Rattle.std.specs.Prelude.{◌≡◌, ◌≢◌, ◌++◌, ◌∷◌, [], OnOk};
 
-use crate::comparing::line_number;
-use crate::fields::{
-    calls_at, check_keys, needed_string, number_at, starved, string_at, strings_at, tables_at,
-    text_at,
+use crate::form::{Entry, Fault, Given, Line, Mode, Permitted, Place, Plain, Section, Wanted};
+use crate::lines::{
+    check_case, check_name, check_refused, entry_at, fault_at, find, has_word, is_feed, is_head,
+    line_of, section_at,
 };
-use crate::form::{Ask, Case, CaseFile, Given, Output, Permitted, Refused, Wanted};
-use anyhow::{Context, Result, bail, ensure};
+use crate::values::{
+    calls_into, lines_into, number, number_at, put_named, put_pieces, text_at, text_into,
+};
 use asl_cycle::mind::Level;
 use asl_term::copying::text_of;
-use asl_term::sequence::Seq;
+use asl_term::sequence::{Seq, Starved};
 use asl_term::syntax::{Filed, Files, Text};
 use mas_top::options::Options;
-use std::alloc::{AllocError, Global};
-use toml::{Table, Value};
+use std::alloc::Global;
 
 /// The name of the file that `source` makes.
 const SOURCE_NAME: &str = "a.asl";
 
-const CASE_KEYS: [&str; 18] = [
-    "name",
-    "source",
-    "files",
-    "words",
-    "project",
-    "options",
-    "shelf_fails",
-    "sink_fails",
-    "short",
-    "room",
-    "status",
-    "fault",
-    "output",
-    "trace",
-    "turns",
-    "has",
-    "wrote",
-    "differs",
-];
+/// The keys of which each makes a case the call of a project.
+const PROJECT_KEYS: [&str; 6] = ["project", "cycles", "lead", "depth", "tries", "level"];
 
-fn level_of(alloc: Global, table: &Table) -> Result<Level> {
-    let Some(word) = string_at(alloc, table, "level")? else {
+fn level_of(section: &Section<'_>) -> Result<Level, Fault> {
+    let Some(entry) = find(section, "level") else {
         return Ok(Level::Acts);
     };
-    match word.as_str() {
-        "say" => Ok(Level::Say),
-        "acts" => Ok(Level::Acts),
-        "rules" => Ok(Level::Rules),
-        other => bail!("unknown level {other}"),
+    if entry.rest == b"say".as_slice() {
+        Ok(Level::Say)
+    } else if entry.rest == b"acts".as_slice() {
+        Ok(Level::Acts)
+    } else if entry.rest == b"rules".as_slice() {
+        Ok(Level::Rules)
+    } else {
+        Err(fault_at(entry.number, "unknown level"))
     }
 }
 
-/// The options in this table, and the usual ones for those that it leaves out.
-fn options_of(alloc: Global, table: &Table) -> Result<Permitted> {
-    check_keys(table, &["cycles", "lead", "depth", "tries", "level"])?;
+/// The options that the case has, and the usual ones for those that it leaves out.
+fn options_of(section: &Section<'_>) -> Result<Permitted, Fault> {
     let options = Options {
-        cycles: number_at(table, "cycles", 1, 1_000_000, 1000)?,
-        lead: number_at(table, "lead", 1, 1000, 8)?,
-        depth: number_at(table, "depth", 1, 10_000, 500)?,
-        tries: number_at(table, "tries", 1, 10_000_000, 100_000)?,
-        level: level_of(alloc, table)?,
+        cycles: number_at(section, "cycles", 1, 1_000_000, 1000)?,
+        lead: number_at(section, "lead", 1, 1000, 8)?,
+        depth: number_at(section, "depth", 1, 10_000, 500)?,
+        tries: number_at(section, "tries", 1, 10_000_000, 100_000)?,
+        level: level_of(section)?,
     };
     Ok(Permitted { options })
 }
 
-fn options_at(alloc: Global, table: &Table) -> Result<Permitted> {
-    match table.get("options") {
-        None => options_of(alloc, &Table::new(alloc)),
-        Some(Value::Table(inner)) => options_of(alloc, inner).context("options"),
-        Some(_) => bail!("options is no table"),
-    }
+fn put_word(alloc: Global, word: &str, words: &mut Vec<String>) -> Result<(), Starved> {
+    words.push(word.to_string(alloc)?)?;
+    Ok(())
 }
 
-fn usual_words(alloc: Global) -> Result<Vec<String>> {
-    let mut words = Vec::new(alloc);
-    words.push("run".to_string(alloc)?)?;
-    words.push(SOURCE_NAME.to_string(alloc)?)?;
-    Ok(words)
+fn without_feed(line: &[u8]) -> &[u8] {
+    line.split(is_feed).next().unwrap_or(line)
 }
 
-/// A call by words, or of a project where a project or options are named.
-fn ask_of(alloc: Global, table: &Table, permitted: Permitted) -> Result<Ask> {
-    let words = strings_at(alloc, table, "words")?;
-    if !table.contains_key("project") && !table.contains_key("options") {
-        return match words {
-            Some(words) => Ok(Ask::Words(words)),
-            None => Ok(Ask::Words(usual_words(alloc)?)),
-        };
-    }
-    ensure!(words.is_none(), "words stand beside project or options");
-    let name = match text_at(alloc, table, "project")? {
-        Some(name) => name,
-        None => text_of(alloc, SOURCE_NAME.as_bytes()).map_err(starved)?,
+/// The words of the command line: the lines under `words`, or the usual ones.
+fn words_into(alloc: Global, section: &Section<'_>, words: &mut Vec<String>) -> Result<(), Fault> {
+    let Some(entry) = find(section, "words") else {
+        put_word(alloc, "run", words)?;
+        put_word(alloc, SOURCE_NAME, words)?;
+        return Ok(());
     };
-    Ok(Ask::Project(name, permitted))
-}
-
-fn filed(alloc: Global, name: Option<Text>, bytes: Option<Text>) -> Result<Filed> {
-    let (Some(name), Some(bytes)) = (name, bytes) else {
-        bail!("a file has no name or no text");
-    };
-    Ok(Filed { name, bytes })
-}
-
-fn files_of(alloc: Global, table: &Table) -> Result<Files> {
-    let mut files = Seq::new(alloc);
-    if let Some(bytes) = text_at(alloc, table, "source")? {
-        let name = text_of(alloc, SOURCE_NAME.as_bytes()).map_err(starved)?;
-        files.push(Filed { name, bytes }).map_err(starved)?;
-    }
-    for inner in tables_at(alloc, table, "files")? {
-        check_keys(inner, &["name", "text"])?;
-        let name = text_at(alloc, inner, "name")?;
-        let bytes = text_at(alloc, inner, "text")?;
-        files.push(filed(alloc, name, bytes)?).map_err(starved)?;
-    }
-    Ok(files)
-}
-
-fn given_of(alloc: Global, table: &Table) -> Result<Given> {
-    Ok(Given {
-        files: files_of(alloc, table)?,
-        shelf_fails: calls_at(alloc, table, "shelf_fails")?,
-        sink_fails: calls_at(alloc, table, "sink_fails")?,
-        short: number_at(table, "short", 1, 1_000_000, 1_000_000)?,
-        room: number_at(table, "room", 0, 10_000_000, 100_000)?,
-    })
-}
-
-fn level_word(level: Level) -> &'static str {
-    match level {
-        Level::Say => "say",
-        Level::Acts => "acts",
-        Level::Rules => "rules",
-    }
-}
-
-/// The second line of a report.
-fn options_line(alloc: Global, o: &Options) -> Result<String, AllocError> {
-    let (cycles, lead, depth, tries) = (o.cycles, o.lead, o.depth, o.tries);
-    let level = level_word(o.level);
-    format!(in alloc; "cycles {cycles} lead {lead} depth {depth} tries {tries} level {level}\n")
-}
-
-fn put_line(out: &mut Text, line: &str) -> Result<()> {
-    out.append(line.as_bytes()).map_err(starved)?;
-    out.push(b'\n').map_err(starved)
-}
-
-fn lines_text(alloc: Global, lines: &[String]) -> Result<Text> {
     let mut text = Seq::new(alloc);
-    for line in lines {
-        put_line(&mut text, line.as_str())?;
+    lines_into(&entry, &mut text)?;
+    for line in text.as_slice().split_inclusive(is_feed) {
+        match std::str::from_utf8(without_feed(line)) {
+            Ok(word) => put_word(alloc, word, words)?,
+            Err(_) => return Err(fault_at(entry.number, "a word is no text")),
+        }
     }
-    Ok(text)
+    Ok(())
 }
 
-/// The report of a run of one agent: its options, the lines of the agent, and its turns.
-fn report_of(alloc: Global, o: &Options, trace: &[String], turns: u64) -> Result<Text> {
-    let mut report = text_of(alloc, b"jasonrun 1\n").map_err(starved)?;
-    report
-        .append(options_line(alloc, o)?.as_bytes())
-        .map_err(starved)?;
-    report
-        .append(lines_text(alloc, trace)?.as_slice())
-        .map_err(starved)?;
-    let schedule = format!(in alloc; "world\nmail\nschedule {turns}\n1")?;
-    report.append(schedule.as_bytes()).map_err(starved)?;
-    for _ in 1..turns {
-        report.append(b" 1").map_err(starved)?;
+fn is_of_project(section: &Section<'_>) -> bool {
+    for key in &PROJECT_KEYS {
+        if has_word(section.body, key.as_bytes()) {
+            return true;
+        }
     }
-    report.push(b'\n').map_err(starved)?;
-    Ok(report)
+    false
+}
+
+/// Whether the case is the call of a project, with its words or its name.
+fn ask_into(alloc: Global, section: &Section<'_>, given: &mut Given) -> Result<bool, Fault> {
+    if !is_of_project(section) {
+        words_into(alloc, section, &mut given.words)?;
+        return Ok(false);
+    }
+    if let Some(entry) = find(section, "words") {
+        return Err(fault_at(entry.number, "words stand beside project or options"));
+    }
+    if find(section, "project").is_none() {
+        given.project.append(SOURCE_NAME.as_bytes())?;
+    }
+    text_at(section, "project", &mut given.project)?;
+    Ok(true)
+}
+
+/// What a file holds that has a name of its own, and this name.
+fn file_into<'a>(entry: &Entry<'a>, bytes: &mut Text) -> Result<&'a [u8], Fault> {
+    if entry.rest.is_empty() {
+        return Err(fault_at(entry.number, "a file has no name"));
+    }
+    put_pieces(entry.pieces, bytes)?;
+    Ok(entry.rest)
+}
+
+fn put_file(alloc: Global, entry: &Entry<'_>, files: &mut Files) -> Result<(), Fault> {
+    let mut bytes = Seq::new(alloc);
+    let name = file_into(entry, &mut bytes)?;
+    let name = text_of(alloc, name)?;
+    files.push(Filed { name, bytes })?;
+    Ok(())
+}
+
+fn put_source(alloc: Global, entry: &Entry<'_>, files: &mut Files) -> Result<(), Fault> {
+    let mut bytes = Seq::new(alloc);
+    text_into(entry, &mut bytes)?;
+    let name = text_of(alloc, SOURCE_NAME.as_bytes())?;
+    files.push(Filed { name, bytes })?;
+    Ok(())
+}
+
+/// The files of the shelf in the order in which they stand.
+fn files_into(alloc: Global, section: &Section<'_>, files: &mut Files) -> Result<(), Fault> {
+    let lines = section.body;
+    for at in 0..lines.len() {
+        if lines[at].word == b"source".as_slice() {
+            put_source(alloc, &entry_at(lines, at), files)?;
+        } else if lines[at].word == b"file".as_slice() {
+            put_file(alloc, &entry_at(lines, at), files)?;
+        }
+    }
+    Ok(())
+}
+
+fn put_level(level: &Level, out: &mut Text) -> Result<(), Starved> {
+    match level {
+        Level::Say => out.append(b" level say\n"),
+        Level::Acts => out.append(b" level acts\n"),
+        Level::Rules => out.append(b" level rules\n"),
+    }
+}
+
+/// The first two lines of a report.
+fn put_front(alloc: Global, o: &Options, out: &mut Text) -> Result<(), Starved> {
+    put_named(alloc, "jasonrun 1\ncycles ", o.cycles, out)?;
+    put_named(alloc, " lead ", o.lead, out)?;
+    put_named(alloc, " depth ", o.depth, out)?;
+    put_named(alloc, " tries ", o.tries, out)?;
+    put_level(&o.level, out)
+}
+
+/// The last lines of the report of one agent that has so many turns.
+fn put_end(alloc: Global, turns: u64, out: &mut Text) -> Result<(), Starved> {
+    put_named(alloc, "world\nmail\nschedule ", turns, out)?;
+    out.append(b"\n1")?;
+    for _ in 1..turns {
+        out.append(b" 1")?;
+    }
+    out.push(b'\n')
 }
 
 /// The lines under `trace`, as a whole report where its turns are told.
-fn traced(alloc: Global, table: &Table, o: &Options, trace: &[String]) -> Result<Output> {
-    if !table.contains_key("turns") {
-        return Ok(Output::Agents(lines_text(alloc, trace)?));
-    }
-    let turns = number_at(table, "turns", 1, 5_000_000, 1)?;
-    Ok(Output::Whole(report_of(alloc, o, trace, turns)?))
+fn trace_into(
+    alloc: Global,
+    section: &Section<'_>,
+    trace: &Entry<'_>,
+    o: &Options,
+    out: &mut Text,
+) -> Result<Mode, Fault> {
+    let Some(entry) = find(section, "turns") else {
+        lines_into(trace, out)?;
+        return Ok(Mode::Agents);
+    };
+    let turns = number(entry.number, entry.rest, 1, 5_000_000)?;
+    put_front(alloc, o, out)?;
+    lines_into(trace, out)?;
+    put_end(alloc, turns, out)?;
+    Ok(Mode::Whole)
 }
 
-/// How many of these keys stand in the table.
-fn count_keys(table: &Table, keys: &[&str]) -> usize {
-    keys.iter().filter(|key| table.contains_key(**key)).count()
+/// The lines under `has`, of which there is one.
+fn has_into(has: &Entry<'_>, out: &mut Text) -> Result<Mode, Fault> {
+    lines_into(has, out)?;
+    if out.len() == 0 {
+        return Err(fault_at(has.number, "no line stands behind this one"));
+    }
+    Ok(Mode::InOrder)
 }
 
-fn full_output(alloc: Global, table: &Table, o: &Options) -> Result<Output> {
-    if let Some(trace) = strings_at(alloc, table, "trace")? {
-        return traced(alloc, table, o, trace.as_slice());
-    }
-    ensure!(!table.contains_key("turns"), "turns stand without trace");
-    if let Some(lines) = strings_at(alloc, table, "has")? {
-        return Ok(Output::InOrder(lines));
-    }
-    match text_at(alloc, table, "output")? {
-        Some(text) => Ok(Output::Whole(text)),
-        None => Ok(Output::Whole(Seq::new(alloc))),
+fn full_output(
+    alloc: Global,
+    section: &Section<'_>,
+    o: &Options,
+    out: &mut Text,
+) -> Result<Mode, Fault> {
+    match (
+        find(section, "trace"),
+        find(section, "has"),
+        find(section, "output"),
+    ) {
+        (Some(trace), None, None) => trace_into(alloc, section, &trace, o, out),
+        (None, Some(has), None) => has_into(&has, out),
+        (None, None, Some(output)) => {
+            text_into(&output, out)?;
+            Ok(Mode::Whole)
+        }
+        (None, None, None) => Ok(Mode::Whole),
+        _ => Err(fault_at(
+            section.number,
+            "it has more than one of trace, has and output",
+        )),
     }
 }
 
 /// The output, cut where `wrote` tells how many of its bytes were written.
-fn output_of(alloc: Global, table: &Table, o: &Options) -> Result<Output> {
-    let forms = count_keys(table, &["trace", "has", "output"]);
-    ensure!(forms <= 1, "more than one of trace, has and output");
-    let output = full_output(alloc, table, o)?;
-    if !table.contains_key("wrote") {
-        return Ok(output);
-    }
-    let Output::Whole(mut text) = output else {
-        bail!("wrote stands without a whole output");
-    };
-    let wrote = number_at(table, "wrote", 0, text.len(), 0)?;
-    text.truncate(wrote);
-    Ok(Output::Whole(text))
-}
-
-fn wanted_of(alloc: Global, table: &Table, o: &Options) -> Result<Wanted> {
-    Ok(Wanted {
-        status: number_at(table, "status", 0, 255, 0)?,
-        fault: text_at(alloc, table, "fault")?.unwrap_or(Seq::new(alloc)),
-        output: output_of(alloc, table, o)?,
-    })
-}
-
-fn case_of(alloc: Global, table: &Table) -> Result<Case> {
-    check_keys(table, &CASE_KEYS)?;
-    let permitted = options_at(alloc, table)?;
-    Ok(Case {
-        name: needed_string(alloc, table, "name")?,
-        given: given_of(alloc, table)?,
-        ask: ask_of(alloc, table, permitted)?,
-        wanted: wanted_of(alloc, table, &permitted.options)?,
-        differs: string_at(alloc, table, "differs")?,
-    })
-}
-
-fn refused_of(alloc: Global, table: &Table) -> Result<Refused> {
-    check_keys(table, &["name", "file", "message"])?;
-    Ok(Refused {
-        name: needed_string(alloc, table, "name")?,
-        file: needed_string(alloc, table, "file")?,
-        message: needed_string(alloc, table, "message")?,
-    })
-}
-
-/// Whether a name stands among the cases and refused files so far.
-fn is_taken(file: &CaseFile, name: &str) -> bool {
-    file.cases.iter().any(|case| case.name.as_str() == name)
-        || file
-            .refused
-            .iter()
-            .any(|refused| refused.name.as_str() == name)
-}
-
-fn add_case(alloc: Global, table: &Table, file: &mut CaseFile) -> Result<()> {
-    let case = case_of(alloc, table)?;
-    let name = case.name.as_str();
-    ensure!(!is_taken(file, name), "the name {name} stands twice");
-    file.cases.push(case)?;
-    Ok(())
-}
-
-fn add_refused(alloc: Global, table: &Table, file: &mut CaseFile) -> Result<()> {
-    let refused = refused_of(alloc, table)?;
-    let name = refused.name.as_str();
-    ensure!(!is_taken(file, name), "the name {name} stands twice");
-    file.refused.push(refused)?;
-    Ok(())
-}
-
-fn table_of(alloc: Global, text: &str) -> Result<Table> {
-    match toml::table_from_str(alloc, text) {
-        Ok(table) => Ok(table),
-        Err(error) => {
-            let place = error.span().map_or(0, |span| span.start);
-            let line = line_number(text.as_bytes(), place);
-            bail!("line {line}: {}", error.message())
+fn output_into(
+    alloc: Global,
+    section: &Section<'_>,
+    o: &Options,
+    out: &mut Text,
+) -> Result<Mode, Fault> {
+    let mode = full_output(alloc, section, o, out)?;
+    if let Some(turns) = find(section, "turns") {
+        if find(section, "trace").is_none() {
+            return Err(fault_at(turns.number, "turns stand without trace"));
         }
     }
+    if let Some(wrote) = find(section, "wrote") {
+        let Mode::Whole = mode else {
+            return Err(fault_at(wrote.number, "wrote stands without a whole output"));
+        };
+        out.truncate(number(wrote.number, wrote.rest, 0, out.len())?);
+    }
+    Ok(mode)
 }
 
-/// The cases of a file, or the first fault with its place.
-pub fn read_file(alloc: Global, text: &str) -> Result<CaseFile> {
-    let table = table_of(alloc, text)?;
-    check_keys(&table, &["case", "refused"])?;
-    let mut file = CaseFile {
-        cases: Vec::new(alloc),
-        refused: Vec::new(alloc),
+/// Ends a fault line, where there is one.
+fn end_line(fault: &mut Text) -> Result<(), Starved>
+    ensures none { fault.old ≡ [] → OnOk result (fault.new ≡ []) }
+    ensures some { fault.old ≢ [] → OnOk result (fault.new ≡ fault.old ++ 10 ∷ []) }
+{
+    if fault.len() == 0 {
+        return Ok(());
+    }
+    fault.push(b'\n')
+}
+
+fn place_of(entry: &Entry<'_>) -> Result<Place, Fault> {
+    if entry.rest == b"status".as_slice() {
+        return Ok(Place::Status);
+    }
+    if entry.rest == b"fault".as_slice() {
+        return Ok(Place::Fault);
+    }
+    let named = line_of(entry.number, entry.rest);
+    if named.word == b"line".as_slice() {
+        return Ok(Place::Line(number(entry.number, named.rest, 1, 1_000_000_000)?));
+    }
+    if named.word == b"has".as_slice() {
+        return Ok(Place::InOrder(number(entry.number, named.rest, 1, 1_000_000_000)?));
+    }
+    Err(fault_at(entry.number, "unknown place"))
+}
+
+/// The place at which the call has to differ first, if any.
+fn differs_of(section: &Section<'_>) -> Result<Option<Place>, Fault> {
+    match find(section, "differs") {
+        None => Ok(None),
+        Some(entry) => Ok(Some(place_of(&entry)?)),
+    }
+}
+
+/// Reads a case.
+pub fn read_case(
+    alloc: Global,
+    section: &Section<'_>,
+    given: &mut Given,
+    wanted: &mut Wanted,
+) -> Result<Plain, Fault> {
+    check_case(section)?;
+    let permitted = options_of(section)?;
+    files_into(alloc, section, &mut given.files)?;
+    calls_into(section, "shelf_fails", &mut given.shelf_fails)?;
+    calls_into(section, "sink_fails", &mut given.sink_fails)?;
+    text_at(section, "fault", &mut wanted.fault)?;
+    end_line(&mut wanted.fault)?;
+    Ok(Plain {
+        short: number_at(section, "short", 1, 1_000_000, 1_000_000)?,
+        room: number_at(section, "room", 0, 10_000_000, 100_000)?,
+        status: number_at(section, "status", 0, 255, 0)?,
+        is_project: ask_into(alloc, section, given)?,
+        mode: output_into(alloc, section, &permitted.options, &mut wanted.output)?,
+        differs: differs_of(section)?,
+        permitted,
+    })
+}
+
+/// Reads the text of a file that has to be refused, and the message.
+pub fn read_refused(
+    section: &Section<'_>,
+    file: &mut Text,
+    message: &mut Text,
+) -> Result<(), Fault> {
+    check_refused(section)?;
+    if find(section, "text").is_none() || find(section, "message").is_none() {
+        return Err(fault_at(section.number, "it has no text or no message"));
+    }
+    text_at(section, "text", file)?;
+    text_at(section, "message", message)
+}
+
+fn check_section(alloc: Global, section: &Section<'_>) -> Result<(), Fault> {
+    if section.is_case {
+        let (mut given, mut wanted) = (Given::new(alloc), Wanted::new(alloc));
+        read_case(alloc, section, &mut given, &mut wanted)?;
+        return Ok(());
+    }
+    let (mut file, mut message) = (Seq::new(alloc), Seq::new(alloc));
+    read_refused(section, &mut file, &mut message)
+}
+
+/// The first fault of a file, if any.
+pub fn check_file(alloc: Global, lines: &[Line<'_>]) -> Result<(), Fault> {
+    let Some(first) = lines.first() else {
+        return Err(Fault {
+            line: 0,
+            what: "no case",
+        });
     };
-    let mut place = 0u64;
-    for inner in tables_at(alloc, &table, "case")? {
-        place = place.saturating_add(1);
-        add_case(alloc, inner, &mut file).context(format_args!("case {place}"))?;
+    if !is_head(first) {
+        return Err(fault_at(first.number, "no case stands before it"));
     }
-    let mut place = 0u64;
-    for inner in tables_at(alloc, &table, "refused")? {
-        place = place.saturating_add(1);
-        add_refused(alloc, inner, &mut file).context(format_args!("refused {place}"))?;
+    for at in 0..lines.len() {
+        if is_head(&lines[at]) {
+            check_name(&lines[..at], &lines[at])?;
+            check_section(alloc, &section_at(&*lines, at))?;
+        }
     }
-    let is_empty = file.cases.is_empty() && file.refused.is_empty();
-    ensure!(!is_empty, "no case");
-    Ok(file)
+    Ok(())
 }

@@ -1,118 +1,192 @@
 //! The call of a case, over a shelf and a sink in memory.
 
-ghost use Rattle.std.specs.Prelude.{◌≡◌, IfOk};
+ghost use Rattle.std.specs.Prelude.{◌≡◌, ◌≤◌, IfOk, OnOk};
 
-use crate::comparing::{Difference, Got, first_difference};
-use crate::fields::starved;
-use crate::form::{Ask, Case, Given, Refused};
-use crate::reading::read_file;
-use anyhow::Result;
+use crate::comparing::{Difference, Got, agent_lines, first_difference, passes};
+use crate::form::{Fault, Given, Mode, Place, Plain, Section, Wanted};
+use crate::lines::read_lines;
+use crate::reading::{check_file, read_case, read_refused};
+use crate::telling::{put_difference, put_fault, put_place};
 use asl_term::copying::text_of;
 use asl_term::room::Roomy;
-use mas_top::memory::{MemoryShelf, MemorySink, memory_shelf, memory_sink};
+use asl_term::sequence::{Seq, Starved};
+use asl_term::syntax::Text;
+use mas_io::memory::{MemoryShelf, MemorySink, memory_shelf, memory_sink};
 use mas_top::status::{Status, code, fault_line};
 use mas_top::top::{run_project, run_words};
-use std::alloc::{AllocError, Global};
+use std::alloc::Global;
 use std::sync::Wait;
 use std::thread::Threads;
 
+/// Takes free places with blanks, until so many are left.
+fn fill(room: &mut Roomy<u8>, places: u64) -> Result<(), Starved>
+    requires { places ≤ room.old.spare }
+    ensures { OnOk result (room.new.spare ≡ places) }
+{
+    'more: while room.spare() > places {
+        room.push(b' ')?;
+    }
+    Ok(())
+}
+
 /// A list of blanks with exactly so many free places behind it.
-fn room_of(alloc: Global, places: u64) -> Result<Roomy<u8>>
+fn room_of(alloc: Global, places: u64) -> Result<Roomy<u8>, Starved>
     ensures { IfOk result (λ r. r.spare ≡ places) }
 {
     let mut room = Roomy::new(alloc);
-    room.reserve(places).map_err(starved)?;
-    'more: while room.spare() > places {
-        room.push(b' ').map_err(starved)?;
-    }
+    room.reserve(places)?;
+    fill(&mut room, places)?;
     Ok(room)
 }
 
 fn call<R: Threads + Wait + Sync>(
     rt: &R,
     alloc: Global,
-    ask: &Ask,
+    plain: &Plain,
+    words: &[String],
+    project: &Text,
     shelf: &mut MemoryShelf,
     sink: &mut MemorySink,
 ) -> Status {
-    match ask {
-        Ask::Words(words) => run_words(rt, alloc, words.as_slice(), shelf, sink),
-        Ask::Project(name, permitted) => {
-            run_project(rt, alloc, &permitted.options, name, shelf, sink)
+    if plain.is_project {
+        run_project(rt, alloc, &plain.permitted.options, project, shelf, sink)
+    } else {
+        run_words(rt, alloc, words, shelf, sink)
+    }
+}
+
+/// What of the output is compared.
+fn shown_of(alloc: Global, mode: Mode, written: &[u8]) -> Result<Text, Starved> {
+    match mode {
+        Mode::Whole | Mode::InOrder => text_of(alloc, written),
+        Mode::Agents => {
+            let mut lines = Seq::new(alloc);
+            agent_lines(written, &mut lines)?;
+            Ok(lines)
         }
     }
 }
 
-fn run<R: Threads + Wait + Sync>(rt: &R, alloc: Global, given: Given, ask: &Ask) -> Result<Got> {
+/// Why a case has not passed: what differs, or that nothing does.
+fn put_reason(
+    alloc: Global,
+    plain: &Plain,
+    code: u64,
+    found: &Option<Difference<'_>>,
+    out: &mut Text,
+) -> Result<(), Starved> {
+    match (found, &plain.differs) {
+        (Some(difference), _) => put_difference(alloc, plain, code, difference, out),
+        (None, Some(place)) => {
+            out.append(b"does not differ at ")?;
+            put_place(alloc, place, out)
+        }
+        (None, None) => Ok(()),
+    }
+}
+
+fn place_of(found: &Option<Difference<'_>>) -> Option<Place> {
+    match found {
+        None => None,
+        Some(difference) => Some(difference.place),
+    }
+}
+
+/// Whether what came is what the case wants; if not, why, in `reason`.
+fn judge(
+    alloc: Global,
+    plain: &Plain,
+    wanted: &Wanted,
+    got: &Got<'_>,
+    reason: &mut Text,
+) -> Result<bool, Starved> {
+    let found = first_difference(plain, wanted, got);
+    if passes(&place_of(&found), &plain.differs) {
+        return Ok(true);
+    }
+    put_reason(alloc, plain, got.status, &found, reason)?;
+    Ok(false)
+}
+
+fn judge_end(
+    alloc: Global,
+    plain: &Plain,
+    wanted: &Wanted,
+    status: &Status,
+    written: &[u8],
+    reason: &mut Text,
+) -> Result<bool, Starved> {
+    let fault = fault_line(alloc, status)?;
+    let shown = shown_of(alloc, plain.mode, written)?;
+    let got = Got {
+        status: u64::from(code(status)),
+        fault: fault.as_slice(),
+        written: shown.as_slice(),
+    };
+    judge(alloc, plain, wanted, &got, reason)
+}
+
+fn run<R: Threads + Wait + Sync>(
+    rt: &R,
+    alloc: Global,
+    plain: &Plain,
+    given: Given,
+    wanted: &Wanted,
+    reason: &mut Text,
+) -> Result<bool, Starved> {
+    let room = room_of(alloc, plain.room)?;
+    let blanks = room.len() as usize;
     let Given {
         files,
         shelf_fails,
         sink_fails,
-        short,
-        room,
+        words,
+        project,
     } = given;
-    let room = room_of(alloc, room)?;
-    let blanks = room.len() as usize;
     let mut shelf = memory_shelf(files, shelf_fails);
-    let mut sink = memory_sink(room, short, sink_fails);
-    let status = call(rt, alloc, ask, &mut shelf, &mut sink);
+    let mut sink = memory_sink(room, plain.short, sink_fails);
+    let status = call(
+        rt,
+        alloc,
+        plain,
+        words.as_slice(),
+        &project,
+        &mut shelf,
+        &mut sink,
+    );
     let written = sink.written().get(blanks..).unwrap_or(&[]);
-    Ok(Got {
-        status: u64::from(code(&status)),
-        fault: fault_line(alloc, &status).map_err(starved)?,
-        written: text_of(alloc, written).map_err(starved)?,
-    })
+    judge_end(alloc, plain, wanted, &status, written, reason)
 }
 
-/// What became of a case or of a refused file: it passed, or the line that tells why not.
-#[derive(Drop)]
-pub enum Outcome {
-    Passed,
-    Failed(String),
-}
-
-fn told(alloc: Global, name: &str, difference: &Difference) -> Result<String, AllocError> {
-    let place = difference.place;
-    let wanted = difference.wanted.as_str();
-    let got = difference.got.as_str();
-    format!(in alloc; "{name}: {place}: wanted {wanted}, got {got}")
-}
-
-/// Runs a case. One that has to differ passes where it differs first at its place.
-pub fn run_case<R: Threads + Wait + Sync>(rt: &R, alloc: Global, case: Case) -> Result<Outcome> {
-    let Case {
-        name,
-        given,
-        ask,
-        wanted,
-        differs,
-    } = case;
-    let name = name.as_str();
-    let got = run(rt, alloc, given, &ask)?;
-    let difference = first_difference(alloc, &wanted, &got)?;
-    let failure = match (&difference, &differs) {
-        (None, None) => return Ok(Outcome::Passed),
-        (None, Some(place)) => format!(in alloc; "{name}: does not differ at {place}")?,
-        (Some(found), None) => told(alloc, name, found)?,
-        (Some(found), Some(place)) => {
-            if found.place.to_string(alloc)?.as_str() == place.as_str() {
-                return Ok(Outcome::Passed);
-            }
-            told(alloc, name, found)?
-        }
-    };
-    Ok(Outcome::Failed(failure))
-}
-
-/// Reads the text of a file that has to be refused with its message.
-pub fn run_refused(alloc: Global, refused: &Refused) -> Result<Outcome> {
-    let name = refused.name.as_str();
-    let message = match read_file(alloc, refused.file.as_str()) {
-        Ok(_) => "it can be read".to_string(alloc)?,
-        Err(error) => format!(in alloc; "{error:#}")?,
-    };
-    if message.as_str() == refused.message.as_str() {
-        return Ok(Outcome::Passed);
+/// Runs a case, and tells whether it passed; if not, why, in `reason`.
+pub fn run_case<R: Threads + Wait + Sync>(
+    rt: &R,
+    alloc: Global,
+    section: &Section<'_>,
+    reason: &mut Text,
+) -> Result<bool, Fault> {
+    let (mut given, mut wanted) = (Given::new(alloc), Wanted::new(alloc));
+    let plain = read_case(alloc, section, &mut given, &mut wanted)?;
+    match run(rt, alloc, &plain, given, &wanted, reason) {
+        Ok(is_passed) => Ok(is_passed),
+        Err(starved) => Err(Fault::from(starved)),
     }
-    Ok(Outcome::Failed(format!(in alloc; "{name}: {message}")?))
+}
+
+/// What is told of a file: why it is refused.
+fn put_refusal(alloc: Global, file: &[u8], out: &mut Text) -> Result<(), Starved> {
+    let mut lines = Vec::new(alloc);
+    read_lines(file, &mut lines)?;
+    match check_file(alloc, lines.as_slice()) {
+        Ok(()) => out.append(b"it can be read"),
+        Err(fault) => put_fault(alloc, &fault, out),
+    }
+}
+
+/// Reads the text of a file that has to be refused with its message; else what was told, in `reason`.
+pub fn run_refused(alloc: Global, section: &Section<'_>, reason: &mut Text) -> Result<bool, Fault> {
+    let (mut file, mut message) = (Seq::new(alloc), Seq::new(alloc));
+    read_refused(section, &mut file, &mut message)?;
+    put_refusal(alloc, file.as_slice(), reason)?;
+    Ok(reason.as_slice() == message.as_slice())
 }

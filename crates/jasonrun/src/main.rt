@@ -1,7 +1,7 @@
 //! Runs agents written in AgentSpeak and writes the report of their run.
 #![tactic(auto)]
 
-use mas_top::real::{FileShelf, OutSink};
+use mas_io::real::{FileShelf, OutSink};
 use mas_top::status::{Status, code, fault_line};
 use mas_top::top::run_words;
 use std::process::ExitCode;

@@ -5,7 +5,10 @@ use Rattle.asl_cycle.specs.declared.mind.End.{End}
 use Rattle.asl_cycle.specs.declared.mind.End.TheVariants.{Quiet, Cycles, Budget}
 use Rattle.asl_cycle.specs.declared.mind.Thought.{Thought}
 use Rattle.asl_cycle.specs.declared.mind.Thought.TheVariants.{Outs as Acts, Spent}
-use Rattle.asl_cycle.specs.Mind.{Cycled, Kind, no_input}
+use Rattle.asl_term.specs.declared.syntax.LiteralOf.{LiteralOf}
+use Rattle.asl_term.specs.declared.syntax.Term.{Term}
+use Rattle.asl_cycle.specs.declared.mind.Message.{Message}
+use Rattle.asl_cycle.specs.Mind.{Cycled, Kind, no_input, IsSilent}
 use Rattle.mas_top.specs.declared.board.Phase.TheVariants.{Idle, Busy, Left as Gone}
 use Rattle.mas_top.specs.declared.board.Seat.{Seat}
 use Rattle.mas_top.specs.State.{State, Left, sense, taken, gone_by, all_quiet, least, box_of, seat_at}
@@ -20,10 +23,6 @@ idle cycle mark kept = record { phase = Idle; cycle = cycle; mark = mark; kept =
 abbrev pub mark_if : Bool → Option ℕ
 mark_if true = Some 0
 mark_if false = None
-
--- the thought of a cycle that sends nothing
-abbrev pub thinks : Bool → Thought
-thinks quiet = Acts (record { action = None; messages = []; stop = false; quiet = quiet })
 
 pick : {X : Type 0} (b : Bool) (x y : X) → b ≡ true → (if b then x else y) ≡ x
 pick b x y e = ap (λ c. if c then x else y) e
@@ -69,17 +68,27 @@ module _ {V : Type 0} (k : Kind V) (name : List ℕ) (cycles lead : ℕ) where
   at_sense cycle kept m l p = ap (after_sense k (alone name cycles lead (idle cycle None kept) m None) 0) (sense-given (board_of name cycles lead (idle cycle None kept)) 0 (idle cycle None kept) (less-number cycle cycles l) refl refl (not-ahead lead cycle p))
 
   -- and its outs are used up
-  pub at_emit : (cycle : ℕ) (m : V) (quiet : Bool) →
-      turn k (alone name cycles lead (record { phase = Busy; cycle = cycle; mark = None; kept = 0 }) m (Some (thinks quiet))) 1 ≡
+  at_outs : (cycle : ℕ) (m : V) (action : Option (LiteralOf Term)) (quiet : Bool) →
+      turn k (alone name cycles lead (record { phase = Busy; cycle = cycle; mark = None; kept = 0 }) m (Some (Acts (record { action = action; messages = []; stop = false; quiet = quiet })))) 1 ≡
       Some (alone name cycles lead (idle cycle (mark_if quiet) 0) m None)
-  at_emit cycle m true = refl
-  at_emit cycle m false = refl
+  at_outs cycle m action true = refl
+  at_outs cycle m action false = refl
+
+  pub at_emit : (cycle : ℕ) (m : V) (t : Thought) (quiet : Bool) → IsSilent (Some quiet) t →
+      turn k (alone name cycles lead (record { phase = Busy; cycle = cycle; mark = None; kept = 0 }) m (Some t)) 1 ≡
+      Some (alone name cycles lead (idle cycle (mark_if quiet) 0) m None)
+  at_emit cycle m (Acts outs) quiet s =
+      let after : List Message → Bool → Bool → Option (Platform V) =
+      λ messages stop q. turn k (alone name cycles lead (record { phase = Busy; cycle = cycle; mark = None; kept = 0 }) m (Some (Acts (record { action = outs.action; messages = messages; stop = stop; quiet = q })))) 1 in
+      ap (λ x. after x outs.stop outs.quiet) s.0 ∙ ap (λ x. after [] x outs.quiet) s.1.0 ∙ ap (λ x. after [] false x) s.1.1 ∙ at_outs cycle m outs.action quiet
+  at_emit cycle m Spent quiet s = absurd s
 
   -- or it leaves, where its cycle was spent
-  pub at_spent : (cycle : ℕ) (m : V) →
-      turn k (alone name cycles lead (record { phase = Busy; cycle = cycle; mark = None; kept = 0 }) m (Some Spent)) 1 ≡
+  pub at_spent : (cycle : ℕ) (m : V) (t : Thought) → IsSilent None t →
+      turn k (alone name cycles lead (record { phase = Busy; cycle = cycle; mark = None; kept = 0 }) m (Some t)) 1 ≡
       Some (alone name cycles lead (record { phase = Gone Budget; cycle = cycle; mark = None; kept = 0 }) m None)
-  at_spent cycle m = refl
+  at_spent cycle m (Acts outs) s = absurd s
+  at_spent cycle m Spent s = refl
 
 -- a run goes on
 pub run-append : {V : Type 0} (k : Kind V) (p : Platform V) (names more : List ℕ) → run k p (names ++ more) ≡ and_run (λ q. run k q more) (run k p names)
@@ -125,16 +134,16 @@ module _ {V : Type 0} (k : Kind V) (name : List ℕ) (cycles lead : ℕ) where
   }
 
   -- a cycle of the agent: its Sense and its Emit
-  pub along_thinks : (first : Platform V) (cycle : ℕ) (m n : V) (quiet : Bool) (schedule : List ℕ) → 0 < lead → cycle < cycles →
-      k.cycle m no_input ≡ record { mind = n; thought = thinks quiet } →
+  pub along_thinks : (first : Platform V) (cycle : ℕ) (m n : V) (thought : Thought) (quiet : Bool) (schedule : List ℕ) → 0 < lead → cycle < cycles →
+      k.cycle m no_input ≡ record { mind = n; thought = thought } → IsSilent (Some quiet) thought →
       Along k name cycles lead first cycle false m schedule → Along k name cycles lead first (cycle + 1) quiet n ((schedule ++ 1 ∷ []) ++ 1 ∷ [])
-  along_thinks first cycle m n quiet schedule p l e a =
+  along_thinks first cycle m n thought quiet schedule p l e h a =
       let before = alone name cycles lead (idle cycle None 0) m None in
       let busy : Cycled V → Platform V = λ c. alone name cycles lead (record { phase = Busy; cycle = cycle + 1; mark = None; kept = 0 }) c.mind (Some c.thought) in
       let after = alone name cycles lead (idle (cycle + 1) (mark_if quiet) 0) n None in
-      let mid : Platform V = busy (record { mind = n; thought = thinks quiet }) in
+      let mid : Platform V = busy (record { mind = n; thought = thought }) in
       let s : turn k before 1 ≡ Some mid = at_sense k name cycles lead cycle 0 m l p ∙ ap (λ c. Some (busy c)) e in
-      let t : turn k mid 1 ≡ Some after = at_emit k name cycles lead (cycle + 1) n quiet in
+      let t : turn k mid 1 ≡ Some after = at_emit k name cycles lead (cycle + 1) n thought quiet h in
       let fuel = 2 * (cycles - (cycle + 1)) + 1 in
       let f : 2 * (cycles - cycle) + 1 ≡ suc (suc fuel) = omega arith in
       let q : robin (2 * (cycles - cycle) + 1) k before (0 ∷ []) ≡ 1 ∷ 1 ∷ robin fuel k after (0 ∷ []) =
@@ -176,16 +185,16 @@ module _ {V : Type 0} (k : Kind V) (name : List ℕ) (cycles lead : ℕ) where
   along_quiet first cycle m schedule l a = along_leaves first cycle true m Quiet schedule (at_quiet k name cycles lead cycle 0 m l) a
 
   -- it leaves after a spent cycle
-  pub along_spent : (first : Platform V) (cycle : ℕ) (m n : V) (schedule : List ℕ) → 0 < lead → cycle < cycles →
-      k.cycle m no_input ≡ record { mind = n; thought = Spent } →
+  pub along_spent : (first : Platform V) (cycle : ℕ) (m n : V) (thought : Thought) (schedule : List ℕ) → 0 < lead → cycle < cycles →
+      k.cycle m no_input ≡ record { mind = n; thought = thought } → IsSilent None thought →
       Along k name cycles lead first cycle false m schedule → RanAlone k name cycles lead first (cycle + 1) Budget n ((schedule ++ 1 ∷ []) ++ 1 ∷ [])
-  along_spent first cycle m n schedule p l e a =
+  along_spent first cycle m n thought schedule p l e h a =
       let before = alone name cycles lead (idle cycle None 0) m None in
       let busy : Cycled V → Platform V = λ c. alone name cycles lead (record { phase = Busy; cycle = cycle + 1; mark = None; kept = 0 }) c.mind (Some c.thought) in
-      let mid : Platform V = busy (record { mind = n; thought = Spent }) in
+      let mid : Platform V = busy (record { mind = n; thought = thought }) in
       let after = alone name cycles lead (record { phase = Gone Budget; cycle = cycle + 1; mark = None; kept = 0 }) n None in
       let s : turn k before 1 ≡ Some mid = at_sense k name cycles lead cycle 0 m l p ∙ ap (λ c. Some (busy c)) e in
-      let t : turn k mid 1 ≡ Some after = at_spent k name cycles lead (cycle + 1) n in
+      let t : turn k mid 1 ≡ Some after = at_spent k name cycles lead (cycle + 1) n thought h in
       let fuel = 2 * (cycles - (cycle + 1)) + 1 in
       let f : 2 * (cycles - cycle) + 1 ≡ suc (suc fuel) = omega arith in
       let q : robin (2 * (cycles - cycle) + 1) k before (0 ∷ []) ≡ 1 ∷ 1 ∷ [] =

@@ -1,6 +1,6 @@
+pub mod Inner
 pub mod Scanned
 pub mod Alone
-pub mod Grown
 pub mod Courses
 pub mod Reports
 pub mod Files

@@ -1,14 +1,13 @@
 -- What the code of one agent's run leaves.
 use Rattle.std.specs.Prelude.{ℕ, ◌≡◌, Bool, List, [], ◌∷◌, ◌++◌, Option}
-use Rattle.asl_cycle.specs.Mind.{no_input, bare_thought}
-use Rattle.asl_cycle.specs.Agent.{Mindset, agent_cycle, agent_kind}
+use Rattle.asl_cycle.specs.Agent.{Mindset, Thinks, agent_kind}
 use Rattle.mas_top.specs.declared.board.Course.{Course}
 use Rattle.mas_top.specs.declared.board.Done.{Done}
 use Rattle.mas_top.specs.Alone.{RanAlone, opens}
 
 -- a cycle of the agent, and its two turns
 pub record CycleMade (before after : Course) (answer : Option Bool) : Type 0 where
-  pub thought : agent_cycle before.agent no_input ≡ record { mind = after.agent; thought = bare_thought answer }
+  pub thinks : Thinks before.agent after.agent answer
   pub schedule : after.schedule ≡ (before.schedule ++ 1 ∷ []) ++ 1 ∷ []
 
 -- the whole run of the agent of this name

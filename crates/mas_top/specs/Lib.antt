@@ -1,10 +1,5 @@
-pub mod Causes
-pub mod Shelf
-pub mod Sink
-pub mod Told
-pub mod Writing
-pub mod Memory
 pub mod Limits
+pub mod Later
 pub mod Statuses
 pub mod State
 pub mod Platform
@@ -13,6 +8,7 @@ pub mod Schedule
 pub mod Report
 pub mod Reading
 pub mod Files
+pub mod Faults
 pub mod Headline
 pub mod Alone
 pub mod Course

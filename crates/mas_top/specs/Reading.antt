@@ -3,7 +3,7 @@ use Rattle.std.specs.Prelude.{ℕ, ◌&&◌, List, [], ◌∷◌, codes, nat_eq,
 use Rattle.std.specs.List.{ends_with}
 use Rattle.std.specs.Str.{bytes_eq}
 use Rattle.asl_term.specs.declared.syntax.AgentText.{AgentText}
-use Rattle.asl_cycle.specs.declared.mind.Budgets.{Budgets}
+use Rattle.asl_resolve.specs.declared.answers.Budgets.{Budgets}
 use Rattle.asl_cycle.specs.Agent.{Mindset, opening_mind}
 use Rattle.mas_top.specs.declared.options.Options.{Options}
 use Rattle.mas_top.specs.State.{opening_board}

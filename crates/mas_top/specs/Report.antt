@@ -1,6 +1,6 @@
 -- The text of a run's report. Every line ends in a line feed.
-use Rattle.std.specs.Prelude.{ℕ, zero, suc, ◌≡◌, true, List, [], ◌∷◌, ◌++◌, Option, None, Some, codes, decimal, slice_get}
-use Rattle.std.specs.List.{flat_map}
+use Rattle.std.specs.Prelude.{ℕ, zero, suc, ◌≡◌, Bool, true, false, List, [], ◌∷◌, ◌++◌, Option, None, Some, codes, decimal, slice_get}
+use Rattle.std.specs.List.{flat_map, list_any}
 use Rattle.asl_term.specs.Texts.{text}
 use Rattle.asl_cycle.specs.declared.mind.Message.{Message}
 use Rattle.asl_cycle.specs.declared.mind.End.{End}
@@ -95,10 +95,16 @@ front_text lines_of o board minds =
 abbrev pub report_text : {V : Type 0} → (V → List ℕ) → Options → Platform V → List ℕ → List ℕ
 report_text lines_of o p names = front_text lines_of o p.board p.minds ++ schedule_text names
 
+-- the end `budget`
+abbrev pub is_budget : Phase → Bool
+is_budget (Gone Budget) = true
+is_budget other = false
+
 -- the text is the report of the run from p along the numbers in its own last line: every turn of these is legal,
--- and every agent has left at the end
-pub record IsReport {V : Type 0} (k : Kind V) (o : Options) (p : Platform V) (w : List ℕ) : Type 0 where
+-- and every agent has left at the end, some of them by `budget` or none
+pub record IsReport {V : Type 0} (k : Kind V) (o : Options) (p : Platform V) (spent : Bool) (w : List ℕ) : Type 0 where
   pub done : Platform V
   pub ran : run k p (printed w) ≡ Some done
   pub ended : ended done.board.seats ≡ true
+  pub spent_is : list_any (λ s. is_budget s.phase) done.board.seats ≡ spent
   pub is : w ≡ report_text k.lines o done (printed w)

@@ -2,14 +2,11 @@
 #![tactic(auto)]
 
 pub mod board;
-pub mod memory;
+pub mod later;
 pub mod options;
 pub mod reading;
-pub mod real;
 pub mod report;
 pub mod schedule;
-pub mod shelf;
-pub mod sink;
+pub mod source;
 pub mod status;
 pub mod top;
-pub mod writing;

@@ -6,7 +6,7 @@ ghost use Rattle.mas_top.specs.Alone.{left_seat, done_alone};
 ghost use Rattle.mas_top.specs.Fronts.{alone_front};
 ghost use Rattle.mas_top.specs.Report as spec;
 
-use crate::board::Done;
+use crate::board::{Done, Phase};
 use crate::options::Options;
 use crate::schedule::put_schedule;
 use asl_cycle::mind::{End, Level};
@@ -33,6 +33,16 @@ fn end_word(end: End) -> &'static [u8]
         End::Stopped => b"stopped",
         End::Cycles => b"cycles",
         End::Budget => b"budget",
+    }
+}
+
+/// Whether this end is `budget`.
+pub fn is_spent(end: End) -> bool
+    ensures { result ≡ spec.is_budget (Phase.Left end) }
+{
+    match end {
+        End::Quiet | End::Stopped | End::Cycles => false,
+        End::Budget => true,
     }
 }
 

@@ -2,6 +2,7 @@
 
 ghost use Rattle.std.specs.Prelude.{◌≡◌, ◌≢◌, IfOk, OnErr};
 ghost use Rattle.mas_top.specs.Statuses.{fault_text, status_code};
+ghost use Rattle.mas_top.specs.Statuses as spec;
 
 use asl_term::copying::text_of;
 use asl_term::printing::write_number;
@@ -9,8 +10,32 @@ use asl_term::sequence::{Seq, Starved};
 use asl_term::syntax::Text;
 use std::alloc::Global;
 
-/// How a call of the program ended. `Later` is a source that can't be run yet: at the place, from 1, of its
-/// first clause with a form that is not read yet, or at 0 where it is too long.
+/// Why a file is refused.
+#[derive(Clone, Copy, Debug, PartialEq, Eq, Drop)]
+pub enum Reason {
+    /// A byte that stands in no token.
+    Byte,
+    /// A string without an end.
+    String,
+    /// A comment without an end.
+    Comment,
+    /// A number that is too large.
+    Number,
+    /// A clause outside the grammar.
+    Clause,
+}
+
+/// What passes a limit: the bytes of a file, or the trees of a clause.
+#[derive(Clone, Copy, Debug, PartialEq, Eq, Drop)]
+pub enum What {
+    File,
+    Clause,
+}
+
+/// How a call of the program ended. The place of `Refused` is that of a byte, from 0, and for `Reason::Clause` the
+/// number of the clause, from 1. The count of `Limit` is the allowed bytes of a file, or the number of the clause.
+/// `Later` is a source whose clause of that number, from
+/// 1, is the first with a form that does not run yet.
 #[derive(Drop)]
 pub enum Status {
     Ok,
@@ -18,8 +43,11 @@ pub enum Status {
     Missing(Text),
     ReadFault,
     WriteFault,
-    Later { file: Text, place: u64 },
+    Refused { file: Text, place: u64, why: Reason },
+    Limit { what: What, count: u64 },
+    Budget,
     Memory,
+    Later { file: Text, place: u64 },
 }
 
 impl From<Starved> for Status {
@@ -42,8 +70,11 @@ pub fn code(s: &Status) -> u8
         Status::Missing(_) => 3,
         Status::ReadFault => 4,
         Status::WriteFault => 5,
-        Status::Later { .. } => 10,
+        Status::Refused { .. } => 6,
+        Status::Limit { .. } => 7,
+        Status::Budget => 8,
         Status::Memory => 9,
+        Status::Later { .. } => 10,
     }
 }
 
@@ -52,6 +83,51 @@ fn missing_line(alloc: Global, name: &Text) -> Result<Text, Starved>
 {
     let mut text = text_of(alloc, b"missing ")?;
     text.append(name.as_slice())?;
+    text.push(b'\n')?;
+    Ok(text)
+}
+
+fn reason_word(why: Reason) -> &'static [u8]
+    ensures { result.now ≡ spec.reason_word why }
+{
+    match why {
+        Reason::Byte => b"byte",
+        Reason::String => b"string",
+        Reason::Comment => b"comment",
+        Reason::Number => b"number",
+        Reason::Clause => b"clause",
+    }
+}
+
+fn what_word(what: What) -> &'static [u8]
+    ensures { result.now ≡ spec.what_word what }
+{
+    match what {
+        What::File => b"file",
+        What::Clause => b"clause",
+    }
+}
+
+fn refused_line(alloc: Global, file: &Text, place: u64, why: Reason) -> Result<Text, Starved>
+    ensures { IfOk result (λ t. t ≡ fault_text (Status.Refused file.now place why)) }
+{
+    let mut text = text_of(alloc, b"refused ")?;
+    text.append(file.as_slice())?;
+    text.push(b' ')?;
+    write_number(alloc, place, &mut text)?;
+    text.push(b' ')?;
+    text.append(reason_word(why))?;
+    text.push(b'\n')?;
+    Ok(text)
+}
+
+fn limit_line(alloc: Global, what: What, count: u64) -> Result<Text, Starved>
+    ensures { IfOk result (λ t. t ≡ fault_text (Status.Limit what count)) }
+{
+    let mut text = text_of(alloc, b"limit ")?;
+    text.append(what_word(what))?;
+    text.push(b' ')?;
+    write_number(alloc, count, &mut text)?;
     text.push(b'\n')?;
     Ok(text)
 }
@@ -67,6 +143,13 @@ fn later_line(alloc: Global, file: &Text, place: u64) -> Result<Text, Starved>
     Ok(text)
 }
 
+/// The status of a report that was written whole.
+pub fn whole(spent: bool) -> Status
+    ensures { result ≡ spec.whole spent }
+{
+    if spent { Status::Budget } else { Status::Ok }
+}
+
 /// The line for standard error, with its line feed, empty for `Ok`.
 pub fn fault_line(alloc: Global, s: &Status) -> Result<Text, Starved>
     ensures text { IfOk result (λ t. t ≡ fault_text s.now) }
@@ -78,7 +161,10 @@ pub fn fault_line(alloc: Global, s: &Status) -> Result<Text, Starved>
         Status::Missing(name) => missing_line(alloc, name),
         Status::ReadFault => text_of(alloc, b"read fault\n"),
         Status::WriteFault => text_of(alloc, b"write fault\n"),
-        Status::Later { file, place } => later_line(alloc, file, *place),
+        Status::Refused { file, place, why } => refused_line(alloc, file, *place, *why),
+        Status::Limit { what, count } => limit_line(alloc, *what, *count),
+        Status::Budget => text_of(alloc, b"budget\n"),
         Status::Memory => text_of(alloc, b"memory\n"),
+        Status::Later { file, place } => later_line(alloc, file, *place),
     }
 }

@@ -1,29 +1,33 @@
 //! The top call: what the words ask for, from the files to the report.
 
-ghost use Rattle.std.specs.Prelude.{◌≡◌, ◌≤◌, List, map, IfOk, MatchResult, string_bytes};
+ghost use Rattle.std.specs.Prelude.{◌≡◌, ◌≤◌, List, map, true, IfOk, MatchResult, string_bytes};
+ghost use Rattle.std.specs.List.{list_all};
+ghost use Rattle.asl_term.specs.Exprs.{is_ground_literal};
+ghost use Rattle.mas_io.specs.Told.{told_of, IsKept};
 ghost use Rattle.mas_top.specs.Limits.{IsWithin, defaults};
-ghost use Rattle.mas_top.specs.Told.{told_of, IsKept};
+ghost use Rattle.mas_top.specs.Faults as faults;
+ghost use Rattle.mas_top.specs.Faults.{IsUnfit};
 ghost use Rattle.mas_top.specs.Files.{FileCaused, ForBytes, ForFile, IsRefusal};
 ghost use Rattle.mas_top.specs.Headline.{AskFor, HaveSource, IsComplete, IsHeadline, IsReportOf, IsRobinReport, IsRobinRun, WordsCaused};
 ghost use Rattle.asl_cycle.specs.Agent.{opening_mind};
-ghost use Rattle.asl_parser.specs.Grammar.{IsFault};
 
 use crate::board::run_alone;
 use crate::options::{Options, default_options};
 use crate::reading::file_of;
-use crate::report::report;
-use crate::shelf::{Fetched, Shelf};
-use crate::sink::Sink;
-use crate::status::Status;
-use crate::writing::write_all;
+use crate::report::{is_spent, report};
+use crate::source::{Unfit, source_of};
+use crate::status::{Reason, Status, What, whole};
 use asl_cycle::agent::{Agent, open_agent};
-use asl_cycle::mind::Budgets;
-use asl_parser::agent::agent;
-use asl_parser::sentence::TextFault;
+use asl_lexer::token::LexFault;
+use asl_reading::fault::TextFault;
+use asl_resolve::answers::Budgets;
 use asl_term::copying::{copy_text, text_of};
 use asl_term::names::{Names, number};
 use asl_term::sequence::Starved;
 use asl_term::syntax::{AgentText, Text};
+use mas_io::shelf::{Fetched, Shelf};
+use mas_io::sink::Sink;
+use mas_io::writing::write_all;
 use std::alloc::Global;
 use std::sync::Wait;
 use std::thread::Threads;
@@ -31,8 +35,17 @@ use std::thread::Threads;
 /// The most bytes of a source.
 const MOST_BYTES: u64 = 1_048_576;
 
+/// What a run writes: its report, and whether an end in it is `budget`.
+#[derive(Drop)]
+struct Output {
+    text: Text,
+    spent: bool,
+}
+
 /// The agent of this source before its first cycle.
 fn open_solo(alloc: Global, o: &Options, source: &AgentText) -> Result<Agent, Starved>
+    requires within { IsWithin o.now }
+    requires ground { list_all is_ground_literal source.now.beliefs ≡ true }
     ensures { IfOk result (λ a. a ≡ opening_mind 1 1 source.now (record { depth = o.now.depth; tries = o.now.tries }) o.now.level) }
 {
     let mut names = Names::new(alloc)?;
@@ -46,63 +59,103 @@ fn open_solo(alloc: Global, o: &Options, source: &AgentText) -> Result<Agent, St
 }
 
 /// The report of the run of this source.
-fn run_source(alloc: Global, o: &Options, source: &AgentText) -> Result<Text, Starved>
-    requires { IsWithin o.now }
-    ensures { IfOk result (IsRobinReport o.now source.now) }
+fn run_source(alloc: Global, o: &Options, source: &AgentText) -> Result<Output, Starved>
+    requires within { IsWithin o.now }
+    requires ground { list_all is_ground_literal source.now.beliefs ≡ true }
+    ensures { IfOk result (λ out. IsRobinReport o.now out.spent source.now out.text) }
 {
     let agent = open_solo(alloc, o, source)?;
     let name = text_of(alloc, b"solo")?;
     let done = run_alone(alloc, name, agent, o)?;
+    let spent = is_spent(done.end);
     let text = report(alloc, o, &done)?;
-    Ok(text)
+    Ok(Output { text, spent })
 }
 
 /// The report of the run of the agent whose source the bytes are.
-fn run_bytes(alloc: Global, o: &Options, bytes: &[u8]) -> Result<Text, TextFault>
+#[tactic(auto, using(crate::proofs::Files::runs_ground))]
+fn run_bytes(alloc: Global, o: &Options, bytes: &[u8]) -> Result<Output, Unfit>
     requires { IsWithin o.now }
-    ensures { MatchResult result (ForBytes (IsRobinReport o.now) bytes.now) (IsFault bytes.now) }
+    ensures { MatchResult result (λ out. ForBytes (IsRobinReport o.now) bytes.now out.spent out.text) (IsUnfit bytes.now) }
 {
-    let source = agent(alloc, bytes)?;
-    let text = run_source(alloc, o, &source)?;
-    Ok(text)
+    match source_of(alloc, bytes) {
+        Err(why) => Err(why),
+        Ok(source) => match run_source(alloc, o, &source) {
+            Ok(out) => Ok(out),
+            Err(_) => Err(Unfit::Text(TextFault::Memory)),
+        },
+    }
+}
+
+fn lex_status(alloc: Global, name: &Text, why: LexFault) -> Result<Status, Starved>
+    ensures { IfOk result (λ s. s ≡ faults.lex_status name.now why) }
+{
+    let (place, why) = match why {
+        LexFault::Memory => return Ok(Status::Memory),
+        LexFault::BadByte(place) => (place, Reason::Byte),
+        LexFault::OpenString(place) => (place, Reason::String),
+        LexFault::OpenComment(place) => (place, Reason::Comment),
+        LexFault::NumberRange(place) => (place, Reason::Number),
+    };
+    let file = copy_text(alloc, name)?;
+    Ok(Status::Refused { file, place, why })
+}
+
+/// The status for the file of this name, whose bytes are not run.
+fn unfit_status(alloc: Global, name: &Text, why: Unfit) -> Result<Status, Starved>
+    ensures { IfOk result (λ s. s ≡ faults.unfit_status name.now why) }
+{
+    match why {
+        Unfit::Text(TextFault::Memory) => Ok(Status::Memory),
+        Unfit::Text(TextFault::Lex(why)) => lex_status(alloc, name, why),
+        Unfit::Text(TextFault::Clause { number, .. }) => Ok(Status::Refused {
+            file: copy_text(alloc, name)?,
+            place: number,
+            why: Reason::Clause,
+        }),
+        Unfit::Text(TextFault::Limit { number }) => Ok(Status::Limit {
+            what: What::Clause,
+            count: number,
+        }),
+        Unfit::Later(place) => Ok(Status::Later {
+            file: copy_text(alloc, name)?,
+            place,
+        }),
+    }
 }
 
 /// The report of the run of the agent whose source the file of this name has, or why there is none.
-#[tactic(auto, using(crate::proofs::Files::source_file, crate::proofs::Files::unread_file))]
+#[tactic(auto, using(crate::proofs::Files::source_file, crate::proofs::Files::unfit_file))]
 fn run_file<S: Shelf>(
     alloc: Global,
     o: &Options,
     name: &Text,
     shelf: &mut S,
-) -> Result<Text, Status>
+) -> Result<Output, Status>
     requires { IsWithin o.now }
     ensures same { S.holds shelf.new ≡ S.holds shelf.old }
     ensures later { S.faults shelf.old ≤ S.faults shelf.new }
     ensures answer { let held = S.holds shelf.old in
         MatchResult result
-        (ForFile (IsRobinReport o.now) held name.now)
+        (λ out. ForFile (IsRobinReport o.now) held name.now out.spent out.text)
         (IsRefusal name.now held (S.faults shelf.old) (S.faults shelf.new)) }
 {
     match shelf.fetch(alloc, name, MOST_BYTES)? {
         Fetched::Failed => Err(Status::ReadFault),
         Fetched::Missing => Err(Status::Missing(copy_text(alloc, name)?)),
-        Fetched::TooLong => Err(Status::Later {
-            file: copy_text(alloc, name)?,
-            place: 0,
+        Fetched::TooLong => Err(Status::Limit {
+            what: What::File,
+            count: MOST_BYTES,
         }),
         Fetched::Bytes(bytes) => match run_bytes(alloc, o, bytes.as_slice()) {
-            Ok(text) => Ok(text),
-            Err(TextFault::Memory) => Err(Status::Memory),
-            Err(TextFault::Clause { number, .. }) => Err(Status::Later {
-                file: copy_text(alloc, name)?,
-                place: number,
-            }),
+            Ok(out) => Ok(out),
+            Err(why) => Err(unfit_status(alloc, name, why)?),
         },
     }
 }
 
 /// Runs the file of this name and writes the report.
-#[tactic(auto, using(crate::proofs::Files::refused_file))]
+#[tactic(auto, using(crate::proofs::Files::refused_file, crate::proofs::Files::written_file, crate::proofs::Files::cut_file))]
 fn print_file<S: Shelf, K: Sink>(
     alloc: Global,
     o: &Options,
@@ -118,16 +171,16 @@ fn print_file<S: Shelf, K: Sink>(
 {
     match run_file(alloc, o, name, shelf) {
         Err(status) => status,
-        Ok(text) => match write_all(sink, text.as_slice()) {
-            Ok(()) => Status::Ok,
+        Ok(out) => match write_all(sink, out.text.as_slice()) {
+            Ok(()) => whole(out.spent),
             Err(_) => Status::WriteFault,
         },
     }
 }
 
 /// Fetches the file of an agent, runs it and writes the report: the whole of it, or after a write fault a
-/// prefix, or nothing. The clauses say what a report is that was written whole, with which schedule, when no fault
-/// may be answered, and the cause of each status.
+/// prefix, or nothing. The clauses say what a report is that was written whole, by `Ok` or `Budget`, with which
+/// schedule, when no fault may be answered, and the cause of each status.
 pub fn run_project<R: Threads + Wait + Sync, S: Shelf, K: Sink>(
     _rt: &R,
     alloc: Global,

@@ -2,11 +2,11 @@
 
 use asl_term::copying::text_of;
 use asl_term::sequence::Starved;
-use mas_top::real::{FileShelf, OutSink};
-use mas_top::shelf::{Fetched, Shelf};
-use mas_top::sink::{Put, Sink};
+use mas_io::real::{FileShelf, OutSink};
+use mas_io::shelf::{Fetched, Shelf};
+use mas_io::sink::{Put, Sink};
+use mas_io::writing::write_all;
 use mas_top::status::{Status, code, fault_line};
-use mas_top::writing::write_all;
 use std::alloc::Global;
 use std::fs;
 use std::test::Fail;

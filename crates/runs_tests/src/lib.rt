@@ -1,9 +1,6 @@
-//! Tests of the crates above the trees that no case can say: the place of a fault, a cycle by itself, and real
-//! files and output.
+//! Tests of the crates above the trees that no case can say: the place of a fault, and real files and output.
 #![tactic(auto)]
 
-#[cfg(test)]
-mod cycle;
 #[cfg(test)]
 mod edge;
 #[cfg(test)]

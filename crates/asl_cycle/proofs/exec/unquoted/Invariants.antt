@@ -1,6 +1,0 @@
-use Rattle.std.proofs.Common.{◌≡◌, ◌++◌, take}
-use Rattle.asl_cycle.specs.Exec as spec
-use Rattle.asl_cycle.proofs.exec.unquoted.Given as goal
-
-abbrev pub invariant-loop-b : goal.invariant-loop-b
-invariant-loop-b l = l.out ≡ l.initial.out ++ spec.unquoted (take l.b-index l.s)

@@ -1,0 +1,4 @@
+pub mod Said
+pub mod Parts
+pub mod Exec
+pub mod Clear

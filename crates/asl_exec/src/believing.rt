@@ -1,0 +1,118 @@
+//! The rows for beliefs that a plan adds, deletes and replaces.
+
+ghost use Rattle.std.specs.Prelude.{◌≡◌, IfOk, OnOk, option_to_list};
+ghost use Rattle.asl_beliefs.specs.Changes as changes;
+ghost use Rattle.asl_exec.specs.Exec as rows;
+ghost use Rattle.asl_exec.specs.Parts as spec;
+
+use crate::parts::{Around, Parts, fails_as, tell, tell_one};
+use crate::rows::Row;
+use crate::went::Went;
+use asl_beliefs::base::BeliefBase;
+use asl_beliefs::removed::{BeliefFault, Removed};
+use asl_intend::agenda::Error;
+use asl_intend::stack::Stack;
+use asl_resolve::actions::Actions;
+use asl_term::sequence::Starved;
+use asl_term::syntax::{Literal, Trigger};
+use asl_unify::subst::no_subst;
+use std::alloc::Global;
+
+/// AddBel, or ExecFree where the literal has a variable. It has a source already.
+pub fn add<B: BeliefBase, A: Actions>(
+    alloc: Global,
+    k: &Around<A>,
+    p: &mut Parts<B>,
+    cur: &mut Stack,
+    b: &Literal,
+) -> Result<Went, Starved>
+    ensures made { IfOk result (λ w. rows.add
+        (spec.around k.now.lib.plans (B.rules p.old.beliefs) (A.solve k.now.actions) k.now.budgets)
+        (spec.parts (B.beliefs p.old.beliefs) p.old.agenda p.old.number) cur.old b.now
+        ≡ spec.made (spec.parts (B.beliefs p.new.beliefs) p.new.agenda p.new.number) cur.new w) }
+    ensures rules { B.rules p.new.beliefs ≡ B.rules p.old.beliefs }
+    ensures number { p.new.number ≡ p.old.number }
+{
+    match p.beliefs.add(alloc, b) {
+        Ok(event) => {
+            tell_one(alloc, &mut p.agenda, event)?;
+            cur.remove_head();
+            Ok(Went::Row(Row::AddBel))
+        }
+        Err(BeliefFault::NotGround) => {
+            fails_as(alloc, k, p, cur, Row::ExecFree, Error::NotGround)
+        }
+        Err(BeliefFault::Memory) => Err(Starved),
+    }
+}
+
+/// RepBel, or ExecFree where the literal has a variable. It has a source already.
+pub fn replace<B: BeliefBase, A: Actions>(
+    alloc: Global,
+    k: &Around<A>,
+    p: &mut Parts<B>,
+    cur: &mut Stack,
+    b: &Literal,
+) -> Result<Went, Starved>
+    ensures made { IfOk result (λ w. rows.replace
+        (spec.around k.now.lib.plans (B.rules p.old.beliefs) (A.solve k.now.actions) k.now.budgets)
+        (spec.parts (B.beliefs p.old.beliefs) p.old.agenda p.old.number) cur.old b.now
+        ≡ spec.made (spec.parts (B.beliefs p.new.beliefs) p.new.agenda p.new.number) cur.new w) }
+    ensures rules { B.rules p.new.beliefs ≡ B.rules p.old.beliefs }
+    ensures number { p.new.number ≡ p.old.number }
+{
+    match p.beliefs.replace(alloc, b) {
+        Ok(events) => {
+            tell(alloc, &mut p.agenda, events)?;
+            cur.remove_head();
+            Ok(Went::Row(Row::RepBel))
+        }
+        Err(BeliefFault::NotGround) => {
+            fails_as(alloc, k, p, cur, Row::ExecFree, Error::NotGround)
+        }
+        Err(BeliefFault::Memory) => Err(Starved),
+    }
+}
+
+/// Applies the substitution of the match, where there is one.
+fn bind_by(cur: &mut Stack, removed: &Option<Removed>) -> Result<(), Starved>
+    ensures { OnOk result (cur.new ≡ rows.bound_by removed.now cur.old) }
+{
+    match removed {
+        None => Ok(()),
+        Some(r) => cur.bind(&r.subst),
+    }
+}
+
+/// The event of what was removed.
+fn event_of(removed: Option<Removed>) -> Option<Trigger>
+    ensures { option_to_list result ≡ changes.removed_events removed }
+{
+    match removed {
+        None => None,
+        Some(r) => {
+            let Removed { event, subst: _ } = r;
+            Some(event)
+        }
+    }
+}
+
+/// DelBel. The literal has a source already.
+pub fn delete<B: BeliefBase>(
+    alloc: Global,
+    p: &mut Parts<B>,
+    cur: &mut Stack,
+    b: &Literal,
+) -> Result<Went, Starved>
+    ensures made { IfOk result (λ w. rows.delete
+        (spec.parts (B.beliefs p.old.beliefs) p.old.agenda p.old.number) cur.old b.now
+        ≡ spec.made (spec.parts (B.beliefs p.new.beliefs) p.new.agenda p.new.number) cur.new w) }
+    ensures rules { B.rules p.new.beliefs ≡ B.rules p.old.beliefs }
+    ensures number { p.new.number ≡ p.old.number }
+{
+    let removed = p.beliefs.remove(alloc, b, &no_subst(alloc))?;
+    bind_by(cur, &removed)?;
+    cur.remove_head();
+    tell_one(alloc, &mut p.agenda, event_of(removed))?;
+    Ok(Went::Row(Row::DelBel))
+}

@@ -1,0 +1,178 @@
+//! The rows for goals: to achieve, of an intention of its own, and to test.
+
+ghost use Rattle.std.specs.Prelude.{◌≡◌, ◌+◌, ◌<◌, ◌≤◌, ◌-◌, ◌^◌, IfOk};
+ghost use Rattle.asl_beliefs.specs.Bases.{facts_of};
+ghost use Rattle.asl_resolve.specs.Marks.{NextAtMost};
+ghost use Rattle.asl_exec.specs.Exec as rows;
+ghost use Rattle.asl_exec.specs.Parts as spec;
+
+use crate::parts::{Around, Parts, fails_as, goal_event};
+use crate::rows::Row;
+use crate::went::Went;
+use asl_beliefs::base::BeliefBase;
+use asl_intend::agenda::Error;
+use asl_intend::stack::Stack;
+use asl_resolve::actions::Actions;
+use asl_resolve::answers::Answer;
+use asl_resolve::first::first;
+use asl_term::copying::copy_literal;
+use asl_term::sequence::Starved;
+use asl_term::syntax::{Expr, Formula, Kind, Literal};
+use asl_unify::subst::{Subst, no_subst};
+use std::alloc::Global;
+use std::mem;
+
+/// The current stack waits below the event of a goal, with this formula as its head.
+fn wait<B: BeliefBase>(
+    alloc: Global,
+    p: &mut Parts<B>,
+    cur: &mut Stack,
+    head: Formula,
+    kind: Kind,
+    g: &Literal,
+    row: Row,
+) -> Result<Went, Starved>
+    ensures made { IfOk result (λ w. rows.waits row
+        (spec.parts (B.beliefs p.old.beliefs) p.old.agenda p.old.number) cur.old head kind g.now
+        ≡ spec.made (spec.parts (B.beliefs p.new.beliefs) p.new.agenda p.new.number) cur.new w) }
+    ensures beliefs { p.new.beliefs ≡ p.old.beliefs }
+    ensures number { p.new.number ≡ p.old.number }
+{
+    cur.set_head(head)?;
+    let stack = mem::replace(cur, Stack::new(alloc));
+    p.agenda.post(goal_event(alloc, kind, g, stack)?)?;
+    Ok(Went::Row(row))
+}
+
+/// AchvGl.
+pub fn achieve<B: BeliefBase>(
+    alloc: Global,
+    p: &mut Parts<B>,
+    cur: &mut Stack,
+    g: &Literal,
+) -> Result<Went, Starved>
+    ensures made { IfOk result (λ w. rows.achieve
+        (spec.parts (B.beliefs p.old.beliefs) p.old.agenda p.old.number) cur.old g.now
+        ≡ spec.made (spec.parts (B.beliefs p.new.beliefs) p.new.agenda p.new.number) cur.new w) }
+    ensures beliefs { p.new.beliefs ≡ p.old.beliefs }
+    ensures number { p.new.number ≡ p.old.number }
+{
+    let head = Formula::Achieve(copy_literal(alloc, g)?);
+    wait(alloc, p, cur, head, Kind::Achieve, g, Row::AchvGl)
+}
+
+/// AchvNew.
+pub fn spawn<B: BeliefBase>(
+    alloc: Global,
+    p: &mut Parts<B>,
+    cur: &mut Stack,
+    g: &Literal,
+) -> Result<Went, Starved>
+    ensures made { IfOk result (λ w. rows.spawn
+        (spec.parts (B.beliefs p.old.beliefs) p.old.agenda p.old.number) cur.old g.now
+        ≡ spec.made (spec.parts (B.beliefs p.new.beliefs) p.new.agenda p.new.number) cur.new w) }
+    ensures beliefs { p.new.beliefs ≡ p.old.beliefs }
+    ensures number { p.new.number ≡ p.old.number }
+{
+    let event = goal_event(alloc, Kind::Achieve, g, Stack::new(alloc))?;
+    p.agenda.post(event)?;
+    cur.remove_head();
+    Ok(Went::Row(Row::AchvNew))
+}
+
+/// What the search for an expression answers.
+pub fn sought<B: BeliefBase, A: Actions>(
+    alloc: Global,
+    k: &Around<A>,
+    p: &Parts<B>,
+    e: &Expr,
+) -> Result<Answer, Starved>
+    requires { p.now.number + k.now.budgets.tries < 2 ^ 64 - 1 }
+    ensures answer { IfOk result (λ r. r ≡ rows.sought
+        (spec.around k.now.lib.plans (B.rules p.now.beliefs) (A.solve k.now.actions) k.now.budgets)
+        (spec.parts (B.beliefs p.now.beliefs) p.now.agenda p.now.number) e.now) }
+    ensures number { IfOk result (λ r. NextAtMost (p.now.number + k.now.budgets.tries) r) }
+{
+    first(
+        alloc,
+        &p.beliefs,
+        &k.actions,
+        e,
+        &no_subst(alloc),
+        p.number,
+        &k.budgets,
+    )
+}
+
+/// A solution is applied, the counter becomes its next number, and the head is removed.
+pub fn solved<B: BeliefBase>(
+    p: &mut Parts<B>,
+    cur: &mut Stack,
+    row: Row,
+    s: &Subst,
+    next: u64,
+) -> Result<Went, Starved>
+    ensures made { IfOk result (λ w. rows.solved row
+        (spec.parts (B.beliefs p.old.beliefs) p.old.agenda p.old.number) cur.old s.now next
+        ≡ spec.made (spec.parts (B.beliefs p.new.beliefs) p.new.agenda p.new.number) cur.new w) }
+    ensures beliefs { p.new.beliefs ≡ p.old.beliefs }
+    ensures number { p.new.number ≡ next }
+{
+    p.number = next;
+    cur.bind(s)?;
+    cur.remove_head();
+    Ok(Went::Row(row))
+}
+
+/// The row of a test goal, by what the search for it answered.
+fn tested<B: BeliefBase, A: Actions>(
+    alloc: Global,
+    k: &Around<A>,
+    p: &mut Parts<B>,
+    cur: &mut Stack,
+    g: &Literal,
+    answer: Answer,
+) -> Result<Went, Starved>
+    requires { NextAtMost (p.old.number + k.now.budgets.tries) answer }
+    ensures made { IfOk result (λ w. rows.tested
+        (spec.around k.now.lib.plans (B.rules p.old.beliefs) (A.solve k.now.actions) k.now.budgets)
+        (spec.parts (B.beliefs p.old.beliefs) p.old.agenda p.old.number) cur.old g.now answer
+        ≡ spec.made (spec.parts (B.beliefs p.new.beliefs) p.new.agenda p.new.number) cur.new w) }
+    ensures beliefs { p.new.beliefs ≡ p.old.beliefs }
+    ensures number { p.new.number ≤ p.old.number + k.now.budgets.tries }
+{
+    match answer {
+        Answer::Found { subst, next } => solved(p, cur, Row::TestGl1, &subst, next),
+        Answer::Nothing => {
+            let head = Formula::Test(copy_literal(alloc, g)?);
+            wait(alloc, p, cur, head, Kind::Test, g, Row::TestGl2)
+        }
+        Answer::Arith => fails_as(alloc, k, p, cur, Row::TestErr, Error::Arith),
+        Answer::TermLimit => fails_as(alloc, k, p, cur, Row::TestErr, Error::TermLimit),
+        Answer::Spent(spent) => Ok(Went::Spent {
+            row: Row::TestSpent,
+            spent,
+        }),
+    }
+}
+
+/// TestGl1, TestGl2, TestErr, TestSpent.
+pub fn test<B: BeliefBase, A: Actions>(
+    alloc: Global,
+    k: &Around<A>,
+    p: &mut Parts<B>,
+    cur: &mut Stack,
+    g: &Literal,
+) -> Result<Went, Starved>
+    requires { p.old.number + k.now.budgets.tries < 2 ^ 64 - 1 }
+    ensures made { IfOk result (λ w. rows.test
+        (spec.around k.now.lib.plans (B.rules p.old.beliefs) (A.solve k.now.actions) k.now.budgets)
+        (spec.parts (B.beliefs p.old.beliefs) p.old.agenda p.old.number) cur.old g.now
+        ≡ spec.made (spec.parts (B.beliefs p.new.beliefs) p.new.agenda p.new.number) cur.new w) }
+    ensures beliefs { p.new.beliefs ≡ p.old.beliefs }
+    ensures number { p.new.number ≤ p.old.number + k.now.budgets.tries }
+{
+    let e = Expr::Holds(copy_literal(alloc, g)?);
+    let answer = sought(alloc, k, p, &e)?;
+    tested(alloc, k, p, cur, g, answer)
+}

@@ -1,0 +1,11 @@
+pub mod Weighed
+pub mod Made
+pub mod Spoken
+pub mod Spelled
+pub mod Bounded
+pub mod Answered
+pub mod Once
+pub mod Body
+pub mod Single
+pub mod Together
+pub mod Ground

@@ -1,0 +1,177 @@
+//! What single tokens are to the reader of clauses.
+
+ghost use Rattle.std.specs.Prelude.{◌≡◌};
+ghost use Rattle.asl_reading.specs.Reading.{Gives, view_front, view_rest};
+ghost use Rattle.asl_grammar.specs.Sentences as grammar;
+ghost use Rattle.asl_grammar.specs.Speaking as spec;
+
+use crate::sentence::Deed;
+use asl_lexer::token::Sign;
+use asl_reading::lexeme::Lexeme;
+use asl_reading::meaning::truth_name;
+use asl_term::copying::{copy_text, text_of};
+use asl_term::sequence::Starved;
+use asl_term::syntax::{Kind, Text};
+use std::alloc::Global;
+
+pub fn after_at(tokens: &[Lexeme]) -> Option<&[Lexeme]>
+    ensures { view_rest result ≡ spec.after_at tokens.now }
+{
+    match tokens {
+        [Lexeme::Sign(Sign::At), rest @ ..] => Some(rest),
+        _ => None,
+    }
+}
+
+pub fn after_bang(tokens: &[Lexeme]) -> Option<&[Lexeme]>
+    ensures { view_rest result ≡ spec.after_bang tokens.now }
+{
+    match tokens {
+        [Lexeme::Sign(Sign::Bang), rest @ ..] => Some(rest),
+        _ => None,
+    }
+}
+
+pub fn after_if(tokens: &[Lexeme]) -> Option<&[Lexeme]>
+    ensures { view_rest result ≡ spec.after_if tokens.now }
+{
+    match tokens {
+        [Lexeme::Sign(Sign::If), rest @ ..] => Some(rest),
+        _ => None,
+    }
+}
+
+pub fn after_colon(tokens: &[Lexeme]) -> Option<&[Lexeme]>
+    ensures { view_rest result ≡ spec.after_colon tokens.now }
+{
+    match tokens {
+        [Lexeme::Sign(Sign::Colon), rest @ ..] => Some(rest),
+        _ => None,
+    }
+}
+
+pub fn after_arrow(tokens: &[Lexeme]) -> Option<&[Lexeme]>
+    ensures { view_rest result ≡ spec.after_arrow tokens.now }
+{
+    match tokens {
+        [Lexeme::Sign(Sign::LeftArrow), rest @ ..] => Some(rest),
+        _ => None,
+    }
+}
+
+pub fn after_semicolon(tokens: &[Lexeme]) -> Option<&[Lexeme]>
+    ensures { view_rest result ≡ spec.after_semicolon tokens.now }
+{
+    match tokens {
+        [Lexeme::Sign(Sign::Semicolon), rest @ ..] => Some(rest),
+        _ => None,
+    }
+}
+
+pub fn is_last(tokens: &[Lexeme]) -> bool
+    ensures { result ≡ spec.is_last tokens.now }
+{
+    match tokens {
+        [Lexeme::End] => true,
+        _ => false,
+    }
+}
+
+/// Whether the first token begins a plan.
+pub fn starts_plan(tokens: &[Lexeme]) -> bool
+    ensures { result ≡ spec.starts_plan tokens.now }
+{
+    match tokens {
+        [Lexeme::Sign(Sign::At), ..] => true,
+        [Lexeme::Sign(Sign::Plus), ..] => true,
+        [Lexeme::Sign(Sign::Minus), ..] => true,
+        _ => false,
+    }
+}
+
+fn adds_of(token: &Lexeme) -> Option<bool>
+    ensures { result ≡ grammar.adds_of token.now }
+{
+    match token {
+        Lexeme::Sign(Sign::Plus) => Some(true),
+        Lexeme::Sign(Sign::Minus) => Some(false),
+        _ => None,
+    }
+}
+
+pub fn add_at(tokens: &[Lexeme]) -> Option<(bool, &[Lexeme])>
+    ensures { view_front result ≡ spec.first_of grammar.adds_of tokens.now }
+{
+    match tokens {
+        [first, rest @ ..] => match adds_of(first) {
+            Some(add) => Some((add, rest)),
+            None => None,
+        },
+        [] => None,
+    }
+}
+
+pub fn kind_at(tokens: &[Lexeme]) -> (Kind, &[Lexeme])
+    ensures { spec.view_kind result ≡ spec.kind_at tokens.now }
+{
+    match tokens {
+        [Lexeme::Sign(Sign::Bang), rest @ ..] => (Kind::Achieve, rest),
+        [Lexeme::Sign(Sign::Question), rest @ ..] => (Kind::Test, rest),
+        _ => (Kind::Belief, tokens),
+    }
+}
+
+fn deed_of(token: &Lexeme) -> Option<Deed>
+    ensures { result ≡ grammar.deed_of token.now }
+{
+    match token {
+        Lexeme::Sign(Sign::Bang) => Some(Deed::Achieve),
+        Lexeme::Sign(Sign::Bangs) => Some(Deed::Spawn),
+        Lexeme::Sign(Sign::Question) => Some(Deed::Test),
+        Lexeme::Sign(Sign::Plus) => Some(Deed::Add),
+        Lexeme::Sign(Sign::Minus) => Some(Deed::Del),
+        Lexeme::Sign(Sign::MinusPlus) => Some(Deed::Replace),
+        _ => None,
+    }
+}
+
+pub fn deed_at(tokens: &[Lexeme]) -> Option<(Deed, &[Lexeme])>
+    ensures { view_front result ≡ spec.first_of grammar.deed_of tokens.now }
+{
+    match tokens {
+        [first, rest @ ..] => match deed_of(first) {
+            Some(deed) => Some((deed, rest)),
+            None => None,
+        },
+        [] => None,
+    }
+}
+
+fn label_of(alloc: Global, token: &Lexeme) -> Result<Option<Text>, Starved>
+    ensures { Gives (λ x. x) result (grammar.label_of token.now) }
+{
+    match token {
+        Lexeme::Atom(name) => Ok(Some(copy_text(alloc, name)?)),
+        Lexeme::Not => Ok(Some(text_of(alloc, b"not".as_slice())?)),
+        Lexeme::Div => Ok(Some(text_of(alloc, b"div".as_slice())?)),
+        Lexeme::Mod => Ok(Some(text_of(alloc, b"mod".as_slice())?)),
+        Lexeme::Truth(b) => Ok(Some(truth_name(alloc, *b)?)),
+        _ => Ok(None),
+    }
+}
+
+/// The name of a label; any word may be one.
+pub fn label_at(
+    alloc: Global,
+    tokens: &[Lexeme],
+) -> Result<Option<(Option<Text>, &[Lexeme])>, Starved>
+    ensures { Gives (λ x. (x.0, x.1.now)) result (spec.named tokens.now) }
+{
+    match tokens {
+        [first, rest @ ..] => match label_of(alloc, first)? {
+            Some(name) => Ok(Some((Some(name), rest))),
+            None => Ok(None),
+        },
+        [] => Ok(None),
+    }
+}

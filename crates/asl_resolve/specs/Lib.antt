@@ -1,0 +1,5 @@
+pub mod Calls
+pub mod Base
+pub mod Marks
+pub mod Solves
+pub mod inner

@@ -1,0 +1,203 @@
+//! The lines of a file of cases, and what stands under a key.
+
+ghost use Rattle.std.specs.Prelude.{◌≡◌, ◌==◌, ◌<◌, length};
+
+use crate::form::{Entry, Fault, Line, Section};
+use asl_term::sequence::Starved;
+
+/// The words that begin a line of a text.
+const PIECES: [&str; 4] = ["|", "+", "!", "*"];
+
+/// The keys of a case that take a text.
+const TEXT_KEYS: [&str; 8] = [
+    "source", "file", "words", "project", "fault", "output", "trace", "has",
+];
+
+/// The keys of a case that take a number, numbers or a word.
+const PLAIN_KEYS: [&str; 13] = [
+    "cycles",
+    "lead",
+    "depth",
+    "tries",
+    "level",
+    "shelf_fails",
+    "sink_fails",
+    "short",
+    "room",
+    "status",
+    "turns",
+    "wrote",
+    "differs",
+];
+
+const REFUSED_KEYS: [&str; 2] = ["text", "message"];
+
+pub fn is_feed(byte: &u8) -> bool
+    ensures { result ≡ (byte.now == 10) }
+{
+    *byte == b'\n'
+}
+
+pub fn is_blank(byte: &u8) -> bool
+    ensures { result ≡ (byte.now == 32) }
+{
+    *byte == b' '
+}
+
+/// A line by its first word.
+pub fn line_of(number: u64, bytes: &[u8]) -> Line<'_> {
+    for at in 0..bytes.len() {
+        if bytes[at] == b' ' {
+            return Line {
+                number,
+                word: &bytes[..at],
+                rest: &bytes[at + 1..],
+            };
+        }
+    }
+    Line {
+        number,
+        word: bytes,
+        rest: &[],
+    }
+}
+
+/// The lines that are neither empty nor comments.
+pub fn read_lines<'a>(text: &'a [u8], lines: &mut Vec<Line<'a>>) -> Result<(), Starved> {
+    let mut number = 0u64;
+    for bytes in text.split(is_feed) {
+        number = number.saturating_add(1);
+        if !bytes.is_empty() && !bytes.starts_with(b"#") {
+            lines.push(line_of(number, bytes))?;
+        }
+    }
+    Ok(())
+}
+
+fn is_among(word: &[u8], words: &[&str]) -> bool {
+    for known in words {
+        if known.as_bytes() == word {
+            return true;
+        }
+    }
+    false
+}
+
+/// Whether a line begins a case or a refused file.
+pub fn is_head(line: &Line<'_>) -> bool {
+    line.word == b"case".as_slice() || line.word == b"refused".as_slice()
+}
+
+fn is_key(line: &Line<'_>) -> bool {
+    !is_among(line.word, &PIECES)
+}
+
+/// These lines up to the first that begins a case or a refused file.
+pub fn before_head<'a>(lines: &'a [Line<'a>]) -> &'a [Line<'a>] {
+    for at in 0..lines.len() {
+        if is_head(&lines[at]) {
+            return &lines[..at];
+        }
+    }
+    lines
+}
+
+/// These lines up to the first that begins with a key.
+fn before_key<'a>(lines: &'a [Line<'a>]) -> &'a [Line<'a>] {
+    for at in 0..lines.len() {
+        if is_key(&lines[at]) {
+            return &lines[..at];
+        }
+    }
+    lines
+}
+
+/// What stands under the key of the line at this place.
+pub fn entry_at<'a>(lines: &'a [Line<'a>], at: usize) -> Entry<'a>
+    requires { at < length lines.now }
+{
+    Entry {
+        number: lines[at].number,
+        rest: lines[at].rest,
+        pieces: before_key(&lines[at + 1..]),
+    }
+}
+
+/// The section that the line at this place begins.
+pub fn section_at<'a>(lines: &'a [Line<'a>], at: usize) -> Section<'a>
+    requires { at < length lines.now }
+{
+    Section {
+        number: lines[at].number,
+        is_case: lines[at].word == b"case".as_slice(),
+        name: lines[at].rest,
+        body: before_head(&lines[at + 1..]),
+    }
+}
+
+/// What stands first under this key.
+pub fn find<'a>(section: &Section<'a>, key: &str) -> Option<Entry<'a>> {
+    let lines = section.body;
+    for at in 0..lines.len() {
+        if lines[at].word == key.as_bytes() {
+            return Some(entry_at(lines, at));
+        }
+    }
+    None
+}
+
+pub fn fault_at(line: u64, what: &'static str) -> Fault {
+    Fault { line, what }
+}
+
+/// Whether a word begins one of these lines.
+pub fn has_word(lines: &[Line<'_>], word: &[u8]) -> bool {
+    for line in lines {
+        if line.word == word {
+            return true;
+        }
+    }
+    false
+}
+
+/// Refuses a line that has no known key and is no part of a text, and a key that stands twice.
+fn check_lines(lines: &[Line<'_>], texts: &[&str], plain: &[&str]) -> Result<(), Fault> {
+    let mut takes_text = false;
+    for at in 0..lines.len() {
+        let line = lines[at];
+        if is_key(&line) {
+            takes_text = is_among(line.word, texts);
+            if !takes_text && !is_among(line.word, plain) {
+                return Err(fault_at(line.number, "unknown key"));
+            }
+            let is_file = line.word == b"file".as_slice();
+            if !is_file && has_word(&lines[..at], line.word) {
+                return Err(fault_at(line.number, "this key stands twice"));
+            }
+        } else if !takes_text {
+            return Err(fault_at(line.number, "no text stands here"));
+        }
+    }
+    Ok(())
+}
+
+pub fn check_case(section: &Section<'_>) -> Result<(), Fault> {
+    check_lines(section.body, &TEXT_KEYS, &PLAIN_KEYS)
+}
+
+pub fn check_refused(section: &Section<'_>) -> Result<(), Fault> {
+    check_lines(section.body, &REFUSED_KEYS, &[])
+}
+
+/// Refuses a name that is empty or stands twice.
+pub fn check_name(lines: &[Line<'_>], head: &Line<'_>) -> Result<(), Fault> {
+    if head.rest.is_empty() {
+        return Err(fault_at(head.number, "it has no name"));
+    }
+    for line in lines {
+        if is_head(line) && line.rest == head.rest {
+            return Err(fault_at(head.number, "this name stands twice"));
+        }
+    }
+    Ok(())
+}

@@ -1,0 +1,6 @@
+pub mod Causes
+pub mod Shelf
+pub mod Sink
+pub mod Told
+pub mod Writing
+pub mod Memory
