@@ -1,0 +1,13 @@
+pub mod Weighed
+pub mod Made
+pub mod Spoken
+pub mod Spelled
+pub mod Bounded
+pub mod Effects
+pub mod Answered
+pub mod Single
+pub mod Lists
+pub mod Facts
+pub mod Ground
+pub mod Bare
+pub mod Opened

@@ -1,0 +1,107 @@
+-- The world of a file can be opened.
+use Rattle.std.proofs.Common.{◌≡◌, ℕ, Bool, true, false, ◌&&◌, ◌||◌, if◌then◌else◌, List, [], ◌∷◌, map, Option, Some, None, Result, Ok, Err, refl, sym, ap, subst, ◌∙◌}
+use Rattle.std.specs.List.{list_any, list_all, AllByRecursion, IsDistinct}
+use Rattle.asl_lexer.specs.declared.token.Tok.{Tok}
+use Rattle.asl_term.specs.declared.syntax.LiteralOf.{LiteralOf}
+use Rattle.asl_term.specs.declared.syntax.Term.{Term}
+use Rattle.asl_term.specs.declared.syntax.Term.TheVariants as term
+use Rattle.asl_term.specs.declared.syntax.Term.TheOpen.{Term-F}
+use Rattle.asl_term.specs.declared.syntax.Term.TheOpen as layer
+use Rattle.asl_term.specs.declared.syntax.Term.TheFolds.{fold-Term}
+use Rattle.asl_term.specs.Trees.{all}
+use Rattle.asl_term.proofs.Terms.{map_literal, fold_lit}
+use Rattle.asl_reading.specs.Plain.{plain_step, is_plain, is_plain_literal}
+use Rattle.mas_world.specs.declared.acts.WorldText.{WorldText}
+use Rattle.mas_world.specs.Facts.{settled_step, is_settled, is_settled_literal, same_fact, AreFacts}
+use Rattle.mas_world.specs.Worlds.{AreNamed}
+use Rattle.env_file.specs.declared.fault.WorldFault.{WorldFault}
+use Rattle.env_file.specs.declared.fault.WorldFault.TheVariants.{Clause, UnknownArtifact}
+use Rattle.env_file.specs.declared.statement.Part.{Part}
+use Rattle.env_file.specs.declared.statement.WrittenAct.{WrittenAct}
+use Rattle.env_file.specs.declared.statement.Statement.{Statement}
+use Rattle.env_file.specs.declared.statement.Statement.TheVariants as statement
+use Rattle.env_file.specs.Guards.{guard_parts}
+use Rattle.env_file.specs.Binding.{unbound}
+use Rattle.env_file.specs.Worlds.{same_literal, has_name, use_made, bound_made, guarded_made, made, Answers, all_read, is_read, IsWorld}
+use Rattle.env_file.proofs.Ground.{are_once, AreRead, read_facts}
+
+-- ---- without arithmetic
+
+same_step : (x : Term-F Bool) → plain_step x ≡ settled_step x
+same_step (layer.Num n) = refl
+same_step (layer.Str s) = refl
+same_step (layer.Var v) = refl
+same_step (layer.Lit l) = refl
+same_step (layer.List l) = refl
+same_step (layer.Op a) = refl
+
+plain_is_settled : (t : Term) → is_plain t ≡ is_settled t
+plain_is_settled t = ap (λ (step : Term-F Bool → Bool). fold-Term Bool step t) (λ i x. same_step x i)
+
+settled_lit : (l : LiteralOf Term) → is_settled_literal l ≡ is_plain_literal l
+settled_lit l = sym (plain_is_settled (term.Lit l)) ∙ fold_lit Bool plain_step l
+
+all_settled : (ls : List (LiteralOf Term)) → list_all is_plain_literal ls ≡ true → list_all is_settled_literal ls ≡ true
+all_settled [] e = refl
+all_settled (l ∷ ls) e = ap (λ (b : Bool). b && list_all is_settled_literal ls) (settled_lit l) ∙ rest (is_plain_literal l) e (all_settled ls)
+  where
+    rest : (b : Bool) → (b && list_all is_plain_literal ls) ≡ true → (list_all is_plain_literal ls ≡ true → list_all is_settled_literal ls ≡ true) → (b && list_all is_settled_literal ls) ≡ true
+    rest true e h = h e
+    rest false e h = cc
+
+-- ---- each once
+
+none_of : (p : LiteralOf Term → Bool) (ls : List (LiteralOf Term)) → list_any p ls ≡ false → AllByRecursion (λ y. p y ≡ false) ls
+none_of p [] e = tt
+none_of p (l ∷ ls) e = first (p l) refl e (none_of p ls)
+  where
+    first : (b : Bool) → p l ≡ b → (b || list_any p ls) ≡ false → (list_any p ls ≡ false → AllByRecursion (λ y. p y ≡ false) ls) → (p l ≡ false) × AllByRecursion (λ y. p y ≡ false) ls
+    first false f e h = (f, h e)
+    first true f e h = absurd cc
+
+distinct : (ls : List (LiteralOf Term)) → are_once ls ≡ true → IsDistinct same_fact ls
+unfolding IsDistinct
+distinct [] e = tt
+distinct (l ∷ ls) e = apart (list_any (same_literal l) ls) refl e (distinct ls)
+  where
+    apart : (b : Bool) → list_any (same_literal l) ls ≡ b → ((if b then false else true) && are_once ls) ≡ true → (are_once ls ≡ true → IsDistinct same_fact ls)
+        → AllByRecursion (λ y. same_fact l y ≡ false) ls × IsDistinct same_fact ls
+    apart false f e h = (none_of (same_literal l) ls f, h e)
+    apart true f e h = absurd cc
+
+pub good_facts : (artifacts : List (List ℕ)) (bytes : List ℕ) (text : WorldText) → IsWorld artifacts bytes text → AreFacts text.facts
+good_facts artifacts bytes text h =
+    let r = read_facts artifacts bytes text h in
+    record { grounded = r.ground; settled = all_settled text.facts r.plain; distinct = distinct text.facts r.once }
+
+-- ---- no artifacts
+
+abbrev UsesNone : Result WorldText WorldFault → Type 0
+UsesNone (Ok v) = v.uses ≡ []
+UsesNone (Err fault) = Unit {0}
+
+module _ (w : WorldText) (h : w.uses ≡ []) (k : ℕ) (t : Tok) where
+  bound_none : (a : WrittenAct) (ps : List Part) (o : Option (List ℕ)) → UsesNone (bound_made w k a ps o)
+  bound_none a ps None = h
+  bound_none a ps (Some name) = tt
+
+  guard_none : (a : WrittenAct) (o : Option (List Part)) → UsesNone (guarded_made w k t a o)
+  guard_none a None = tt
+  guard_none a (Some ps) = bound_none a ps (unbound a ps)
+
+  use_none : (name : List ℕ) (b : Bool) → UsesNone (if b then Err (Clause k t.line t.column) else Err (UnknownArtifact k name))
+  use_none name true = tt
+  use_none name false = tt
+
+  made_none : (s : Statement) → UsesNone (made [] w k t s)
+  made_none (statement.Fact l) = h
+  made_none (statement.Hide name) = h
+  made_none (statement.Use name) = use_none name (has_name w.uses name)
+  made_none (statement.Act a) = guard_none a (guard_parts a.guard)
+
+read_none : {k : ℕ} {w : WorldText} {ps : List (List Tok)} {text : WorldText} → Answers [] k w ps (Ok text) → w.uses ≡ [] → text.uses ≡ []
+read_none all_read h = h
+read_none {k} {w} (is_read {t = t} {s = s} d r e m a) h = read_none a (subst UsesNone m (made_none w h k t s))
+
+pub named_uses : (bytes : List ℕ) (text : WorldText) → IsWorld [] bytes text → AreNamed text.uses []
+named_uses bytes text h = subst (λ uses. AreNamed uses []) (sym (read_none h.answers refl)) tt

@@ -1,0 +1,10 @@
+pub mod Statements
+pub mod Limits
+pub mod Guards
+pub mod Binding
+pub mod Bare
+pub mod Worlds
+pub mod Holding
+pub mod Speaking
+pub mod Answering
+pub mod Laws

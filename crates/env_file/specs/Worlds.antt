@@ -1,0 +1,134 @@
+-- A world file: what its clauses say together, and which is refused first.
+use Rattle.std.specs.Prelude.{◌≡◌, ℕ, suc, Bool, true, false, ◌&&◌, List, [], ◌∷◌, ◌++◌, Option, Some, None, Result, Ok, Err, if◌then◌else◌}
+use Rattle.std.specs.List.{list_any, list_all}
+use Rattle.std.specs.Bool.{beq}
+use Rattle.std.specs.Str.{bytes_eq}
+use Rattle.asl_lexer.specs.declared.token.Tok.{Tok}
+use Rattle.asl_lexer.specs.Words.{pieces, is_end}
+use Rattle.asl_lexer.specs.Lexing.{AreTokens, IsFirstFault}
+use Rattle.asl_term.specs.declared.syntax.LiteralOf.{LiteralOf}
+use Rattle.asl_term.specs.declared.syntax.Term.{Term}
+use Rattle.asl_term.specs.declared.syntax.Term.TheVariants as term
+use Rattle.asl_term.specs.Same.{same_tree}
+use Rattle.asl_term.specs.Names.{with_name}
+use Rattle.asl_term.specs.Exprs.{is_ground_literal}
+use Rattle.asl_reading.specs.Plain.{is_plain_literal}
+use Rattle.asl_reading.specs.Lexemes.{lexemes}
+use Rattle.asl_reading.specs.Limits.{too_deep}
+use Rattle.mas_world.specs.declared.acts.Act.{Act}
+use Rattle.mas_world.specs.declared.acts.WorldText.{WorldText}
+use Rattle.env_file.specs.declared.fault.WorldFault.{WorldFault}
+use Rattle.env_file.specs.declared.fault.WorldFault.TheVariants.{Memory, Lex, Clause, Limit, Unbound, UnknownArtifact}
+use Rattle.env_file.specs.declared.statement.Part.{Part}
+use Rattle.env_file.specs.declared.statement.Effect.{Effect}
+use Rattle.env_file.specs.declared.statement.WrittenAct.{WrittenAct}
+use Rattle.env_file.specs.declared.statement.Statement.{Statement}
+use Rattle.env_file.specs.declared.statement.Statement.TheVariants as statement
+use Rattle.env_file.specs.Statements.{Says}
+use Rattle.env_file.specs.Limits.{is_within}
+use Rattle.env_file.specs.Guards.{guard_parts, exprs_of}
+use Rattle.env_file.specs.Binding.{unbound}
+
+-- ---- what is said
+
+abbrev pub same_literal : LiteralOf Term → LiteralOf Term → Bool
+same_literal l m = same_tree (term.Lit l) (term.Lit m)
+
+-- a fact goes last, unless it is there
+abbrev pub with_fact : List (LiteralOf Term) → LiteralOf Term → List (LiteralOf Term)
+with_fact facts l = if list_any (same_literal l) facts then facts else facts ++ l ∷ []
+
+-- what is added, or taken away, in order
+abbrev pub changes : Bool → List Effect → List (LiteralOf Term)
+changes add [] = []
+changes add (e ∷ es) = if beq e.add add then e.lit ∷ changes add es else changes add es
+
+abbrev pub act_of : WrittenAct → List Part → Act
+act_of a ps = record { head = a.head; by = a.by; guard = exprs_of ps; dels = changes false a.effects; adds = changes true a.effects }
+
+-- ---- one clause more
+
+abbrev pub has_name : List (List ℕ) → List ℕ → Bool
+has_name names name = list_any (bytes_eq name) names
+
+abbrev pub with_said : WorldText → LiteralOf Term → WorldText
+with_said w l = record { facts = with_fact w.facts l; hidden = w.hidden; uses = w.uses; acts = w.acts }
+
+abbrev pub with_hidden : WorldText → List ℕ → WorldText
+with_hidden w name = record { facts = w.facts; hidden = with_name w.hidden name; uses = w.uses; acts = w.acts }
+
+abbrev pub with_use : WorldText → List ℕ → WorldText
+with_use w name = record { facts = w.facts; hidden = w.hidden; uses = with_name w.uses name; acts = w.acts }
+
+abbrev pub with_act : WorldText → Act → WorldText
+with_act w a = record { facts = w.facts; hidden = w.hidden; uses = w.uses; acts = w.acts ++ a ∷ [] }
+
+-- a name that is used already is refused as no clause, one that no artifact has as unknown
+abbrev pub use_made : List (List ℕ) → WorldText → ℕ → Tok → List ℕ → Result WorldText WorldFault
+use_made artifacts w k t name =
+    if has_name w.uses name then Err (Clause k t.line t.column)
+    else (if has_name artifacts name then Ok (with_use w name) else Err (UnknownArtifact k name))
+
+abbrev pub bound_made : WorldText → ℕ → WrittenAct → List Part → Option (List ℕ) → Result WorldText WorldFault
+bound_made w k a ps None = Ok (with_act w (act_of a ps))
+bound_made w k a ps (Some name) = Err (Unbound k name)
+
+abbrev pub act_made : WorldText → ℕ → WrittenAct → List Part → Result WorldText WorldFault
+act_made w k a ps = bound_made w k a ps (unbound a ps)
+
+-- a guard with a part that is none of the three is refused as no clause
+abbrev pub guarded_made : WorldText → ℕ → Tok → WrittenAct → Option (List Part) → Result WorldText WorldFault
+guarded_made w k t a None = Err (Clause k t.line t.column)
+guarded_made w k t a (Some ps) = act_made w k a ps
+
+-- the world of before with what the clause says, or why the clause, which has the number k and begins with t, is refused
+abbrev pub made : List (List ℕ) → WorldText → ℕ → Tok → Statement → Result WorldText WorldFault
+made artifacts w k t (statement.Fact l) = Ok (with_said w l)
+made artifacts w k t (statement.Hide name) = Ok (with_hidden w name)
+made artifacts w k t (statement.Use name) = use_made artifacts w k t name
+made artifacts w k t (statement.Act a) = guarded_made w k t a (guard_parts a.guard)
+
+-- ---- pieces
+
+-- What pieces answer behind those that made a world, the first of which has the number k.
+pub data Answers (artifacts : List (List ℕ)) : ℕ → WorldText → List (List Tok) → Result WorldText WorldFault → Type 0 where
+  all_read : {k : ℕ} {w : WorldText} → Answers artifacts k w [] (Ok w)
+  brackets : {k : ℕ} {w : WorldText} {p : List Tok} {ps : List (List Tok)} → too_deep 250 0 (lexemes p) ≡ true → Answers artifacts k w (p ∷ ps) (Err (Limit k))
+  no_clause : {k : ℕ} {w : WorldText} {t : Tok} {ts : List Tok} {ps : List (List Tok)} → too_deep 250 0 (lexemes (t ∷ ts)) ≡ false
+      → ((n : ℕ) (s : Statement) → Says n (lexemes (t ∷ ts)) s → ⊥) → Answers artifacts k w ((t ∷ ts) ∷ ps) (Err (Clause k t.line t.column))
+  large : {k : ℕ} {w : WorldText} {p : List Tok} {ps : List (List Tok)} {s : Statement} → too_deep 250 0 (lexemes p) ≡ false
+      → Says 250 (lexemes p) s → is_within s ≡ false → Answers artifacts k w (p ∷ ps) (Err (Limit k))
+  is_refused : {k : ℕ} {w : WorldText} {t : Tok} {ts : List Tok} {ps : List (List Tok)} {s : Statement} {fault : WorldFault}
+      → too_deep 250 0 (lexemes (t ∷ ts)) ≡ false → Says 250 (lexemes (t ∷ ts)) s → is_within s ≡ true → made artifacts w k t s ≡ Err fault
+      → Answers artifacts k w ((t ∷ ts) ∷ ps) (Err fault)
+  is_read : {k : ℕ} {w v : WorldText} {t : Tok} {ts : List Tok} {ps : List (List Tok)} {s : Statement} {r : Result WorldText WorldFault}
+      → too_deep 250 0 (lexemes (t ∷ ts)) ≡ false → Says 250 (lexemes (t ∷ ts)) s → is_within s ≡ true → made artifacts w k t s ≡ Ok v
+      → Answers artifacts (suc k) v ps r → Answers artifacts k w ((t ∷ ts) ∷ ps) r
+
+-- ---- the whole
+
+abbrev pub nothing : WorldText
+nothing = record { facts = []; hidden = []; uses = []; acts = [] }
+
+-- the tokens of the bytes answer this
+pub record HasAnswer (artifacts : List (List ℕ)) (bytes : List ℕ) (answer : Result WorldText WorldFault) : Type 0 where
+  pub tokens : List Tok
+  pub lexed : AreTokens bytes tokens
+  pub answers : Answers artifacts 1 nothing (pieces is_end tokens) answer
+
+-- the bytes are the file of this world
+abbrev pub IsWorld : List (List ℕ) → List ℕ → WorldText → Type 0
+IsWorld artifacts bytes text = HasAnswer artifacts bytes (Ok text)
+
+-- why bytes are no world file; memory may lack anywhere
+abbrev pub IsNone : List (List ℕ) → List ℕ → WorldFault → Type 0
+IsNone artifacts bytes Memory = Unit {0}
+IsNone artifacts bytes (Lex fault) = IsFirstFault bytes fault
+IsNone artifacts bytes fault = HasAnswer artifacts bytes (Err fault)
+
+-- what bytes answer where memory is not wanting: a world, or a fault
+abbrev pub IsAnswer : List (List ℕ) → List ℕ → Result WorldText WorldFault → Type 0
+IsAnswer artifacts bytes (Ok text) = IsWorld artifacts bytes text
+IsAnswer artifacts bytes (Err Memory) = ⊥
+IsAnswer artifacts bytes (Err (Lex fault)) = IsFirstFault bytes fault
+IsAnswer artifacts bytes (Err fault) = HasAnswer artifacts bytes (Err fault)

@@ -1,0 +1,102 @@
+//! What clauses say of the trees in them.
+
+ghost use Rattle.std.specs.Prelude.{◌≡◌, [], ◌∷◌, ◌++◌, Some, IfOk};
+ghost use Rattle.asl_reading.specs.Holding.{limited};
+ghost use Rattle.env_file.specs.Holding as spec;
+
+use crate::limits::is_within;
+use crate::statement::{
+    Effect, Effects, HeldEffect, HeldEffects, HeldGuard, HeldStatement, Statement, WrittenAct,
+};
+use asl_reading::bounded::{Bounded, HeldExpr, HeldLiteral};
+use asl_term::sequence::Starved;
+use asl_term::syntax::Term;
+
+/// What is kept of a guard.
+pub fn guard_of(e: HeldExpr) -> HeldGuard
+    ensures { result ≡ spec.guard_of e }
+{
+    match e {
+        Bounded::Within(e) => Bounded::Within(Some(e)),
+        Bounded::Past(()) => Bounded::Past(()),
+    }
+}
+
+/// What is kept of an effect with its sign.
+pub fn effect_of(add: bool, l: HeldLiteral) -> HeldEffect
+    ensures { result ≡ spec.effect_of add l }
+{
+    match l {
+        Bounded::Within(lit) => Bounded::Within(Effect { add, lit }),
+        Bounded::Past(_) => Bounded::Past(()),
+    }
+}
+
+fn with_effect(es: Effects, e: Effect) -> Result<HeldEffects, Starved>
+    ensures { IfOk result (λ r. r ≡ Bounded.Within (es ++ e ∷ [])) }
+{
+    let mut all = es;
+    all.push(e)?;
+    Ok(Bounded::Within(all))
+}
+
+fn put_some(es: HeldEffects, e: HeldEffect) -> Result<HeldEffects, Starved>
+    ensures { IfOk result (λ r. r ≡ spec.put_effect es (Some e)) }
+{
+    match (es, e) {
+        (Bounded::Within(es), Bounded::Within(e)) => with_effect(es, e),
+        _ => Ok(Bounded::Past(())),
+    }
+}
+
+/// One more effect, unless it is `true`.
+pub fn put_effect(es: HeldEffects, e: Option<HeldEffect>) -> Result<HeldEffects, Starved>
+    ensures { IfOk result (λ r. r ≡ spec.put_effect es e) }
+{
+    match e {
+        Some(e) => put_some(es, e),
+        None => Ok(es),
+    }
+}
+
+// ---- statements
+
+fn settle(s: Statement) -> HeldStatement
+    ensures { result ≡ spec.hold_statement limited s }
+{
+    if is_within(&s) {
+        Bounded::Within(s)
+    } else {
+        Bounded::Past(())
+    }
+}
+
+pub fn fact_of(l: HeldLiteral) -> HeldStatement
+    ensures { result ≡ spec.fact_of limited l }
+{
+    match l {
+        Bounded::Within(l) => settle(Statement::Fact(l)),
+        Bounded::Past(_) => Bounded::Past(()),
+    }
+}
+
+pub fn act_with(
+    head: HeldLiteral,
+    by: Term,
+    guard: HeldGuard,
+    effects: HeldEffects,
+) -> HeldStatement
+    ensures { result ≡ spec.act_with limited head by guard effects }
+{
+    match (head, guard, effects) {
+        (Bounded::Within(head), Bounded::Within(guard), Bounded::Within(effects)) => {
+            settle(Statement::Act(WrittenAct {
+                head,
+                by,
+                guard,
+                effects,
+            }))
+        }
+        _ => Bounded::Past(()),
+    }
+}

@@ -1,0 +1,12 @@
+pub mod Firsts
+pub mod Functors
+pub mod Literals
+pub mod Staying
+pub mod Cuts
+pub mod Settles
+pub mod Sound
+pub mod Deeds
+pub mod Sights
+pub mod Uses
+pub mod Boxes
+pub mod Unchanged

@@ -1,0 +1,7 @@
+pub mod Guards
+pub mod Facts
+pub mod Acts
+pub mod Worlds
+pub mod Seen
+pub mod Posts
+pub mod inner

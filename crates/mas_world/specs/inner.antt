@@ -1,0 +1,2 @@
+pub mod Artifacts
+pub mod Sights

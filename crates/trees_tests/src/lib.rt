@@ -1,5 +1,0 @@
-//! Tests of lists, names and trees.
-#![tactic(auto)]
-
-#[cfg(test)]
-mod trees;
