@@ -1,5 +1,5 @@
 -- One more row of Clr.
-use Rattle.std.proofs.Common.{◌≡◌, ℕ, suc, zero, ◌+◌, ◌-◌, ◌<◌, ◌≤◌, List, [], ◌∷◌, ◌++◌, length, arith, refl, sym, ◌∙◌, subst}
+use Rattle.std.proofs.Common.{◌≡◌, ℕ, suc, ◌-◌, ◌<◌, List, arith, refl, sym, ◌∙◌, subst}
 use Rattle.asl_intend.specs.declared.entry.Means.{Means}
 use Rattle.asl_exec.specs.Parts.{Around, Parts}
 use Rattle.asl_cycle.specs.declared.rows.Sofar.{Sofar}

@@ -7,10 +7,11 @@ use Rattle.asl_intend.specs.declared.agenda.Event.{Event}
 use Rattle.asl_exec.specs.declared.rows.Row.{Row}
 use Rattle.asl_exec.specs.declared.rows.Row.TheVariants as row
 use Rattle.asl_exec.specs.Parts.{Around, Parts}
-use Rattle.asl_cycle.specs.declared.mind.Message.{Message}
-use Rattle.asl_cycle.specs.declared.mind.Input.{Input}
-use Rattle.asl_cycle.specs.declared.mind.Thought.{Thought}
-use Rattle.asl_cycle.specs.declared.mind.Thought.TheVariants as thought
+use Rattle.mas_mind.specs.declared.mind.Message.{Message}
+use Rattle.mas_mind.specs.declared.mind.Feedback.{Feedback}
+use Rattle.mas_mind.specs.declared.mind.Input.{Input}
+use Rattle.mas_mind.specs.declared.mind.Thought.{Thought}
+use Rattle.mas_mind.specs.declared.mind.Thought.TheVariants as thought
 use Rattle.asl_cycle.specs.declared.rows.Line.{Line}
 use Rattle.asl_cycle.specs.declared.rows.Line.TheVariants as line
 use Rattle.asl_cycle.specs.declared.rows.Sofar.{Sofar}
@@ -123,15 +124,16 @@ module _ (k : Around) where
   abbrev pub from_msg : Parts → Sofar → Option Message → Ran
   from_msg p s message = and_then s (msg p message) (λ q t _. from_sel_ev q t)
 
-  abbrev pub from_feed : Parts → Sofar → Option Message → Ran
-  from_feed p s message = and_then s (feed p) (λ q t _. from_msg q t message)
+  abbrev pub from_feed : Parts → Sofar → Option Feedback → Option Message → Ran
+  from_feed p s kept message = and_then s (feed k p kept) (λ q t _. from_msg q t message)
 
-  abbrev pub from_percept : Parts → Sofar → Input → Ran
-  from_percept p s i = and_then s (percept p i.percepts) (λ q t _. from_feed q t i.message)
+  abbrev pub from_percept : Parts → Sofar → Option Feedback → Input → Ran
+  from_percept p s kept i = and_then s (percept p i.percepts) (λ q t _. from_feed q t kept i.message)
 
 -- a cycle writes nothing and asks for nothing before its first row
 abbrev pub nothing_yet : Sofar
 nothing_yet = record { lines = []; messages = []; stop = false }
 
-abbrev pub cycle : Around → Parts → Input → Ran
-cycle k p i = from_percept k p nothing_yet i
+-- a cycle, with the feedback that was told since the one before
+abbrev pub cycle : Around → Parts → Option Feedback → Input → Ran
+cycle k p kept i = from_percept k p nothing_yet kept i

@@ -1,5 +1,5 @@
 -- The steps of a cycle. Each is a table: its rows are asked from above, and the first whose condition holds applies.
-use Rattle.std.specs.Prelude.{ℕ, ◌≡◌, ◌+◌, ◌-◌, Bool, true, false, List, [], ◌∷◌, ◌++◌, map, replicate, slice_get, Option, None, Some}
+use Rattle.std.specs.Prelude.{ℕ, ◌≡◌, ◌+◌, ◌-◌, Bool, true, List, [], ◌∷◌, ◌++◌, map, replicate, slice_get, Option, None, Some}
 use Rattle.asl_term.specs.declared.syntax.LiteralOf.{LiteralOf}
 use Rattle.asl_term.specs.declared.syntax.Term.{Term}
 use Rattle.asl_term.specs.declared.syntax.Kind.{Kind}
@@ -20,6 +20,8 @@ use Rattle.asl_intend.specs.declared.entry.Means.{Means}
 use Rattle.asl_intend.specs.declared.agenda.Error.{Error}
 use Rattle.asl_intend.specs.declared.agenda.Error.TheVariants as error
 use Rattle.asl_intend.specs.declared.agenda.Event.{Event}
+use Rattle.asl_intend.specs.declared.agenda.Acting.{Acting}
+use Rattle.asl_intend.specs.Stacks.{without_head}
 use Rattle.asl_intend.specs.Means.{applied_means}
 use Rattle.asl_fail.specs.declared.fail.Fell.{Fell}
 use Rattle.asl_fail.specs.declared.fail.Fell.TheVariants.{Raised, Dropped}
@@ -31,7 +33,9 @@ use Rattle.asl_exec.specs.declared.went.Went.TheVariants as went
 use Rattle.asl_exec.specs.Parts.{Around, Parts, Made, with_agenda, with_number, believing, failed}
 use Rattle.asl_exec.specs.Exec.{exec}
 use Rattle.asl_exec.specs.Clear.{clear}
-use Rattle.asl_cycle.specs.declared.mind.Message.{Message}
+use Rattle.mas_mind.specs.declared.mind.Message.{Message}
+use Rattle.mas_mind.specs.declared.mind.Feedback.{Feedback}
+use Rattle.mas_mind.specs.declared.mind.Feedback.TheVariants as feedback
 use Rattle.asl_cycle.specs.declared.rows.Line.{Line}
 use Rattle.asl_cycle.specs.declared.rows.Line.TheVariants as line
 use Rattle.asl_cycle.specs.declared.rows.Sofar.{Sofar}
@@ -87,7 +91,7 @@ dropped_or_fails k b r p v kind.Belief e next = by b p [] next
 dropped_or_fails k b r p v kind.Achieve e next = no_plan k r p v e next
 dropped_or_fails k b r p v kind.Test e next = no_plan k r p v e next
 
--- ---- Percept, Feed, Msg
+-- ---- Percept
 
 abbrev pub percept_row : List Trigger → Row
 percept_row [] = row.Percept0
@@ -99,11 +103,42 @@ percept_on p c = by (percept_row c.events) (believing p c.beliefs c.events) [] t
 abbrev pub percept : Parts → List (LiteralOf Term) → Stepped (Unit {0})
 percept p percepts = percept_on p (updated percepts p.beliefs)
 
--- Feed. No action is done yet, so none has an answer: FeedDone and FeedFail are to come
-abbrev pub feed : Parts → Stepped (Unit {0})
-feed p = by row.Feed0 p [] tt
+-- ---- Feed: what became of the action for which a stack waits, where that was told
 
--- Msg. A message is not read yet, whatever it is: the rows of its verb, Reply, ReplyFail and Ignore are to come
+-- the stack goes to the back of those that run
+abbrev pub running : Parts → List Means → Parts
+running p stack = with_agenda p (record p.agenda { running = p.agenda.running ++ stack ∷ [] })
+
+-- no stack waits for an action
+abbrev pub none_acting : Parts → Parts
+none_acting p = with_agenda p (record p.agenda { acting = None })
+
+-- FeedDone: the head of the stack is done, and the stack runs on
+abbrev pub feed_done : Parts → Acting → Stepped (Unit {0})
+feed_done p a = by row.FeedDone (running (none_acting p) (without_head a.stack)) (line.Done a.action ∷ []) tt
+
+-- FeedFail: the stack fails
+abbrev pub feed_fail : Around → Parts → Acting → Stepped (Unit {0})
+feed_fail k p a =
+    let f = fails k.plans p.number error.ActionFailed (none_acting p).agenda a.stack in
+    by row.FeedFail (with_agenda p f.agenda) (line.Failed a.action ∷ fall_lines error.ActionFailed f.fell) tt
+
+abbrev pub fed : Around → Parts → Feedback → Acting → Stepped (Unit {0})
+fed k p feedback.Done a = feed_done p a
+fed k p feedback.Failed a = feed_fail k p a
+
+-- (feedback is told where a stack waits, and nowhere else)
+abbrev pub feed_on : Around → Parts → Feedback → Option Acting → Stepped (Unit {0})
+feed_on k p f (Some a) = fed k p f a
+feed_on k p f None = by row.Feed0 p [] tt
+
+abbrev pub feed : Around → Parts → Option Feedback → Stepped (Unit {0})
+feed k p None = by row.Feed0 p [] tt
+feed k p (Some f) = feed_on k p f p.agenda.acting
+
+-- ---- Msg
+
+-- a message is not read yet, whatever it is: the rows of its verb, Reply, ReplyFail and Ignore are to come
 abbrev pub msg : Parts → Option Message → Stepped (Unit {0})
 msg p message = by row.Msg0 p [] tt
 
@@ -171,10 +206,6 @@ abbrev pub sel_appl : Parts → Intended → Stepped (Unit {0})
 sel_appl p i = by row.SelAppl (with_number p i.next) [] tt
 
 -- ---- AddIM: the means of an external event are a stack of their own, others go on top of the event's
-
--- the stack goes to the back of those that run
-abbrev pub running : Parts → List Means → Parts
-running p stack = with_agenda p (record p.agenda { running = p.agenda.running ++ stack ∷ [] })
 
 abbrev pub add_im_row : List Means → Row
 add_im_row [] = row.ExtEv

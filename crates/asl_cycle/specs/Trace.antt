@@ -4,8 +4,8 @@ use Rattle.std.specs.List.{flat_map}
 use Rattle.std.specs.Fmt.{decimal}
 use Rattle.asl_term.specs.Texts.{text}
 use Rattle.asl_term.specs.Exprs.{literal_text}
-use Rattle.asl_cycle.specs.declared.mind.Level.{Level}
-use Rattle.asl_cycle.specs.declared.mind.Level.TheVariants as level
+use Rattle.mas_mind.specs.declared.mind.Level.{Level}
+use Rattle.mas_mind.specs.declared.mind.Level.TheVariants as level
 use Rattle.asl_exec.specs.declared.rows.Row.{Row}
 use Rattle.asl_exec.specs.declared.rows.Row.TheVariants as row
 use Rattle.asl_fail.specs.Fails.{error_name}
@@ -14,7 +14,7 @@ use Rattle.asl_resolve.specs.declared.answers.Spent.TheVariants as spent
 use Rattle.asl_cycle.specs.declared.rows.Mail.{Mail}
 use Rattle.asl_cycle.specs.declared.rows.Line.{Line}
 use Rattle.asl_cycle.specs.declared.rows.Line.TheVariants as line
-use Rattle.asl_cycle.specs.Mind.{verb_text}
+use Rattle.mas_mind.specs.Minds.{verb_text}
 
 abbrev pub row_name : Row → List ℕ
 row_name row.Percept0 = codes "Percept0"

@@ -1,1 +1,6 @@
 pub mod Choosing
+pub mod Acting
+pub mod Thoughts
+pub mod Loud
+pub mod Still
+pub mod Laws

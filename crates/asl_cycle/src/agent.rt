@@ -1,12 +1,12 @@
 //! An agent: its configuration, and the lines that it has shown.
 
-ghost use Rattle.std.specs.Prelude.{◌≡◌, ◌<◌, ◌≤◌, ◌+◌, true, IfOk, length};
+ghost use Rattle.std.specs.Prelude.{◌≡◌, ◌≤◌, true, IfOk, length};
 ghost use Rattle.asl_beliefs.specs.Bases.{all_ground};
-ghost use Rattle.asl_cycle.specs.Agent.{Thinks, opening_mind};
+ghost use Rattle.asl_cycle.specs.Agent.{opening_mind};
+ghost use Rattle.mas_mind.specs.Minds.{asks_feedback};
 
 use crate::cycle::cycle;
 use crate::inner::NoActions;
-use crate::mind::{Level, quiet_of};
 use crate::opening::{add_goals, copy_plans};
 use crate::trace::write_lines;
 use asl_beliefs::beliefs::Beliefs;
@@ -17,6 +17,8 @@ use asl_resolve::answers::Budgets;
 use asl_term::names::Names;
 use asl_term::sequence::{Seq, Starved};
 use asl_term::syntax::{AgentText, Text};
+use mas_mind::mind::{Feedback, Input, Level, Thought};
+use mas_mind::thinking::Mind;
 use std::alloc::Global;
 use std::marker::Model;
 
@@ -25,6 +27,8 @@ use std::marker::Model;
 pub struct Agent {
     around: Around<NoActions>,
     parts: Parts<Beliefs>,
+    kept: Option<Feedback>,
+    awaits: bool,
     cycles: u64,
     level: Level,
     me: u32,
@@ -47,6 +51,8 @@ impl Model for Agent {
       plans = a.around.lib.plans;
       rules = a.parts.beliefs.rules;
       parts = record { beliefs = a.parts.beliefs.beliefs; agenda = a.parts.agenda; number = a.parts.number };
+      kept = a.kept;
+      awaits = a.awaits;
       cycles = a.cycles;
       level = a.level;
       budgets = a.around.budgets;
@@ -90,6 +96,8 @@ pub fn open_agent(
             agenda,
             number: 1,
         },
+        kept: None,
+        awaits: false,
         cycles: 0,
         level,
         me,
@@ -98,17 +106,39 @@ pub fn open_agent(
     })
 }
 
-impl Agent {
-    /// A cycle without percepts and mail: whether it was quiet, or `None` where it ended by a spent budget.
-    /// After `Starved` it counts too, and what it has done and shown is not said.
-    #[tactic(auto, using(crate::proofs::Laws::thinks))]
-    pub fn think(&mut self, alloc: Global) -> Result<Option<bool>, Starved>
-        requires { self.old.cycles < 1000000 }
-        ensures made { IfOk result (Thinks self.old self.new) }
-        ensures cycles { self.new.cycles ≡ self.old.cycles + 1 }
-    {
+/// Whether a thought has an action, so that feedback is due.
+fn asks(thought: &Thought) -> bool
+    ensures { result ≡ asks_feedback thought.now }
+{
+    match thought {
+        Thought::Outs(outs) => outs.action.is_some(),
+        Thought::Spent => false,
+    }
+}
+
+impl Mind for Agent {
+    ghost use Rattle.std.specs.Prelude.{refl};
+    ghost use Rattle.asl_cycle.specs.Agent.{agent_kind};
+    ghost use Rattle.asl_cycle.specs.inner.Laws as laws;
+
+    ghost kind = { agent_kind };
+
+    ghost quiet_sends_nothing = { laws.quiet_sends_nothing };
+
+    ghost quiet_again = { laws.quiet_again };
+
+    ghost awaits_after = { λ m i. refl };
+
+    ghost awaits_no_more = { λ m f. refl };
+
+    ghost goes_on = { laws.goes_on };
+
+    ghost is_told = { laws.is_told };
+
+    fn think(&mut self, alloc: Global, input: Input) -> Result<Thought, Starved> {
         self.cycles += 1;
-        let finished = cycle(alloc, &self.around, &mut self.parts)?;
+        let kept = self.kept.take();
+        let finished = cycle(alloc, &self.around, &mut self.parts, kept, &input)?;
         write_lines(
             alloc,
             &mut self.text,
@@ -116,20 +146,16 @@ impl Agent {
             self.cycles,
             finished.lines.as_slice(),
         )?;
-        Ok(quiet_of(&finished.thought))
+        self.awaits = asks(&finished.thought);
+        Ok(finished.thought)
     }
 
-    /// The lines that it has shown so far.
-    pub fn lines(&self) -> &Text
-        ensures { result.now ≡ self.now.text }
-    {
+    fn took(&mut self, feedback: Feedback) {
+        self.kept = Some(feedback);
+        self.awaits = false;
+    }
+
+    fn lines(&self) -> &Text {
         &self.text
-    }
-
-    /// How many cycles it has made. Who runs it by this count needs none of its own.
-    pub fn cycles(&self) -> u64
-        ensures { result ≡ self.now.cycles }
-    {
-        self.cycles
     }
 }

@@ -1,15 +1,14 @@
 //! A cycle: from each step to the end.
 
-ghost use Rattle.std.specs.Prelude.{◌≡◌, ◌≤◌, ◌<◌, ◌^◌, ◌+◌, ◌-◌, ◌*◌, IfOk};
+ghost use Rattle.std.specs.Prelude.{◌≡◌, ◌≤◌, ◌<◌, ◌^◌, ◌+◌, ◌-◌, ◌*◌, true, IfOk};
 ghost use Rattle.asl_exec.specs.Parts.{around, parts};
-ghost use Rattle.asl_cycle.specs.Mind.{no_input};
+ghost use Rattle.asl_beliefs.specs.Bases.{all_ground};
 ghost use Rattle.asl_cycle.specs.Cycle as spec;
 
 use crate::config::{After, Applied, Intended, Related};
-use crate::mind::{Outs, Thought};
 use crate::rows::{Line, Lines, Sofar};
 use crate::steps::{
-    add_im, appl_pl, clear_step, exec_step, percept, rel_pl, rule, sel_appl, sel_ev, sel_int,
+    add_im, appl_pl, clear_step, exec_step, feed, percept, rel_pl, rule, sel_appl, sel_ev, sel_int,
 };
 use asl_beliefs::base::BeliefBase;
 use asl_exec::parts::{Around, Parts};
@@ -19,6 +18,7 @@ use asl_intend::stack::Stack;
 use asl_resolve::actions::Actions;
 use asl_term::sequence::{Seq, Starved};
 use asl_term::syntax::Literal;
+use mas_mind::mind::{Feedback, Input, Outs, Thought};
 use std::alloc::Global;
 
 /// The lines and the thought of a whole cycle.
@@ -264,18 +264,22 @@ fn from_sel_ev<B: BeliefBase, A: Actions>(
     }
 }
 
-/// A whole cycle of an agent that senses nothing and has no mail. The counter rises by at most one and twice the tries.
+/// A whole cycle, with the feedback that was told since the one before. The counter rises by at most one and twice the
+/// tries.
 pub fn cycle<B: BeliefBase, A: Actions>(
     alloc: Global,
     k: &Around<A>,
     p: &mut Parts<B>,
+    kept: Option<Feedback>,
+    input: &Input,
 ) -> Result<Finished, Starved>
+    requires ground { all_ground input.now.percepts ≡ true }
     requires tries { k.now.budgets.tries ≤ 10000000 }
     requires room { p.old.number < 2 ^ 63 }
     ensures made { let e = around k.now.lib.plans (B.rules p.old.beliefs) (A.solve k.now.actions) k.now.budgets in
         let old = parts (B.beliefs p.old.beliefs) p.old.agenda p.old.number in
         let new = parts (B.beliefs p.new.beliefs) p.new.agenda p.new.number in
-        IfOk result (λ f. spec.cycle e old no_input ≡ record { parts = new; lines = f.lines; thought = f.thought }) }
+        IfOk result (λ f. spec.cycle e old kept input.now ≡ record { parts = new; lines = f.lines; thought = f.thought }) }
     ensures rules { B.rules p.new.beliefs ≡ B.rules p.old.beliefs }
     ensures number { p.new.number ≤ p.old.number + (1 + 2 * k.now.budgets.tries) }
 {
@@ -284,8 +288,8 @@ pub fn cycle<B: BeliefBase, A: Actions>(
         messages: Seq::new(alloc),
         stop: false,
     };
-    percept(alloc, p, &mut sofar, &Seq::new(alloc))?;
-    rule(&mut sofar, Row::Feed0)?;
+    percept(alloc, p, &mut sofar, &input.percepts)?;
+    feed(alloc, k, p, &mut sofar, kept)?;
     rule(&mut sofar, Row::Msg0)?;
     from_sel_ev(alloc, k, p, sofar)
 }

@@ -6,7 +6,7 @@ pub mod choosing;
 pub mod config;
 pub mod cycle;
 pub mod inner;
-pub mod mind;
+pub mod laws;
 pub mod opening;
 pub mod rows;
 pub mod steps;

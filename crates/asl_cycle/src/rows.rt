@@ -1,11 +1,11 @@
 //! The lines that rows write.
 
-use crate::mind::{Messages, Verb};
 use asl_exec::rows::Row;
 use asl_intend::agenda::Error;
 use asl_resolve::answers::Spent;
 use asl_term::sequence::Seq;
 use asl_term::syntax::{Literal, Term, Text};
+use mas_mind::mind::{Messages, Verb};
 
 /// A message as a line tells it: the name of the other agent, the verb and the content.
 #[derive(Drop)]

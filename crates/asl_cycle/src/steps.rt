@@ -19,7 +19,7 @@ use asl_exec::parts::{Around, Parts, fails_as, tell};
 use asl_exec::rows::Row;
 use asl_exec::went::Went;
 use asl_fail::fail::{Fell, fail};
-use asl_intend::agenda::{Error, Event};
+use asl_intend::agenda::{Acting, Error, Event};
 use asl_intend::entry::Means;
 use asl_intend::stack::Stack;
 use asl_resolve::actions::Actions;
@@ -27,6 +27,7 @@ use asl_term::copying::{copy_literal, copy_trigger};
 use asl_term::sequence::{Seq, Starved};
 use asl_term::syntax::{Kind, Literals, Trigger};
 use asl_unify::subst::no_subst;
+use mas_mind::mind::Feedback;
 use std::alloc::Global;
 
 /// Puts the line of a row last.
@@ -168,6 +169,79 @@ pub fn percept<B: BeliefBase>(
             rule(sofar, row)
         }
         Err(_) => Err(Starved),
+    }
+}
+
+/// The head of the stack that waits is done, and the stack runs on.
+fn feed_done<B: BeliefBase>(
+    p: &mut Parts<B>,
+    sofar: &mut Sofar,
+    waits: Acting,
+) -> Result<(), Starved>
+    ensures made { let old = parts (B.beliefs p.old.beliefs) p.old.agenda p.old.number in
+        let new = parts (B.beliefs p.new.beliefs) p.new.agenda p.new.number in
+        OnOk result (Wrought (spec.feed_done old waits) new sofar.old sofar.new (tt {0})) }
+    ensures beliefs { p.new.beliefs ≡ p.old.beliefs }
+    ensures number { p.new.number ≡ p.old.number }
+{
+    let Acting { stack, action } = waits;
+    let mut stack = stack;
+    stack.remove_head();
+    p.agenda.acting = None;
+    p.agenda.running.push(stack)?;
+    rule(sofar, Row::FeedDone)?;
+    sofar.lines.push(Line::Done(action))
+}
+
+/// The stack that waits fails.
+fn feed_fail<B: BeliefBase, A: Actions>(
+    alloc: Global,
+    k: &Around<A>,
+    p: &mut Parts<B>,
+    sofar: &mut Sofar,
+    waits: Acting,
+) -> Result<(), Starved>
+    ensures made { let e = around k.now.lib.plans (B.rules p.old.beliefs) (A.solve k.now.actions) k.now.budgets in
+        let old = parts (B.beliefs p.old.beliefs) p.old.agenda p.old.number in
+        let new = parts (B.beliefs p.new.beliefs) p.new.agenda p.new.number in
+        OnOk result (Wrought (spec.feed_fail e old waits) new sofar.old sofar.new (tt {0})) }
+    ensures beliefs { p.new.beliefs ≡ p.old.beliefs }
+    ensures number { p.new.number ≡ p.old.number }
+{
+    let Acting { stack, action } = waits;
+    let mut stack = stack;
+    p.agenda.acting = None;
+    let error = Error::ActionFailed;
+    let fell = fail(alloc, &mut p.agenda, &k.lib, &mut stack, error, p.number)?;
+    rule(sofar, Row::FeedFail)?;
+    sofar.lines.push(Line::Failed(action))?;
+    put_fall(&mut sofar.lines, error, fell)
+}
+
+/// What became of the action for which a stack waits, where that was told.
+pub fn feed<B: BeliefBase, A: Actions>(
+    alloc: Global,
+    k: &Around<A>,
+    p: &mut Parts<B>,
+    sofar: &mut Sofar,
+    kept: Option<Feedback>,
+) -> Result<(), Starved>
+    ensures made { let e = around k.now.lib.plans (B.rules p.old.beliefs) (A.solve k.now.actions) k.now.budgets in
+        let old = parts (B.beliefs p.old.beliefs) p.old.agenda p.old.number in
+        let new = parts (B.beliefs p.new.beliefs) p.new.agenda p.new.number in
+        OnOk result (Wrought (spec.feed e old kept) new sofar.old sofar.new (tt {0})) }
+    ensures beliefs { p.new.beliefs ≡ p.old.beliefs }
+    ensures number { p.new.number ≡ p.old.number }
+{
+    let Some(feedback) = kept else {
+        return rule(sofar, Row::Feed0);
+    };
+    let Some(waits) = p.agenda.take_action() else {
+        return rule(sofar, Row::Feed0);
+    };
+    match feedback {
+        Feedback::Done => feed_done(p, sofar, waits),
+        Feedback::Failed => feed_fail(alloc, k, p, sofar, waits),
     }
 }
 

@@ -5,7 +5,6 @@ ghost use Rattle.asl_term.specs.Exprs.{literal_text};
 ghost use Rattle.asl_cycle.specs.Trace as spec;
 ghost use Rattle.asl_fail.specs.Fails as errors;
 
-use crate::mind::{Level, verb_text};
 use crate::rows::{Line, Mail};
 use asl_exec::rows::Row;
 use asl_intend::agenda::Error;
@@ -14,6 +13,7 @@ use asl_term::printing::{write, write_number};
 use asl_term::printing_expr::write_literal;
 use asl_term::sequence::Starved;
 use asl_term::syntax::{Literal, Text};
+use mas_mind::mind::{Level, verb_text};
 use std::alloc::Global;
 
 fn row_name(row: Row) -> &'static [u8]

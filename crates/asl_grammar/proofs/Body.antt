@@ -96,3 +96,6 @@ item_shorter n ts f us e = spelled.item_shorter (sound_item limited n ts us f e)
 
 pub semicolon_shorter : (us vs : List Lexeme) → after_semicolon us ≡ Some vs → length vs < length us
 semicolon_shorter us vs e = omega (arith, ap length (semicolon_only us vs e))
+
+-- what a turn of the loop asks
+pub ruleset turns = (items_begin, items_stop, items_more, items_end, item_shorter, semicolon_shorter)

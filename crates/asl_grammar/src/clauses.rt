@@ -158,7 +158,7 @@ fn item(
 }
 
 /// The items of a body.
-#[tactic(auto, using(crate::proofs::Body::items_begin, crate::proofs::Body::items_stop, crate::proofs::Body::items_more, crate::proofs::Body::items_end, crate::proofs::Body::item_shorter, crate::proofs::Body::semicolon_shorter))]
+#[tactic(auto, using(crate::proofs::Body::turns))]
 fn item_list(
     alloc: Global,
     tokens: &[Lexeme],

@@ -71,3 +71,6 @@ all_ends front p (t ∷ ts) bytes h e = absurd (omega arith)
 
 pub token_within : (ts : List ℕ) (kind : TokKind) (n : ℕ) → token_at ts ≡ Some (kind, n) → (n ≤ length ts) × (0 < n)
 token_within ts kind n e = let f = found_some ts kind n e in (f.within, f.some)
+
+-- what a turn of the loop asks
+pub ruleset turns = (starts, blank_more, token_more, open_ends, number_ends, byte_ends, all_ends, token_within)

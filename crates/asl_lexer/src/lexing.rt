@@ -118,7 +118,7 @@ fn fault_of(at: u64, bytes: &[u8]) -> LexFault
 }
 
 /// The tokens, in order, or the first fault.
-#[tactic(auto, using(crate::proofs::Rest::starts, crate::proofs::Rest::blank_more, crate::proofs::Rest::token_more, crate::proofs::Rest::open_ends, crate::proofs::Rest::number_ends, crate::proofs::Rest::byte_ends, crate::proofs::Rest::all_ends, crate::proofs::Rest::token_within))]
+#[tactic(auto, using(crate::proofs::Rest::turns))]
 pub fn tokens(alloc: Global, bytes: &[u8]) -> Result<Toks, LexFault>
     ensures ok { IfOk result (AreTokens bytes.now) }
     ensures err { IfErr result (IsFault bytes.now) }

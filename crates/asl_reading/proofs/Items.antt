@@ -52,3 +52,6 @@ items_end item front ts m us total h e lt a = go h.count h.enough h.same
     go : (k : ℕ) → length ts ≤ k → behind front (items_by item k ts) ≡ total → total ≡ Some (front ++ m ∷ [], us)
     go zero le s = absurd (omega arith)
     go (suc k) le s = sym s ∙ ap (behind front) (item_step item k ts m us None e a)
+
+-- what a turn of the loop asks
+pub ruleset turns = (items_begin, items_stop, items_more, items_end)

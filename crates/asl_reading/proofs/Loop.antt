@@ -147,3 +147,6 @@ module _ (bs : Bounds) where
       let k : n - i ≡ suc (n - (i + 1)) = omega arith in
       let one : wrapped bs p (n - i) (Some (m, us)) ≡ wrapped bs p (n - (i + 1)) (Some (w, us)) = ap (λ (x : ℕ). wrapped bs p x (Some (m, us))) k ∙ ap (λ (o : Option Kept). wrapped bs p (n - (i + 1)) (o >>= λ w. Some (w, us))) f in
       sym one ∙ h
+
+-- what a turn of the loop over a chain asks
+pub ruleset links = (begins, begins_not, goes_on, fails, ends, joint_shorter)

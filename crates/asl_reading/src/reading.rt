@@ -85,7 +85,7 @@ fn step<'a>(
 }
 
 #[cycle(reader)]
-#[tactic(auto, using(crate::proofs::Loop::begins, crate::proofs::Loop::begins_not, crate::proofs::Loop::goes_on, crate::proofs::Loop::fails, crate::proofs::Loop::ends, crate::proofs::Loop::joint_shorter, crate::proofs::Sound::step_shorter))]
+#[tactic(auto, using(crate::proofs::Loop::links, crate::proofs::Sound::step_shorter))]
 fn chain(
     alloc: Global,
     level: Level,
@@ -308,7 +308,7 @@ fn parts(
 }
 
 #[cycle(reader)]
-#[tactic(auto, using(crate::proofs::Items::items_begin, crate::proofs::Items::items_stop, crate::proofs::Items::items_more, crate::proofs::Items::items_end, crate::proofs::Sound::item_shorter, crate::proofs::Loop::comma_shorter))]
+#[tactic(auto, using(crate::proofs::Items::turns, crate::proofs::Sound::item_shorter, crate::proofs::Loop::comma_shorter))]
 fn items(
     alloc: Global,
     level: Level,

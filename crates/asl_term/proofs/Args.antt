@@ -34,3 +34,6 @@ text_and = fold_and (List ℕ) spec.text_step
 
 pub text_or : (a b : Expr) → spec.text (expr.Or a b) ≡ codes "(" ++ spec.text a ++ codes " | " ++ spec.text b ++ codes ")"
 text_or = fold_or (List ℕ) spec.text_step
+
+-- the texts of the variants
+pub ruleset texts_of = (text_inner, text_not, text_and, text_or)

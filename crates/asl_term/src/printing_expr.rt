@@ -52,7 +52,7 @@ pub fn write_relation(alloc: Global, r: &Relation, out: &mut Text) -> Result<(),
 
 /// Appends the text of an expression.
 #[cycle(write_expr)]
-#[tactic(auto, using(crate::proofs::Args::text_inner, crate::proofs::Args::text_not, crate::proofs::Args::text_and, crate::proofs::Args::text_or, std::proofs::lemmas::Grind::common_steps))]
+#[tactic(auto, using(crate::proofs::Args::texts_of, std::proofs::lemmas::Grind::common_steps))]
 pub fn write_expr(alloc: Global, e: &Expr, out: &mut Text) -> Result<(), Starved>
     ensures { OnOk result (out.new ≡ out.old ++ spec.text e.now) }
 {

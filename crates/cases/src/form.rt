@@ -1,11 +1,11 @@
 //! What a file of cases holds.
 
 ghost use Rattle.std.specs.Prelude.{◌≤◌};
-ghost use Rattle.mas_top.specs.Limits.{IsWithin};
+ghost use Rattle.mas_report.specs.Limits.{IsWithin};
 
 use asl_term::sequence::{Seq, Starved};
 use asl_term::syntax::{Files, Numbers, Text};
-use mas_top::options::Options;
+use mas_report::options::Options;
 use std::alloc::Global;
 
 /// A line of a file: its number, from 1, its first word, and what stands behind the blank that ends this word.
@@ -87,7 +87,8 @@ pub struct Plain {
     ghost some: { 1 ≤ short },
 }
 
-/// The files of the shelf, which calls of shelf and sink fail, the words, and the name of the project.
+/// The files of the shelf, which calls of shelf and sink fail, the words, and the names of the project and of its world,
+/// empty where it has none.
 #[derive(Drop)]
 pub struct Given {
     pub files: Files,
@@ -95,6 +96,7 @@ pub struct Given {
     pub sink_fails: Numbers,
     pub words: Vec<String>,
     pub project: Text,
+    pub world: Text,
 }
 
 impl Given {
@@ -105,6 +107,7 @@ impl Given {
             sink_fails: Seq::new(alloc),
             words: Vec::new(alloc),
             project: Seq::new(alloc),
+            world: Seq::new(alloc),
         }
     }
 }

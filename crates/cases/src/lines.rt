@@ -9,8 +9,8 @@ use asl_term::sequence::Starved;
 const PIECES: [&str; 4] = ["|", "+", "!", "*"];
 
 /// The keys of a case that take a text.
-const TEXT_KEYS: [&str; 8] = [
-    "source", "file", "words", "project", "fault", "output", "trace", "has",
+const TEXT_KEYS: [&str; 10] = [
+    "source", "world", "file", "words", "project", "fault", "output", "trace", "facts", "has",
 ];
 
 /// The keys of a case that take a number, numbers or a word.

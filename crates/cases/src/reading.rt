@@ -10,15 +10,18 @@ use crate::lines::{
 use crate::values::{
     calls_into, lines_into, number, number_at, put_named, put_pieces, text_at, text_into,
 };
-use asl_cycle::mind::Level;
 use asl_term::copying::text_of;
 use asl_term::sequence::{Seq, Starved};
 use asl_term::syntax::{Filed, Files, Text};
-use mas_top::options::Options;
+use mas_mind::mind::Level;
+use mas_report::options::Options;
 use std::alloc::Global;
 
 /// The name of the file that `source` makes.
 const SOURCE_NAME: &str = "a.asl";
+
+/// The name of the file that `world` makes.
+pub const WORLD_NAME: &str = "w.env";
 
 /// The keys of which each makes a case the call of a project.
 const PROJECT_KEYS: [&str; 6] = ["project", "cycles", "lead", "depth", "tries", "level"];
@@ -59,11 +62,19 @@ fn without_feed(line: &[u8]) -> &[u8] {
     line.split(is_feed).next().unwrap_or(line)
 }
 
+/// Whether the case has a world.
+fn has_world(section: &Section<'_>) -> bool {
+    has_word(section.body, b"world")
+}
+
 /// The words of the command line: the lines under `words`, or the usual ones.
 fn words_into(alloc: Global, section: &Section<'_>, words: &mut Vec<String>) -> Result<(), Fault> {
     let Some(entry) = find(section, "words") else {
         put_word(alloc, "run", words)?;
         put_word(alloc, SOURCE_NAME, words)?;
+        if has_world(section) {
+            put_word(alloc, WORLD_NAME, words)?;
+        }
         return Ok(());
     };
     let mut text = Seq::new(alloc);
@@ -99,6 +110,9 @@ fn ask_into(alloc: Global, section: &Section<'_>, given: &mut Given) -> Result<b
         given.project.append(SOURCE_NAME.as_bytes())?;
     }
     text_at(section, "project", &mut given.project)?;
+    if has_world(section) {
+        given.world.append(WORLD_NAME.as_bytes())?;
+    }
     Ok(true)
 }
 
@@ -119,10 +133,11 @@ fn put_file(alloc: Global, entry: &Entry<'_>, files: &mut Files) -> Result<(), F
     Ok(())
 }
 
-fn put_source(alloc: Global, entry: &Entry<'_>, files: &mut Files) -> Result<(), Fault> {
+/// A file of a usual name.
+fn put_usual(alloc: Global, name: &str, entry: &Entry<'_>, files: &mut Files) -> Result<(), Fault> {
     let mut bytes = Seq::new(alloc);
     text_into(entry, &mut bytes)?;
-    let name = text_of(alloc, SOURCE_NAME.as_bytes())?;
+    let name = text_of(alloc, name.as_bytes())?;
     files.push(Filed { name, bytes })?;
     Ok(())
 }
@@ -132,7 +147,9 @@ fn files_into(alloc: Global, section: &Section<'_>, files: &mut Files) -> Result
     let lines = section.body;
     for at in 0..lines.len() {
         if lines[at].word == b"source".as_slice() {
-            put_source(alloc, &entry_at(lines, at), files)?;
+            put_usual(alloc, SOURCE_NAME, &entry_at(lines, at), files)?;
+        } else if lines[at].word == b"world".as_slice() {
+            put_usual(alloc, WORLD_NAME, &entry_at(lines, at), files)?;
         } else if lines[at].word == b"file".as_slice() {
             put_file(alloc, &entry_at(lines, at), files)?;
         }
@@ -157,9 +174,18 @@ fn put_front(alloc: Global, o: &Options, out: &mut Text) -> Result<(), Starved> 
     put_level(&o.level, out)
 }
 
+/// The facts of the world at the end, where there are some.
+fn put_facts(section: &Section<'_>, out: &mut Text) -> Result<(), Fault> {
+    out.append(b"world\n")?;
+    if let Some(entry) = find(section, "facts") {
+        lines_into(&entry, out)?;
+    }
+    Ok(())
+}
+
 /// The last lines of the report of one agent that has so many turns.
 fn put_end(alloc: Global, turns: u64, out: &mut Text) -> Result<(), Starved> {
-    put_named(alloc, "world\nmail\nschedule ", turns, out)?;
+    put_named(alloc, "mail\nschedule ", turns, out)?;
     out.append(b"\n1")?;
     for _ in 1..turns {
         out.append(b" 1")?;
@@ -182,6 +208,7 @@ fn trace_into(
     let turns = number(entry.number, entry.rest, 1, 5_000_000)?;
     put_front(alloc, o, out)?;
     lines_into(trace, out)?;
+    put_facts(section, out)?;
     put_end(alloc, turns, out)?;
     Ok(Mode::Whole)
 }
@@ -220,6 +247,20 @@ fn full_output(
     }
 }
 
+/// Turns stand with a trace, and facts with turns.
+fn check_trace(section: &Section<'_>) -> Result<(), Fault> {
+    let turns = find(section, "turns");
+    if let Some(turns) = turns {
+        if find(section, "trace").is_none() {
+            return Err(fault_at(turns.number, "turns stand without trace"));
+        }
+    }
+    match (find(section, "facts"), turns) {
+        (Some(facts), None) => Err(fault_at(facts.number, "facts stand without turns")),
+        _ => Ok(()),
+    }
+}
+
 /// The output, cut where `wrote` tells how many of its bytes were written.
 fn output_into(
     alloc: Global,
@@ -228,11 +269,7 @@ fn output_into(
     out: &mut Text,
 ) -> Result<Mode, Fault> {
     let mode = full_output(alloc, section, o, out)?;
-    if let Some(turns) = find(section, "turns") {
-        if find(section, "trace").is_none() {
-            return Err(fault_at(turns.number, "turns stand without trace"));
-        }
-    }
+    check_trace(section)?;
     if let Some(wrote) = find(section, "wrote") {
         let Mode::Whole = mode else {
             return Err(fault_at(wrote.number, "wrote stands without a whole output"));

@@ -18,6 +18,14 @@ use std::alloc::Global;
 use std::sync::Wait;
 use std::thread::Threads;
 
+/// What is asked for: words, or a project and its world.
+#[derive(Drop)]
+struct Asked {
+    words: Vec<String>,
+    project: Text,
+    world: Text,
+}
+
 /// Takes free places with blanks, until so many are left.
 fn fill(room: &mut Roomy<u8>, places: u64) -> Result<(), Starved>
     requires { places ≤ room.old.spare }
@@ -39,19 +47,32 @@ fn room_of(alloc: Global, places: u64) -> Result<Roomy<u8>, Starved>
     Ok(room)
 }
 
+/// The name, where there is one.
+fn name_if(name: &Text) -> Option<&Text> {
+    if name.len() == 0 { None } else { Some(name) }
+}
+
 fn call<R: Threads + Wait + Sync>(
     rt: &R,
     alloc: Global,
     plain: &Plain,
-    words: &[String],
-    project: &Text,
+    asked: &Asked,
     shelf: &mut MemoryShelf,
     sink: &mut MemorySink,
 ) -> Status {
     if plain.is_project {
-        run_project(rt, alloc, &plain.permitted.options, project, shelf, sink)
+        let world = name_if(&asked.world);
+        run_project(
+            rt,
+            alloc,
+            &plain.permitted.options,
+            &asked.project,
+            world,
+            shelf,
+            sink,
+        )
     } else {
-        run_words(rt, alloc, words, shelf, sink)
+        run_words(rt, alloc, asked.words.as_slice(), shelf, sink)
     }
 }
 
@@ -142,18 +163,16 @@ fn run<R: Threads + Wait + Sync>(
         sink_fails,
         words,
         project,
+        world,
     } = given;
+    let asked = Asked {
+        words,
+        project,
+        world,
+    };
     let mut shelf = memory_shelf(files, shelf_fails);
     let mut sink = memory_sink(room, plain.short, sink_fails);
-    let status = call(
-        rt,
-        alloc,
-        plain,
-        words.as_slice(),
-        &project,
-        &mut shelf,
-        &mut sink,
-    );
+    let status = call(rt, alloc, plain, &asked, &mut shelf, &mut sink);
     let written = sink.written().get(blanks..).unwrap_or(&[]);
     judge_end(alloc, plain, wanted, &status, written, reason)
 }

@@ -1,7 +1,4 @@
 pub mod Inner
-pub mod Scanned
-pub mod Alone
-pub mod Courses
-pub mod Reports
-pub mod Files
+pub mod Runs
+pub mod Caused
 pub mod Laws

@@ -1,10 +1,12 @@
--- The status of a source that has a fault.
+-- The status of a file that has a fault.
 use Rattle.std.specs.Prelude.{ℕ, List}
 use Rattle.asl_lexer.specs.declared.token.LexFault.{LexFault}
 use Rattle.asl_lexer.specs.declared.token.LexFault.TheVariants as lex
 use Rattle.asl_reading.specs.declared.fault.TextFault.{TextFault}
 use Rattle.asl_reading.specs.declared.fault.TextFault.TheVariants as fault
 use Rattle.asl_grammar.specs.Agents.{IsNone}
+use Rattle.env_file.specs.declared.fault.WorldFault.{WorldFault}
+use Rattle.env_file.specs.declared.fault.WorldFault.TheVariants as world
 use Rattle.mas_top.specs.declared.source.Unfit.{Unfit}
 use Rattle.mas_top.specs.declared.source.Unfit.TheVariants as unfit
 use Rattle.mas_top.specs.declared.status.Reason.TheVariants as reason
@@ -13,7 +15,7 @@ use Rattle.mas_top.specs.declared.status.Status.{Status}
 use Rattle.mas_top.specs.declared.status.Status.TheVariants.{Refused, Limit, Memory, Later}
 use Rattle.mas_top.specs.Later.{IsFirstLater}
 
--- why bytes are not run
+-- why the bytes of an agent are not run
 abbrev pub IsUnfit : List ℕ → Unfit → Type 0
 IsUnfit bytes (unfit.Text why) = IsNone bytes why
 IsUnfit bytes (unfit.Later number) = IsFirstLater bytes number
@@ -31,7 +33,16 @@ text_status name (fault.Lex why) = lex_status name why
 text_status name (fault.Clause number line column) = Refused name number reason.Clause
 text_status name (fault.Limit number) = Limit what.Clause number
 
--- the status for the file of this name
+-- the status for the file of an agent
 abbrev pub unfit_status : List ℕ → Unfit → Status
 unfit_status name (unfit.Text why) = text_status name why
 unfit_status name (unfit.Later number) = Later name number
+
+-- the status for the file of a world
+abbrev pub world_status : List ℕ → WorldFault → Status
+world_status name world.Memory = Memory
+world_status name (world.Lex why) = lex_status name why
+world_status name (world.Clause number line column) = Refused name number reason.Clause
+world_status name (world.Limit number) = Limit what.Clause number
+world_status name (world.Unbound number variable) = Refused name number (reason.Unbound variable)
+world_status name (world.UnknownArtifact number artifact) = Refused name number (reason.Artifact artifact)

@@ -1,5 +1,5 @@
--- Which clauses run: not yet those with an action, nor with an internal action other than `.print` and `.fail`, nor
--- with any internal action inside a formula.
+-- Which clauses run: not yet those with an internal action other than `.print` and `.fail`, nor with any internal action
+-- inside a formula.
 use Rattle.std.specs.Prelude.{ℕ, ◌≡◌, ◌+◌, Bool, true, false, not, ◌&&◌, ◌||◌, if◌then◌else◌, List, [], ◌∷◌, Option, None, Some, codes}
 use Rattle.std.specs.List.{list_all}
 use Rattle.std.specs.Str.{bytes_eq}
@@ -38,7 +38,6 @@ call_runs c = (bytes_eq c.name (codes "print") || bytes_eq c.name (codes "fail")
 
 -- an item of a body
 abbrev pub item_runs : Formula → Bool
-item_runs (formula.Act l) = false
 item_runs (formula.Inner c) = call_runs c
 item_runs other = true
 

@@ -1,15 +1,6 @@
-pub mod Limits
 pub mod Later
 pub mod Statuses
-pub mod State
-pub mod Platform
-pub mod Robin
-pub mod Schedule
-pub mod Report
 pub mod Reading
 pub mod Files
 pub mod Faults
 pub mod Headline
-pub mod Alone
-pub mod Course
-pub mod Fronts

@@ -34,6 +34,8 @@ reason_word reason.String = codes "string"
 reason_word reason.Comment = codes "comment"
 reason_word reason.Number = codes "number"
 reason_word reason.Clause = codes "clause"
+reason_word (reason.Unbound name) = codes "unbound " ++ name
+reason_word (reason.Artifact name) = codes "artifact " ++ name
 
 abbrev pub what_word : What → List ℕ
 what_word what.File = codes "file"

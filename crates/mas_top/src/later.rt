@@ -55,7 +55,6 @@ fn item_runs(item: &Formula) -> bool
     ensures { result ≡ spec.item_runs item.now }
 {
     match item {
-        Formula::Act(_) => false,
         Formula::Inner(call) => call_runs(call),
         _ => true,
     }

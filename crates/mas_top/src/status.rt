@@ -1,6 +1,6 @@
 //! How a call of the program ended.
 
-ghost use Rattle.std.specs.Prelude.{◌≡◌, ◌≢◌, IfOk, OnErr};
+ghost use Rattle.std.specs.Prelude.{◌≡◌, ◌≢◌, ◌++◌, IfOk, OnOk, OnErr};
 ghost use Rattle.mas_top.specs.Statuses.{fault_text, status_code};
 ghost use Rattle.mas_top.specs.Statuses as spec;
 
@@ -11,7 +11,7 @@ use asl_term::syntax::Text;
 use std::alloc::Global;
 
 /// Why a file is refused.
-#[derive(Clone, Copy, Debug, PartialEq, Eq, Drop)]
+#[derive(Drop)]
 pub enum Reason {
     /// A byte that stands in no token.
     Byte,
@@ -23,6 +23,10 @@ pub enum Reason {
     Number,
     /// A clause outside the grammar.
     Clause,
+    /// A variable of this name in an effect, which nothing binds.
+    Unbound(Text),
+    /// An artifact of this name, which is not there.
+    Artifact(Text),
 }
 
 /// What passes a limit: the bytes of a file, or the trees of a clause.
@@ -32,8 +36,8 @@ pub enum What {
     Clause,
 }
 
-/// How a call of the program ended. The place of `Refused` is that of a byte, from 0, and for `Reason::Clause` the
-/// number of the clause, from 1. The count of `Limit` is the allowed bytes of a file, or the number of the clause.
+/// How a call of the program ended. The place of `Refused` is that of a byte, from 0, for the first four reasons, and for
+/// the others the number of the clause, from 1. The count of `Limit` is the allowed bytes of a file, or the number of the clause.
 /// `Later` is a source whose clause of that number, from
 /// 1, is the first with a form that does not run yet.
 #[derive(Drop)]
@@ -87,15 +91,25 @@ fn missing_line(alloc: Global, name: &Text) -> Result<Text, Starved>
     Ok(text)
 }
 
-fn reason_word(why: Reason) -> &'static [u8]
-    ensures { result.now ≡ spec.reason_word why }
+/// Puts a word and a name last.
+fn put_named(out: &mut Text, word: &[u8], name: &Text) -> Result<(), Starved>
+    ensures { OnOk result (out.new ≡ out.old ++ (word.now ++ name.now)) }
+{
+    out.append(word)?;
+    out.append(name.as_slice())
+}
+
+fn put_reason(out: &mut Text, why: &Reason) -> Result<(), Starved>
+    ensures { OnOk result (out.new ≡ out.old ++ spec.reason_word why.now) }
 {
     match why {
-        Reason::Byte => b"byte",
-        Reason::String => b"string",
-        Reason::Comment => b"comment",
-        Reason::Number => b"number",
-        Reason::Clause => b"clause",
+        Reason::Byte => out.append(b"byte"),
+        Reason::String => out.append(b"string"),
+        Reason::Comment => out.append(b"comment"),
+        Reason::Number => out.append(b"number"),
+        Reason::Clause => out.append(b"clause"),
+        Reason::Unbound(name) => put_named(out, b"unbound ", name),
+        Reason::Artifact(name) => put_named(out, b"artifact ", name),
     }
 }
 
@@ -108,15 +122,15 @@ fn what_word(what: What) -> &'static [u8]
     }
 }
 
-fn refused_line(alloc: Global, file: &Text, place: u64, why: Reason) -> Result<Text, Starved>
-    ensures { IfOk result (λ t. t ≡ fault_text (Status.Refused file.now place why)) }
+fn refused_line(alloc: Global, file: &Text, place: u64, why: &Reason) -> Result<Text, Starved>
+    ensures { IfOk result (λ t. t ≡ fault_text (Status.Refused file.now place why.now)) }
 {
     let mut text = text_of(alloc, b"refused ")?;
     text.append(file.as_slice())?;
     text.push(b' ')?;
     write_number(alloc, place, &mut text)?;
     text.push(b' ')?;
-    text.append(reason_word(why))?;
+    put_reason(&mut text, why)?;
     text.push(b'\n')?;
     Ok(text)
 }
@@ -161,7 +175,7 @@ pub fn fault_line(alloc: Global, s: &Status) -> Result<Text, Starved>
         Status::Missing(name) => missing_line(alloc, name),
         Status::ReadFault => text_of(alloc, b"read fault\n"),
         Status::WriteFault => text_of(alloc, b"write fault\n"),
-        Status::Refused { file, place, why } => refused_line(alloc, file, *place, *why),
+        Status::Refused { file, place, why } => refused_line(alloc, file, *place, why),
         Status::Limit { what, count } => limit_line(alloc, *what, *count),
         Status::Budget => text_of(alloc, b"budget\n"),
         Status::Memory => text_of(alloc, b"memory\n"),

@@ -1,0 +1,31 @@
+//! What a run is given besides its files.
+
+ghost use Rattle.std.specs.Prelude.{◌≡◌};
+ghost use Rattle.mas_report.specs.Limits.{IsWithin, defaults};
+
+use mas_mind::mind::Level;
+
+/// The cycles of each agent, by how many cycles one may be ahead of another, the rules one inside another
+/// and the tries of one search, and which lines a trace shows.
+#[derive(Clone, Copy, Debug, PartialEq, Eq)]
+pub struct Options {
+    pub cycles: u64,
+    pub lead: u64,
+    pub depth: u64,
+    pub tries: u64,
+    pub level: Level,
+}
+
+/// The options of a run that names none.
+pub fn default_options() -> Options
+    ensures value { result ≡ defaults }
+    ensures within { IsWithin result }
+{
+    Options {
+        cycles: 1000,
+        lead: 8,
+        depth: 500,
+        tries: 100_000,
+        level: Level::Acts,
+    }
+}
