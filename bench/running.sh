@@ -55,6 +55,7 @@ done
 
 facts 1000 > seen.env
 echo '!g(100). +!g(0). +!g(N) <- !g(N - 1).' > seen.asl
-timed "a world of 1,000 facts, seen in 200 cycles" "$jasonrun" run seen.asl seen.env
+echo 'MAS seen { environment: seen agents: seen; }' > seen.mas2j
+timed "a world of 1,000 facts, seen in 200 cycles" "$jasonrun" run seen.mas2j
 facts 2000 > seen.env
-timed "a world of 2,000 facts, seen in 200 cycles" "$jasonrun" run seen.asl seen.env
+timed "a world of 2,000 facts, seen in 200 cycles" "$jasonrun" run seen.mas2j

@@ -6,21 +6,21 @@ use Rattle.asl_lexer.specs.Words.{pieces, is_end, IsCut}
 use Rattle.asl_lexer.specs.Words as words
 use Rattle.asl_lexer.specs.Lexing.{AreTokens}
 use Rattle.std.proofs.lemmas.List.{append-nil}
-use Rattle.asl_reading.specs.declared.lexeme.Lexeme.{Lexeme}
+use Rattle.asl_meaning.specs.declared.lexeme.Lexeme.{Lexeme}
 use Rattle.asl_grammar.specs.declared.sentence.Sentence.{Sentence}
 use Rattle.asl_reading.specs.declared.fault.TextFault.{TextFault}
 use Rattle.asl_reading.specs.declared.fault.TextFault.TheVariants.{Memory, Lex, Clause, Limit}
-use Rattle.asl_reading.specs.Lexemes.{lexemes}
+use Rattle.asl_meaning.specs.Lexemes.{lexemes}
 use Rattle.asl_grammar.specs.Sentences.{Says}
 use Rattle.asl_grammar.specs.Speaking.{sentence_by}
-use Rattle.asl_reading.specs.Limits.{too_deep}
-use Rattle.asl_reading.specs.declared.bounded.Bounded.TheVariants.{Within}
-use Rattle.asl_reading.specs.Holding.{limited, unlimited, keep_if}
+use Rattle.asl_meaning.specs.Limits.{too_deep}
+use Rattle.asl_meaning.specs.declared.bounded.Bounded.TheVariants.{Within}
+use Rattle.asl_meaning.specs.Holding.{limited, unlimited, keep_if}
 use Rattle.asl_grammar.specs.Limits.{is_within}
 use Rattle.asl_grammar.specs.Holding.{KeptSentence, hold_sentence}
 use Rattle.asl_grammar.specs.Agents.{AreSentences, IsRefused, IsNone, Answers, all_read, brackets, no_clause, large, is_read, is_later}
 use Rattle.asl_grammar.specs.Answering.{said, piece_by, piece_at, onto, answer_by, behind, Told}
-use Rattle.asl_reading.proofs.Loop.{some_is}
+use Rattle.asl_meaning.proofs.Options.{some_is}
 use Rattle.asl_grammar.proofs.Spoken.{sound_sentence}
 use Rattle.asl_grammar.proofs.Spelled.{complete_sentence}
 use Rattle.asl_grammar.proofs.Bounded.{says_within}

@@ -3,11 +3,11 @@ use Rattle.std.proofs.Common.{◌≡◌, ℕ, zero, suc, ◌<◌, ◌≤◌, Lis
 use Rattle.std.proofs.lemmas.List.{append-nil}
 use Rattle.std.specs.Option.{option_map_or}
 use Rattle.asl_term.specs.declared.syntax.Formula.{Formula}
-use Rattle.asl_reading.specs.declared.lexeme.Lexeme.{Lexeme}
-use Rattle.asl_reading.specs.Meanings.{◌>>=◌}
-use Rattle.asl_reading.specs.Reading.{Front}
-use Rattle.asl_reading.specs.declared.bounded.Bounded.TheVariants.{Within, Past}
-use Rattle.asl_reading.specs.Holding.{limited}
+use Rattle.asl_meaning.specs.declared.lexeme.Lexeme.{Lexeme}
+use Rattle.asl_meaning.specs.Meanings.{◌>>=◌}
+use Rattle.asl_meaning.specs.Leaves.{Front}
+use Rattle.asl_meaning.specs.declared.bounded.Bounded.TheVariants.{Within, Past}
+use Rattle.asl_meaning.specs.Holding.{limited}
 use Rattle.asl_grammar.specs.Holding.{KeptItem, KeptBody, before, put_item}
 use Rattle.asl_grammar.specs.Speaking.{item_by, item_list_by, after_semicolon}
 use Rattle.asl_grammar.proofs.Spoken.{sound_item, semicolon_only}

@@ -5,13 +5,13 @@ use Rattle.asl_lexer.specs.declared.token.Sign.TheVariants as sign
 use Rattle.asl_term.specs.declared.syntax.Expr.TheVariants as expr
 use Rattle.asl_term.specs.declared.syntax.Kind.{Kind}
 use Rattle.asl_term.specs.declared.syntax.Trigger.{Trigger}
-use Rattle.asl_reading.specs.declared.lexeme.Lexeme.{Lexeme}
-use Rattle.asl_reading.specs.declared.lexeme.Lexeme.TheVariants.{Sign, End}
-use Rattle.asl_reading.specs.declared.bounded.Bounded.TheVariants.{Within}
-use Rattle.asl_reading.specs.Meanings as meanings
+use Rattle.asl_meaning.specs.declared.lexeme.Lexeme.{Lexeme}
+use Rattle.asl_meaning.specs.declared.lexeme.Lexeme.TheVariants.{Sign, End}
+use Rattle.asl_meaning.specs.declared.bounded.Bounded.TheVariants.{Within}
+use Rattle.asl_meaning.specs.Meanings as meanings
 use Rattle.asl_reading.specs.Grammar.{disjunction}
-use Rattle.asl_reading.specs.Holding.{Bounds, Kept, KeptLiteral, KeptExpr, hold, hold_literal, hold_formula, as_formula, literal_plain}
-use Rattle.asl_reading.proofs.Keeping.{formula_held, true_held}
+use Rattle.asl_meaning.specs.Holding.{Bounds, Kept, KeptLiteral, KeptExpr, hold, hold_literal, hold_formula, as_formula, literal_plain}
+use Rattle.asl_meaning.proofs.Keeping.{formula_held, true_held}
 use Rattle.asl_reading.proofs.Built.{Holds, mapped_some, Reads, ReadsLiteral}
 use Rattle.asl_grammar.specs.declared.sentence.Deed.{Deed}
 use Rattle.asl_grammar.specs.declared.sentence.Sentence.TheVariants as sentence

@@ -11,14 +11,14 @@ use Rattle.asl_term.specs.declared.syntax.Trigger.{Trigger}
 use Rattle.asl_term.specs.declared.syntax.AgentText.{AgentText}
 use Rattle.asl_reading.specs.declared.fault.TextFault.{TextFault}
 use Rattle.asl_reading.specs.declared.fault.TextFault.TheVariants.{Memory, Lex, Clause, Limit}
-use Rattle.asl_reading.specs.Lexemes.{lexemes_from, lexemes}
-use Rattle.asl_reading.specs.Limits.{too_deep}
+use Rattle.asl_meaning.specs.Lexemes.{lexemes_from, lexemes}
+use Rattle.asl_meaning.specs.Limits.{too_deep}
 use Rattle.asl_grammar.specs.declared.sentence.Sentence.{Sentence}
-use Rattle.asl_reading.specs.declared.lexeme.Lexeme.{Lexeme}
+use Rattle.asl_meaning.specs.declared.lexeme.Lexeme.{Lexeme}
 use Rattle.asl_reading.proofs.Shorter.{shorter_literal}
 use Rattle.asl_grammar.specs.Sentences.{ReadsHead, a_head, ReadsLabel, no_label, a_label, ReadsTrigger, a_trigger, Says, says_fact, says_rule, says_goal, says_plan}
 use Rattle.asl_grammar.specs.Speaking.{sentence_by}
-use Rattle.asl_reading.specs.Holding.{limited}
+use Rattle.asl_meaning.specs.Holding.{limited}
 use Rattle.asl_grammar.specs.Limits.{is_within}
 use Rattle.asl_grammar.specs.Holding.{KeptSentence, hold_sentence}
 use Rattle.asl_grammar.proofs.Answered.{limited_by, said_kept, ok_is}

@@ -10,23 +10,24 @@ use Rattle.asl_term.specs.declared.syntax.Formula.{Formula}
 use Rattle.asl_term.specs.declared.syntax.Kind.{Kind}
 use Rattle.asl_term.specs.declared.syntax.Kind.TheVariants as kind
 use Rattle.asl_term.specs.declared.syntax.Trigger.{Trigger}
-use Rattle.asl_reading.specs.declared.lexeme.Lexeme.{Lexeme}
-use Rattle.asl_reading.specs.declared.lexeme.Lexeme.TheVariants.{Sign, End}
-use Rattle.asl_reading.specs.declared.bounded.Bounded.TheVariants.{Within}
-use Rattle.asl_reading.specs.Holding.{Bounds, Kept, KeptLiteral, KeptExpr, as_formula, literal_plain}
-use Rattle.asl_reading.specs.declared.leaves.Level.TheVariants as levels
+use Rattle.asl_meaning.specs.declared.lexeme.Lexeme.{Lexeme}
+use Rattle.asl_meaning.specs.declared.lexeme.Lexeme.TheVariants.{Sign, End}
+use Rattle.asl_meaning.specs.declared.bounded.Bounded.TheVariants.{Within}
+use Rattle.asl_meaning.specs.Holding.{Bounds, Kept, KeptLiteral, KeptExpr, as_formula, literal_plain}
+use Rattle.asl_meaning.specs.declared.leaves.Level.TheVariants as levels
 use Rattle.asl_grammar.specs.declared.sentence.Deed.{Deed}
 use Rattle.asl_grammar.specs.declared.sentence.Sentence.{Sentence}
 use Rattle.asl_grammar.specs.declared.sentence.Sentence.TheVariants as sentence
-use Rattle.asl_reading.specs.Meanings.{◌>>=◌}
+use Rattle.asl_meaning.specs.Meanings.{◌>>=◌}
 use Rattle.asl_reading.specs.Grammar.{disjunction}
 use Rattle.asl_reading.proofs.Built.{Reads, ReadsLiteral}
 use Rattle.asl_grammar.proofs.Made.{ReadsFormula, a_formula, ReadsHead, a_head, ReadsTrigger, a_trigger, ReadsContext, no_context, a_context, ReadsItem, with_sign, without_sign, ReadsItemList, only_item, more_items, ReadsBody, no_body, a_body, Says, says_fact, says_rule, says_goal, says_plan}
-use Rattle.asl_reading.specs.Reading.{Front, level_by, literal_by, inside}
+use Rattle.asl_meaning.specs.Leaves.{Front}
+use Rattle.asl_reading.specs.Reading.{level_by, literal_by, inside}
 use Rattle.asl_grammar.specs.Sentences.{label_of, adds_of, deed_of, ReadsLabel, no_label, a_label, ReadsKind, a_belief, an_achievement, a_test}
 use Rattle.asl_grammar.specs.Holding.{KeptTrigger, KeptItem, KeptBody, KeptSentence, trigger_of, item_with, item_of, before, goal_of, fact_of, rule_with, plan_with}
 use Rattle.asl_grammar.specs.Speaking.{after_at, after_bang, after_if, after_colon, after_arrow, after_semicolon, is_last, starts_plan, first_of, kind_at, formula_by, head_by, named, label_by, trigger_by, context_by, signed_item_by, other_item_by, item_by, item_list_by, body_by, when_last, goal_by, rule_by, clause_by, plan_by, sentence_by}
-use Rattle.asl_reading.proofs.Loop.{some_is}
+use Rattle.asl_meaning.proofs.Options.{some_is}
 use Rattle.asl_reading.proofs.Shorter.{shorter, shorter_literal}
 use Rattle.asl_reading.proofs.Sound.{bind_some, moved, Begins, mapped, sound, sound_literal}
 

@@ -14,16 +14,17 @@ use Rattle.asl_term.specs.declared.syntax.Trigger.{Trigger}
 use Rattle.asl_term.specs.Exprs.{is_ground_literal}
 use Rattle.asl_term.specs.Same.{same_tree}
 use Rattle.asl_term.proofs.Same.{same_true}
-use Rattle.asl_reading.specs.declared.meaning.Meaning.{Meaning}
-use Rattle.asl_reading.specs.declared.meaning.Meaning.TheVariants as meaning
-use Rattle.asl_reading.specs.declared.bounded.Bounded.TheVariants.{Within, Past}
-use Rattle.asl_reading.specs.Meanings.{is_pure}
-use Rattle.asl_reading.specs.Plain.{is_plain, is_plain_literal, is_action}
-use Rattle.asl_reading.specs.Limits.{within_literal, within_expr}
-use Rattle.asl_reading.specs.Holding.{Bounds, limited, unlimited, bounded, fits_term, fits_literal, fits_expr, has_small_parts, keep_if, literal_outline, term_outline, relation_outline, call_outline, formula_outline, Kept, KeptLiteral, KeptExpr, hold, hold_literal, hold_formula, literal_plain}
-use Rattle.asl_reading.proofs.Past.{falls, all_terms, never, literal_past}
-use Rattle.asl_reading.proofs.Keeping.{true_small}
-use Rattle.asl_reading.proofs.PartsKept.{all_one}
+use Rattle.asl_meaning.specs.declared.meaning.Meaning.{Meaning}
+use Rattle.asl_meaning.specs.declared.meaning.Meaning.TheVariants as meaning
+use Rattle.asl_meaning.specs.declared.bounded.Bounded.TheVariants.{Within, Past}
+use Rattle.asl_meaning.specs.Meanings.{is_pure}
+use Rattle.asl_meaning.specs.Plain.{is_plain, is_plain_literal, is_action}
+use Rattle.asl_meaning.specs.Limits.{within_literal, within_expr}
+use Rattle.asl_meaning.specs.Conjuncts.{is_literal, has_parts}
+use Rattle.asl_meaning.specs.Holding.{Bounds, limited, unlimited, bounded, fits_term, fits_literal, fits_expr, has_small_parts, keep_if, literal_outline, term_outline, relation_outline, call_outline, formula_outline, Kept, KeptLiteral, KeptExpr, hold, hold_literal, hold_formula, literal_plain}
+use Rattle.asl_meaning.proofs.Past.{falls, all_terms, never, literal_past}
+use Rattle.asl_meaning.proofs.Keeping.{true_small}
+use Rattle.asl_meaning.proofs.PartsKept.{all_one}
 use Rattle.asl_grammar.specs.declared.sentence.Deed.{Deed}
 use Rattle.asl_grammar.specs.declared.sentence.Deed.TheVariants as deed
 use Rattle.asl_grammar.specs.declared.sentence.Sentence.{Sentence}
@@ -190,7 +191,7 @@ module _ (bs : Bounds) where
       go false p = refl
   item_held (meaning.Formula e) = go (fits_expr bs e)
     where
-      go : (b : Bool) → item_of (keep_if b (meaning.Formula e) formula_outline) ≡ None
+      go : (b : Bool) → item_of (keep_if b (meaning.Formula e) (formula_outline (is_literal e) (has_parts e))) ≡ None
       go true = refl
       go false = refl
 
@@ -221,7 +222,7 @@ module _ (bs : Bounds) where
       first : has_small_parts bs l ≡ false → Past tt ≡ hold_sentence bs (sentence.Rule (record { head = l; body = x }))
       first e = past_is (sentence.Rule (record { head = l; body = x })) (falls bs (and_left (within_literal l) (within_expr x)) (literal_past bs l e))
 
-      go : (b : Bool) → has_small_parts bs l ≡ b → (c : Bool) → fits_expr bs x ≡ c → rule_with bs (keep_if b l (literal_outline (is_action l) (is_plain_literal l))) (keep_if c x tt) ≡ hold_sentence bs (sentence.Rule (record { head = l; body = x }))
+      go : (b : Bool) → has_small_parts bs l ≡ b → (c : Bool) → fits_expr bs x ≡ c → rule_with bs (keep_if b l (literal_outline (is_action l) (is_plain_literal l))) (keep_if c x (has_parts x)) ≡ hold_sentence bs (sentence.Rule (record { head = l; body = x }))
       go true e true f = refl
       go true e false f = past_is (sentence.Rule (record { head = l; body = x })) (falls bs (and_right (within_literal l) (within_expr x)) f)
       go false e true f = first e
@@ -252,7 +253,7 @@ module _ (bs : Bounds) where
       third : list_all (is_small_item bs) fs ≡ false → Past tt ≡ hold_sentence bs (plan label t x fs)
       third e = past_is (plan label t x fs) (falls bs (λ h. and_right (within_literal t.lit) (within_expr x && list_all within_formula fs) (and_right (within_expr x) (list_all within_formula fs) h)) (body_past bs fs e))
 
-      go : (b : Bool) → has_small_parts bs t.lit ≡ b → (c : Bool) → fits_expr bs x ≡ c → (d : Bool) → list_all (is_small_item bs) fs ≡ d → plan_with bs label (keep_if b t tt) (keep_if c x tt) (keep_if d fs tt) ≡ hold_sentence bs (plan label t x fs)
+      go : (b : Bool) → has_small_parts bs t.lit ≡ b → (c : Bool) → fits_expr bs x ≡ c → (d : Bool) → list_all (is_small_item bs) fs ≡ d → plan_with bs label (keep_if b t tt) (keep_if c x (has_parts x)) (keep_if d fs tt) ≡ hold_sentence bs (plan label t x fs)
       go true e true f true g = refl
       go true e true f false g = third g
       go true e false f true g = second f

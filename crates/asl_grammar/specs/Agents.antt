@@ -8,8 +8,8 @@ use Rattle.asl_grammar.specs.declared.sentence.Sentence.{Sentence}
 use Rattle.asl_grammar.specs.declared.sentence.Sentence.TheVariants as sentence
 use Rattle.asl_reading.specs.declared.fault.TextFault.{TextFault}
 use Rattle.asl_reading.specs.declared.fault.TextFault.TheVariants.{Memory, Lex, Clause, Limit}
-use Rattle.asl_reading.specs.Lexemes.{lexemes}
-use Rattle.asl_reading.specs.Limits.{too_deep}
+use Rattle.asl_meaning.specs.Lexemes.{lexemes}
+use Rattle.asl_meaning.specs.Limits.{too_deep}
 use Rattle.asl_grammar.specs.Limits.{is_within}
 use Rattle.asl_grammar.specs.Sentences.{Says}
 

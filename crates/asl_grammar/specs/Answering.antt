@@ -4,12 +4,12 @@ use Rattle.asl_lexer.specs.declared.token.Tok.{Tok}
 use Rattle.asl_grammar.specs.declared.sentence.Sentence.{Sentence}
 use Rattle.asl_reading.specs.declared.fault.TextFault.{TextFault}
 use Rattle.asl_reading.specs.declared.fault.TextFault.TheVariants.{Memory, Lex, Clause, Limit}
-use Rattle.asl_reading.specs.Lexemes.{lexemes}
-use Rattle.asl_reading.specs.declared.bounded.Bounded.TheVariants.{Within, Past}
-use Rattle.asl_reading.specs.Holding.{limited}
+use Rattle.asl_meaning.specs.Lexemes.{lexemes}
+use Rattle.asl_meaning.specs.declared.bounded.Bounded.TheVariants.{Within, Past}
+use Rattle.asl_meaning.specs.Holding.{limited}
 use Rattle.asl_grammar.specs.Holding.{KeptSentence}
 use Rattle.asl_grammar.specs.Speaking.{sentence_by}
-use Rattle.asl_reading.specs.Limits.{too_deep}
+use Rattle.asl_meaning.specs.Limits.{too_deep}
 
 -- what a piece says, or why it is refused, where its number is k
 abbrev pub said : ℕ → Tok → Option KeptSentence → Result Sentence TextFault

@@ -9,10 +9,10 @@ use Rattle.asl_term.specs.declared.syntax.Formula.{Formula}
 use Rattle.asl_term.specs.declared.syntax.Formula.TheVariants as formula
 use Rattle.asl_term.specs.declared.syntax.Kind.{Kind}
 use Rattle.asl_term.specs.declared.syntax.Trigger.{Trigger}
-use Rattle.asl_reading.specs.declared.meaning.Meaning.{Meaning}
-use Rattle.asl_reading.specs.declared.bounded.Bounded.{Bounded}
-use Rattle.asl_reading.specs.declared.bounded.Bounded.TheVariants.{Within, Past}
-use Rattle.asl_reading.specs.Holding.{Bounds, bounded, fits_literal, fits_expr, has_small_parts, keep_if, Kept, KeptLiteral, KeptExpr}
+use Rattle.asl_meaning.specs.declared.meaning.Meaning.{Meaning}
+use Rattle.asl_meaning.specs.declared.bounded.Bounded.{Bounded}
+use Rattle.asl_meaning.specs.declared.bounded.Bounded.TheVariants.{Within, Past}
+use Rattle.asl_meaning.specs.Holding.{Bounds, bounded, fits_literal, fits_expr, has_small_parts, keep_if, Kept, KeptLiteral, KeptExpr}
 use Rattle.asl_grammar.specs.declared.sentence.Deed.{Deed}
 use Rattle.asl_grammar.specs.declared.sentence.Sentence.{Sentence}
 use Rattle.asl_grammar.specs.declared.sentence.Sentence.TheVariants as sentence

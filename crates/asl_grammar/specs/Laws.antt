@@ -4,8 +4,8 @@ use Rattle.std.specs.List.{list_all}
 use Rattle.asl_term.specs.declared.syntax.AgentText.{AgentText}
 use Rattle.asl_term.specs.Exprs.{is_ground_literal}
 use Rattle.asl_reading.specs.declared.fault.TextFault.{TextFault}
-use Rattle.asl_reading.specs.declared.lexeme.Lexeme.{Lexeme}
-use Rattle.asl_reading.specs.Limits.{too_deep}
+use Rattle.asl_meaning.specs.declared.lexeme.Lexeme.{Lexeme}
+use Rattle.asl_meaning.specs.Limits.{too_deep}
 use Rattle.asl_grammar.specs.declared.sentence.Sentence.{Sentence}
 use Rattle.asl_grammar.specs.Sentences.{Says}
 use Rattle.asl_grammar.specs.Agents.{IsAgent, IsAnswer}

@@ -4,7 +4,7 @@ use Rattle.std.specs.List.{list_all}
 use Rattle.asl_term.specs.declared.syntax.Expr.TheVariants as expr
 use Rattle.asl_term.specs.declared.syntax.Formula.{Formula}
 use Rattle.asl_term.specs.declared.syntax.Formula.TheVariants as formula
-use Rattle.asl_reading.specs.Limits.{within_literal, within_expr}
+use Rattle.asl_meaning.specs.Limits.{within_literal, within_expr}
 use Rattle.asl_grammar.specs.declared.sentence.Sentence.{Sentence}
 use Rattle.asl_grammar.specs.declared.sentence.Sentence.TheVariants as sentence
 

@@ -13,17 +13,17 @@ use Rattle.asl_term.specs.declared.syntax.Kind.TheVariants as kind
 use Rattle.asl_term.specs.declared.syntax.Trigger.{Trigger}
 use Rattle.asl_term.specs.Same.{same_tree}
 use Rattle.asl_term.specs.Exprs.{is_ground_literal}
-use Rattle.asl_reading.specs.declared.lexeme.Lexeme.{Lexeme}
-use Rattle.asl_reading.specs.declared.lexeme.Lexeme.TheVariants.{Atom, Truth, Not, Sign, End}
-use Rattle.asl_reading.specs.declared.lexeme.Lexeme.TheVariants as lexeme
-use Rattle.asl_reading.specs.declared.meaning.Meaning.{Meaning}
-use Rattle.asl_reading.specs.declared.meaning.Meaning.TheVariants as meaning
+use Rattle.asl_meaning.specs.declared.lexeme.Lexeme.{Lexeme}
+use Rattle.asl_meaning.specs.declared.lexeme.Lexeme.TheVariants.{Atom, Truth, Not, Sign, End}
+use Rattle.asl_meaning.specs.declared.lexeme.Lexeme.TheVariants as lexeme
+use Rattle.asl_meaning.specs.declared.meaning.Meaning.{Meaning}
+use Rattle.asl_meaning.specs.declared.meaning.Meaning.TheVariants as meaning
 use Rattle.asl_grammar.specs.declared.sentence.Deed.{Deed}
 use Rattle.asl_grammar.specs.declared.sentence.Deed.TheVariants as deed
 use Rattle.asl_grammar.specs.declared.sentence.Sentence.{Sentence}
 use Rattle.asl_grammar.specs.declared.sentence.Sentence.TheVariants as sentence
-use Rattle.asl_reading.specs.Meanings.{as_formula, truth_name}
-use Rattle.asl_reading.specs.Plain.{is_plain_literal, is_action}
+use Rattle.asl_meaning.specs.Meanings.{as_formula, truth_name}
+use Rattle.asl_meaning.specs.Plain.{is_plain_literal, is_action}
 use Rattle.asl_reading.specs.Grammar.{Reads, disjunction, ReadsLiteral}
 
 -- ---- what is said

@@ -6,14 +6,15 @@ use Rattle.asl_lexer.specs.declared.token.Sign.TheVariants as sign
 use Rattle.asl_term.specs.declared.syntax.Expr.TheVariants as expr
 use Rattle.asl_term.specs.declared.syntax.Kind.{Kind}
 use Rattle.asl_term.specs.declared.syntax.Kind.TheVariants as kind
-use Rattle.asl_reading.specs.declared.lexeme.Lexeme.{Lexeme}
-use Rattle.asl_reading.specs.declared.lexeme.Lexeme.TheVariants.{Sign, End}
-use Rattle.asl_reading.specs.declared.bounded.Bounded.TheVariants.{Within}
-use Rattle.asl_reading.specs.Holding.{Bounds, Kept, KeptLiteral, KeptExpr, as_formula, literal_plain}
-use Rattle.asl_reading.specs.declared.leaves.Level.TheVariants as levels
+use Rattle.asl_meaning.specs.declared.lexeme.Lexeme.{Lexeme}
+use Rattle.asl_meaning.specs.declared.lexeme.Lexeme.TheVariants.{Sign, End}
+use Rattle.asl_meaning.specs.declared.bounded.Bounded.TheVariants.{Within}
+use Rattle.asl_meaning.specs.Holding.{Bounds, Kept, KeptLiteral, KeptExpr, as_formula, literal_plain}
+use Rattle.asl_meaning.specs.declared.leaves.Level.TheVariants as levels
 use Rattle.asl_grammar.specs.declared.sentence.Deed.{Deed}
-use Rattle.asl_reading.specs.Meanings.{◌>>=◌}
-use Rattle.asl_reading.specs.Reading.{Front, level_by, literal_by, inside}
+use Rattle.asl_meaning.specs.Meanings.{◌>>=◌}
+use Rattle.asl_meaning.specs.Leaves.{Front}
+use Rattle.asl_reading.specs.Reading.{level_by, literal_by, inside}
 use Rattle.asl_grammar.specs.Sentences.{label_of, adds_of, deed_of}
 use Rattle.asl_grammar.specs.Holding.{KeptTrigger, KeptItem, KeptBody, KeptSentence, trigger_of, item_with, item_of, before, goal_of, fact_of, rule_with}
 use Rattle.asl_grammar.specs.Holding.{plan_with}

@@ -1,8 +1,8 @@
 //! Clauses, read from their tokens.
 
 ghost use Rattle.std.specs.Prelude.{◌≡◌, length};
-ghost use Rattle.asl_reading.specs.Holding.{limited};
-ghost use Rattle.asl_reading.specs.Reading.{Gives, view_front};
+ghost use Rattle.asl_meaning.specs.Holding.{limited};
+ghost use Rattle.asl_meaning.specs.Leaves.{Gives, view_front};
 ghost use Rattle.asl_grammar.specs.Holding as holding;
 ghost use Rattle.asl_grammar.specs.Speaking as spec;
 
@@ -14,10 +14,10 @@ use crate::saying::{
     fact_of, goal_of, item_of, item_with, plan_with, put_item, rule_with, trigger_of,
 };
 use crate::sentence::{Deed, HeldBody, HeldItem, HeldSentence, HeldTrigger};
-use asl_reading::bounded::{Bounded, Held, HeldExpr, HeldLiteral};
-use asl_reading::held::as_formula;
-use asl_reading::lexeme::Lexeme;
-use asl_reading::parts::literal_plain;
+use asl_meaning::bounded::{Bounded, Held, HeldExpr, HeldLiteral};
+use asl_meaning::held::as_formula;
+use asl_meaning::lexeme::Lexeme;
+use asl_meaning::parts::literal_plain;
 use asl_reading::reading::{expression, literal};
 use asl_term::sequence::{Seq, Starved};
 use asl_term::syntax::{Expr, Text};

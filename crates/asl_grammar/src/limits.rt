@@ -5,7 +5,7 @@ ghost use Rattle.std.specs.List.{list_all};
 ghost use Rattle.asl_grammar.specs.Limits as spec;
 
 use crate::sentence::Sentence;
-use asl_reading::limits::{within_call, within_expr, within_literal, within_relation};
+use asl_meaning::limits::{within_call, within_expr, within_literal, within_relation};
 use asl_term::syntax::Formula;
 
 fn within_formula(f: &Formula) -> bool

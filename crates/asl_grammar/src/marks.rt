@@ -1,14 +1,14 @@
 //! What single tokens are to the reader of clauses.
 
 ghost use Rattle.std.specs.Prelude.{◌≡◌};
-ghost use Rattle.asl_reading.specs.Reading.{Gives, view_front, view_rest};
+ghost use Rattle.asl_meaning.specs.Leaves.{Gives, view_front, view_rest};
 ghost use Rattle.asl_grammar.specs.Sentences as grammar;
 ghost use Rattle.asl_grammar.specs.Speaking as spec;
 
 use crate::sentence::Deed;
 use asl_lexer::token::Sign;
-use asl_reading::lexeme::Lexeme;
-use asl_reading::meaning::truth_name;
+use asl_meaning::lexeme::Lexeme;
+use asl_meaning::meaning::truth_name;
 use asl_term::copying::{copy_text, text_of};
 use asl_term::sequence::Starved;
 use asl_term::syntax::{Kind, Text};

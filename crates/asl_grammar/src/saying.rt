@@ -3,15 +3,15 @@
 ghost use Rattle.std.specs.Prelude.{◌≡◌, [], ◌∷◌, ◌++◌, Some, IfOk};
 ghost use Rattle.std.specs.List.{list_any};
 ghost use Rattle.asl_term.specs.Same.{same_tree};
-ghost use Rattle.asl_reading.specs.Holding.{limited};
+ghost use Rattle.asl_meaning.specs.Holding.{limited};
 ghost use Rattle.asl_grammar.specs.Holding as spec;
 ghost use Rattle.asl_grammar.specs.Sentences as grammar;
 
 use crate::limits::is_within;
 use crate::sentence::{Deed, HeldBody, HeldItem, HeldSentence, HeldTrigger, Sentence};
-use asl_reading::bounded::{Bounded, Held, HeldExpr, HeldLiteral};
-use asl_reading::meaning::Meaning;
-use asl_reading::plain::is_action;
+use asl_meaning::bounded::{Bounded, Held, HeldExpr, HeldLiteral};
+use asl_meaning::meaning::Meaning;
+use asl_meaning::plain::is_action;
 use asl_term::compare::equal;
 use asl_term::copying::copy;
 use asl_term::measure::ground_literal;

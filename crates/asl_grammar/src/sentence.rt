@@ -1,6 +1,6 @@
 //! What a clause says.
 
-use asl_reading::bounded::Bounded;
+use asl_meaning::bounded::Bounded;
 use asl_term::sequence::Seq;
 use asl_term::syntax::{Clause, Formula, Formulas, Literal, Plan, Trigger};
 

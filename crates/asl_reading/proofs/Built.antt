@@ -5,23 +5,24 @@ use Rattle.asl_lexer.specs.declared.token.Sign.TheVariants as sign
 use Rattle.asl_term.specs.declared.syntax.RelOp.{RelOp}
 use Rattle.asl_term.specs.declared.syntax.Term.{Term}
 use Rattle.asl_term.specs.declared.syntax.Term.TheVariants as term
-use Rattle.asl_reading.specs.declared.lexeme.Lexeme.{Lexeme}
-use Rattle.asl_reading.specs.declared.lexeme.Lexeme.TheVariants.{Num, Str, Var, Inner, Atom, Truth, Not, Sign}
-use Rattle.asl_reading.specs.declared.meaning.Meaning.{Meaning}
-use Rattle.asl_reading.specs.declared.meaning.Meaning.TheVariants as meaning
-use Rattle.asl_reading.specs.declared.meaning.Joint.{Joint}
-use Rattle.asl_reading.specs.declared.meaning.Prefix.TheVariants as prefix
-use Rattle.asl_reading.specs.declared.leaves.Shape.{Shape}
-use Rattle.asl_reading.specs.declared.leaves.Shape.TheVariants as shape
-use Rattle.asl_reading.specs.declared.bounded.Bounded.TheVariants.{Within}
-use Rattle.asl_reading.specs.Meanings.{truth, joined as true_joined, compared as true_compared, prefixed as true_prefixed, called as true_called, as_terms as true_terms}
-use Rattle.asl_reading.specs.Grammar.{positive, negative, starts_number, variable, listing, Rule, disjunction, conjunction, negation, relation, sum, product, signed, primary, Joins, Relates, operand}
+use Rattle.asl_meaning.specs.declared.lexeme.Lexeme.{Lexeme}
+use Rattle.asl_meaning.specs.declared.lexeme.Lexeme.TheVariants.{Num, Str, Var, Inner, Atom, Truth, Not, Sign}
+use Rattle.asl_meaning.specs.declared.meaning.Meaning.{Meaning}
+use Rattle.asl_meaning.specs.declared.meaning.Meaning.TheVariants as meaning
+use Rattle.asl_meaning.specs.declared.meaning.Joint.{Joint}
+use Rattle.asl_meaning.specs.declared.meaning.Prefix.TheVariants as prefix
+use Rattle.asl_meaning.specs.declared.leaves.Shape.{Shape}
+use Rattle.asl_meaning.specs.declared.leaves.Shape.TheVariants as shape
+use Rattle.asl_meaning.specs.declared.bounded.Bounded.TheVariants.{Within}
+use Rattle.asl_meaning.specs.Meanings.{truth, joined as true_joined, compared as true_compared, prefixed as true_prefixed, called as true_called, as_terms as true_terms}
+use Rattle.asl_meaning.specs.Leaves.{positive, negative, starts_number, variable, string_of, variable_of}
+use Rattle.asl_reading.specs.Grammar.{listing, Rule, disjunction, conjunction, negation, relation, sum, product, signed, primary, Joins, Relates, operand}
 use Rattle.asl_reading.specs.Grammar as grammar
-use Rattle.asl_reading.specs.Holding.{Bounds, Kept, KeptTerms, KeptListing, KeptLiteral, hold, hold_if, hold_terms, hold_listing, hold_literal, joined, compared, prefixed, as_terms, listed, literal_of, literal_held, listing_held, called}
-use Rattle.asl_reading.specs.Reading.{no_items, open_tail, string_of, variable_of}
-use Rattle.asl_reading.proofs.Loop.{some_is}
-use Rattle.asl_reading.proofs.Keeping.{joined_held, compared_held, prefixed_held, number_held, string_held, variable_held}
-use Rattle.asl_reading.proofs.PartsKept.{terms_held, literal_made, literal_settled, listing_made, listing_settled, called_held}
+use Rattle.asl_meaning.specs.Holding.{Bounds, Kept, KeptTerms, KeptListing, KeptLiteral, hold, hold_if, hold_terms, hold_listing, hold_literal, joined, compared, prefixed, as_terms, listed, literal_of, literal_held, listing_held, called}
+use Rattle.asl_reading.specs.Reading.{no_items, open_tail}
+use Rattle.asl_meaning.proofs.Options.{some_is}
+use Rattle.asl_meaning.proofs.Keeping.{joined_held, compared_held, prefixed_held, number_held, string_held, variable_held}
+use Rattle.asl_meaning.proofs.PartsKept.{terms_held, literal_made, literal_settled, listing_made, listing_settled, called_held}
 
 -- R holds of a value of which this is kept
 pub record Holds {A B : Type 0} (keep : A → B) (R : A → Type 0) (kept : B) : Type 0 where

@@ -1,13 +1,14 @@
 -- What stands in brackets, one bracket deeper.
 use Rattle.std.proofs.Common.{◌≡◌, ℕ, zero, suc, List, [], ◌∷◌, length, Option, Some, None, refl, sym, ap, subst, ◌∙◌}
-use Rattle.asl_reading.specs.declared.lexeme.Lexeme.{Lexeme}
-use Rattle.asl_reading.specs.Holding.{Bounds, Kept}
-use Rattle.asl_reading.specs.declared.leaves.Level.{Level}
-use Rattle.asl_reading.specs.declared.leaves.Level.TheVariants as levels
-use Rattle.asl_reading.specs.declared.leaves.Shape.{Shape}
-use Rattle.asl_reading.specs.declared.leaves.Shape.TheVariants as shape
-use Rattle.asl_reading.specs.Meanings.{◌>>=◌}
-use Rattle.asl_reading.specs.Reading.{Front, Read, after_open, after_close, items_by, bracketed_by, filled_by, level_by, inside}
+use Rattle.asl_meaning.specs.declared.lexeme.Lexeme.{Lexeme}
+use Rattle.asl_meaning.specs.Holding.{Bounds, Kept}
+use Rattle.asl_meaning.specs.declared.leaves.Level.{Level}
+use Rattle.asl_meaning.specs.declared.leaves.Level.TheVariants as levels
+use Rattle.asl_meaning.specs.declared.leaves.Shape.{Shape}
+use Rattle.asl_meaning.specs.declared.leaves.Shape.TheVariants as shape
+use Rattle.asl_meaning.specs.Meanings.{◌>>=◌}
+use Rattle.asl_meaning.specs.Leaves.{Front, Read, after_open, after_close}
+use Rattle.asl_reading.specs.Reading.{items_by, bracketed_by, filled_by, level_by, inside}
 
 module _ (bs : Bounds) where
   bracketed_suc : (k : ℕ) (ts us vs ws : List Lexeme) (m : Kept) → after_open shape.Round ts ≡ Some us → level_by bs (inside bs k) levels.Or us ≡ Some (m, vs) → after_close shape.Round vs ≡ Some ws → bracketed_by (inside bs (suc k)) ts ≡ Some (m, ws)

@@ -1,19 +1,20 @@
 -- Fronts of tokens that are expressions.
 use Rattle.std.proofs.Common.{◌≡◌, ℕ, zero, suc, ◌+◌, ◌-◌, ◌<◌, ◌≤◌, Bool, true, false, leb, List, [], ◌∷◌, length, take, cond, Option, Some, None, Result, Ok, Err, refl, sym, ap, subst, ◌∙◌, arith}
 use Rattle.std.proofs.lemmas.Bool.{leb-true, leb-false}
-use Rattle.asl_reading.specs.declared.lexeme.Lexeme.{Lexeme}
-use Rattle.asl_reading.specs.declared.meaning.Meaning.{Meaning}
-use Rattle.asl_reading.specs.declared.meaning.Meaning.TheVariants as meaning
+use Rattle.asl_meaning.specs.declared.lexeme.Lexeme.{Lexeme}
+use Rattle.asl_meaning.specs.declared.meaning.Meaning.{Meaning}
+use Rattle.asl_meaning.specs.declared.meaning.Meaning.TheVariants as meaning
 use Rattle.asl_reading.specs.declared.places.Found.{Found}
 use Rattle.asl_reading.specs.declared.fault.TextFault.{TextFault}
 use Rattle.asl_reading.specs.declared.fault.TextFault.TheVariants.{Limit}
-use Rattle.asl_reading.specs.declared.leaves.Level.TheVariants as levels
-use Rattle.asl_reading.specs.Limits.{too_deep}
-use Rattle.asl_reading.specs.Holding.{Kept, limited, hold, is_small, keep_if, outline}
+use Rattle.asl_meaning.specs.declared.leaves.Level.TheVariants as levels
+use Rattle.asl_meaning.specs.Limits.{too_deep}
+use Rattle.asl_meaning.specs.Holding.{Kept, limited, hold, is_small, keep_if, outline}
 use Rattle.asl_reading.specs.Grammar.{Reads, disjunction}
-use Rattle.asl_reading.specs.Reading.{Front, Read, level_by, inside}
+use Rattle.asl_meaning.specs.Leaves.{Front, Read}
+use Rattle.asl_reading.specs.Reading.{level_by, inside}
 use Rattle.asl_reading.specs.Places.{IsFront, NoLonger, NoFront, IsLongest, IsFound, IsWhole, IsKeptWhole, IsKeptLongest, raw_of, within_raw, found_of, found_of_kept, IsAnswer, Passes, by_tree, FindsIn}
-use Rattle.asl_reading.proofs.Loop.{some_is}
+use Rattle.asl_meaning.proofs.Options.{some_is}
 use Rattle.asl_reading.proofs.Shorter.{shorter}
 use Rattle.asl_reading.proofs.Sound.{sound}
 use Rattle.asl_reading.proofs.Complete.{Stops, reads_or}

@@ -1,10 +1,11 @@
 -- Reading expressions with commas between them, as a loop does.
 use Rattle.std.proofs.Common.{◌≡◌, ℕ, zero, suc, ◌<◌, ◌≤◌, List, [], ◌∷◌, ◌++◌, length, Option, Some, None, refl, sym, ap, ◌∙◌, append_assoc, arith}
 use Rattle.std.specs.Option.{option_map_or}
-use Rattle.asl_reading.specs.declared.lexeme.Lexeme.{Lexeme}
-use Rattle.asl_reading.specs.Holding.{Kept}
-use Rattle.asl_reading.specs.Meanings.{◌>>=◌}
-use Rattle.asl_reading.specs.Reading.{Front, Read, items_by, after_comma}
+use Rattle.asl_meaning.specs.declared.lexeme.Lexeme.{Lexeme}
+use Rattle.asl_meaning.specs.Holding.{Kept}
+use Rattle.asl_meaning.specs.Meanings.{◌>>=◌}
+use Rattle.asl_meaning.specs.Leaves.{Front, Read, after_comma}
+use Rattle.asl_reading.specs.Reading.{items_by}
 
 -- what was read before, and what is still read
 abbrev pub behind : List Kept → Front (List Kept) → Front (List Kept)

@@ -1,11 +1,6 @@
-pub mod Numbering
-pub mod Sized
 pub mod Loop
 pub mod Items
 pub mod Shorter
-pub mod Past
-pub mod Keeping
-pub mod PartsKept
 pub mod Built
 pub mod Sound
 pub mod Complete

@@ -1,15 +1,17 @@
 -- Reading a chain, and prefixes before an operand, as loops do.
 use Rattle.std.proofs.Common.{◌≡◌, ℕ, zero, suc, ◌+◌, ◌-◌, ◌<◌, ◌≤◌, Bool, true, false, cond, List, [], ◌∷◌, length, Option, Some, None, refl, sym, ap, ◌∙◌, add-one, arith}
 use Rattle.std.specs.Option.{option_map, option_map_or}
-use Rattle.asl_reading.specs.declared.lexeme.Lexeme.{Lexeme}
-use Rattle.asl_reading.specs.Holding.{Bounds, Kept, prefixed}
-use Rattle.asl_reading.specs.declared.meaning.Joint.{Joint}
-use Rattle.asl_reading.specs.declared.meaning.Prefix.{Prefix}
-use Rattle.asl_reading.specs.declared.meaning.Prefix.TheVariants as prefix
-use Rattle.asl_reading.specs.declared.leaves.Level.{Level}
-use Rattle.asl_reading.specs.declared.leaves.Level.TheVariants as levels
-use Rattle.asl_reading.specs.Meanings.{◌>>=◌}
-use Rattle.asl_reading.specs.Reading.{Front, Read, joint_of, joint_at, step_by, more_by, chain_by, after_comma, is_prefix, after_prefix, wrap, wrapped, prefix_by}
+use Rattle.asl_meaning.specs.declared.lexeme.Lexeme.{Lexeme}
+use Rattle.asl_meaning.specs.Holding.{Bounds, Kept, prefixed}
+use Rattle.asl_meaning.specs.declared.meaning.Joint.{Joint}
+use Rattle.asl_meaning.specs.declared.meaning.Prefix.{Prefix}
+use Rattle.asl_meaning.specs.declared.meaning.Prefix.TheVariants as prefix
+use Rattle.asl_meaning.specs.declared.leaves.Level.{Level}
+use Rattle.asl_meaning.specs.declared.leaves.Level.TheVariants as levels
+use Rattle.asl_meaning.specs.Meanings.{◌>>=◌}
+use Rattle.asl_meaning.specs.Leaves.{Front, Read, joint_of, joint_at, after_comma, is_prefix, after_prefix}
+use Rattle.asl_meaning.proofs.Options.{some_is}
+use Rattle.asl_reading.specs.Reading.{step_by, more_by, chain_by, wrap, wrapped, prefix_by}
 
 -- how a level stands among those of its depth
 abbrev pub rank : Level → ℕ
@@ -21,9 +23,6 @@ rank levels.Or = 21
 abbrev pub prefix_rank : Prefix → ℕ
 prefix_rank prefix.Minus = 6
 prefix_rank prefix.Not = 16
-
-pub some_is : {A : Type 0} (x y : A) → Some x ≡ Some y → x ≡ y
-some_is x y e = cc
 
 pub joint_shorter : (level : Level) (ts : List Lexeme) (o : Joint) (us : List Lexeme) → joint_at level ts ≡ Some (o, us) → length us < length ts
 joint_shorter level [] o us e = absurd cc

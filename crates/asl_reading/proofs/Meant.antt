@@ -1,13 +1,13 @@
 -- One meaning.
 use Rattle.std.proofs.Common.{◌≡◌, ℕ, List, [], refl, sym, ap, ◌∙◌}
-use Rattle.asl_reading.specs.declared.lexeme.Lexeme.{Lexeme}
-use Rattle.asl_reading.specs.declared.meaning.Meaning.{Meaning}
-use Rattle.asl_reading.specs.declared.meaning.Meaning.TheVariants as meaning
-use Rattle.asl_reading.specs.declared.bounded.Bounded.TheVariants.{Within, Past}
-use Rattle.asl_reading.specs.Holding.{Kept, unlimited, hold}
+use Rattle.asl_meaning.specs.declared.lexeme.Lexeme.{Lexeme}
+use Rattle.asl_meaning.specs.declared.meaning.Meaning.{Meaning}
+use Rattle.asl_meaning.specs.declared.meaning.Meaning.TheVariants as meaning
+use Rattle.asl_meaning.specs.declared.bounded.Bounded.TheVariants.{Within, Past}
+use Rattle.asl_meaning.specs.Holding.{Kept, unlimited, hold}
 use Rattle.asl_reading.specs.Grammar.{disjunction}
 use Rattle.asl_reading.specs.Laws.{OneMeaning}
-use Rattle.asl_reading.proofs.Loop.{some_is}
+use Rattle.asl_meaning.proofs.Options.{some_is}
 use Rattle.asl_reading.proofs.Complete.{Stops, reads_or}
 
 -- without the limits all is kept

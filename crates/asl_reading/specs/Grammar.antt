@@ -1,5 +1,5 @@
 -- The grammar of expressions.
-use Rattle.std.specs.Prelude.{◌≡◌, ◌≤◌, ℕ, suc, ◌+◌, ℤ, pos, ◌-ℤ◌, Bool, true, false, nat_le, List, [], ◌∷◌, ◌++◌, Option, Some, None, if◌then◌else◌}
+use Rattle.std.specs.Prelude.{◌≡◌, ℕ, suc, ℤ, Bool, true, false, List, [], ◌∷◌, ◌++◌, Option, Some, None}
 use Rattle.asl_lexer.specs.declared.token.Sign.TheVariants as sign
 use Rattle.asl_term.specs.declared.syntax.Op.TheVariants.{Add, Sub, Mul, Div, Mod}
 use Rattle.asl_term.specs.declared.syntax.RelOp.{RelOp}
@@ -8,17 +8,18 @@ use Rattle.asl_term.specs.declared.syntax.LiteralOf.{LiteralOf}
 use Rattle.asl_term.specs.declared.syntax.ListingOf.{ListingOf}
 use Rattle.asl_term.specs.declared.syntax.Term.{Term}
 use Rattle.asl_term.specs.declared.syntax.Term.TheVariants as term
-use Rattle.asl_reading.specs.declared.lexeme.Lexeme.{Lexeme}
-use Rattle.asl_reading.specs.declared.lexeme.Lexeme.TheVariants.{Num, Str, Var, Inner, Atom, Truth, Not, Sign}
-use Rattle.asl_reading.specs.declared.lexeme.Lexeme.TheVariants as lexeme
-use Rattle.asl_reading.specs.declared.meaning.Meaning.{Meaning}
-use Rattle.asl_reading.specs.declared.meaning.Meaning.TheVariants as meaning
-use Rattle.asl_reading.specs.declared.meaning.Joint.{Joint}
-use Rattle.asl_reading.specs.declared.meaning.Joint.TheVariants as joint
-use Rattle.asl_reading.specs.declared.meaning.Prefix.TheVariants as prefix
-use Rattle.asl_reading.specs.declared.leaves.Shape.{Shape}
-use Rattle.asl_reading.specs.declared.leaves.Shape.TheVariants as shape
-use Rattle.asl_reading.specs.Meanings.{truth, as_terms, joined, compared, prefixed, called}
+use Rattle.asl_meaning.specs.declared.lexeme.Lexeme.{Lexeme}
+use Rattle.asl_meaning.specs.declared.lexeme.Lexeme.TheVariants.{Num, Str, Var, Inner, Atom, Truth, Not, Sign}
+use Rattle.asl_meaning.specs.declared.lexeme.Lexeme.TheVariants as lexeme
+use Rattle.asl_meaning.specs.declared.meaning.Meaning.{Meaning}
+use Rattle.asl_meaning.specs.declared.meaning.Meaning.TheVariants as meaning
+use Rattle.asl_meaning.specs.declared.meaning.Joint.{Joint}
+use Rattle.asl_meaning.specs.declared.meaning.Joint.TheVariants as joint
+use Rattle.asl_meaning.specs.declared.meaning.Prefix.TheVariants as prefix
+use Rattle.asl_meaning.specs.declared.leaves.Shape.{Shape}
+use Rattle.asl_meaning.specs.declared.leaves.Shape.TheVariants as shape
+use Rattle.asl_meaning.specs.Leaves.{starts_number, positive, negative, variable}
+use Rattle.asl_meaning.specs.Meanings.{truth, as_terms, joined, compared, prefixed, called}
 
 -- or, and, neg, rel, sum, prod, and prim with and without a sign before it
 pub data Rule : Type 0 where
@@ -61,21 +62,6 @@ operand sum = product
 operand product = signed
 operand signed = primary
 operand primary = primary
-
--- the numbers of 64 bits that tokens spell, alone and behind `-`
-abbrev pub positive : ℕ → Option ℤ
-positive n = if nat_le n 9223372036854775807 then Some (pos n) else None
-
-abbrev pub negative : ℕ → Option ℤ
-negative n = if nat_le n 9223372036854775807 then Some (pos 0 -ℤ pos n) else None
-
--- `-` before a number belongs to the number
-abbrev pub starts_number : List Lexeme → Bool
-starts_number (Num n ∷ xs) = true
-starts_number _ = false
-
-abbrev pub variable : List ℕ → Term
-variable name = term.Var (record { name = name; number = 0 })
 
 abbrev pub listing : List Term → Option Term → ListingOf Term
 listing items tail = record { items = items; tail = tail }

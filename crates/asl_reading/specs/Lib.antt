@@ -1,9 +1,4 @@
-pub mod Lexemes
-pub mod Meanings
 pub mod Grammar
-pub mod Limits
-pub mod Plain
-pub mod Holding
 pub mod Reading
 pub mod Places
 pub mod Laws

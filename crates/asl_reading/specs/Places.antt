@@ -3,19 +3,19 @@ use Rattle.std.specs.Prelude.{◌≡◌, ℕ, ◌+◌, ◌-◌, ◌<◌, ◌≤�
 use Rattle.asl_lexer.specs.declared.token.Tok.{Tok}
 use Rattle.asl_term.specs.declared.syntax.Term.TheVariants as term
 use Rattle.asl_term.specs.declared.syntax.Expr.TheVariants as expr
-use Rattle.asl_reading.specs.declared.lexeme.Lexeme.{Lexeme}
-use Rattle.asl_reading.specs.declared.meaning.Meaning.{Meaning}
-use Rattle.asl_reading.specs.declared.meaning.Meaning.TheVariants as meaning
+use Rattle.asl_meaning.specs.declared.lexeme.Lexeme.{Lexeme}
+use Rattle.asl_meaning.specs.declared.meaning.Meaning.{Meaning}
+use Rattle.asl_meaning.specs.declared.meaning.Meaning.TheVariants as meaning
 use Rattle.asl_reading.specs.declared.places.Raw.{Raw}
 use Rattle.asl_reading.specs.declared.places.Raw.TheVariants.{Plain, Logic}
 use Rattle.asl_reading.specs.declared.places.Found.{Found}
 use Rattle.asl_reading.specs.declared.fault.TextFault.{TextFault}
 use Rattle.asl_reading.specs.declared.fault.TextFault.TheVariants.{Memory, Lex, Clause, Limit}
 use Rattle.asl_term.specs.Trees as tree
-use Rattle.asl_reading.specs.declared.bounded.Bounded.TheVariants.{Within, Past}
+use Rattle.asl_meaning.specs.declared.bounded.Bounded.TheVariants.{Within, Past}
 use Rattle.asl_reading.specs.Grammar.{Reads, disjunction}
-use Rattle.asl_reading.specs.Holding.{Kept, limited, hold}
-use Rattle.asl_reading.specs.Limits.{too_deep, within, within_expr}
+use Rattle.asl_meaning.specs.Holding.{Kept, limited, hold}
+use Rattle.asl_meaning.specs.Limits.{too_deep, within, within_expr}
 
 -- a term where it may be one
 abbrev pub raw_of : Meaning → Raw

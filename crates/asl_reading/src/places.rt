@@ -1,17 +1,17 @@
 //! The longest expression at a place of the tokens.
 
 ghost use Rattle.std.specs.Prelude.{◌≡◌, ◌+◌, ◌<◌, ◌≤◌, ◌^◌, length, drop, IfOk};
-ghost use Rattle.asl_reading.specs.Lexemes.{lexemes};
+ghost use Rattle.asl_meaning.specs.Lexemes.{lexemes};
 ghost use Rattle.asl_reading.specs.Places as spec;
 ghost use Rattle.asl_reading.specs.Places.{IsFound, IsWhole};
 
-use crate::bounded::{Bounded, Held};
 use crate::fault::TextFault;
-use crate::lexeme::{Lexeme, lexemes};
-use crate::limits::too_deep;
-use crate::meaning::Meaning;
 use crate::reading::expression;
 use asl_lexer::token::Tok;
+use asl_meaning::bounded::{Bounded, Held};
+use asl_meaning::lexeme::{Lexeme, lexemes};
+use asl_meaning::limits::too_deep;
+use asl_meaning::meaning::Meaning;
 use asl_term::expr_measure::{expr_depth, expr_size};
 use asl_term::measure::{depth, size};
 use asl_term::sequence::Starved;

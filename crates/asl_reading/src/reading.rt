@@ -1,20 +1,21 @@
 //! Expressions, read by a descent that returns what is left.
 
 ghost use Rattle.std.specs.Prelude.{◌≡◌, ◌++◌, [], ◌∷◌, length, Some, IfOk, OnOk};
-ghost use Rattle.asl_reading.specs.Holding.{limited};
+ghost use Rattle.asl_meaning.specs.Holding.{limited};
 ghost use Rattle.asl_reading.specs.Reading as spec;
-ghost use Rattle.asl_reading.specs.Reading.{Gives, inside};
-ghost use Rattle.asl_reading.specs.declared.leaves.Level.TheVariants as levels;
+ghost use Rattle.asl_meaning.specs.Leaves.{Gives, view_front};
+ghost use Rattle.asl_reading.specs.Reading.{inside};
+ghost use Rattle.asl_meaning.specs.declared.leaves.Level.TheVariants as levels;
 
-use crate::bounded::{Bounded, Held, HeldListing, HeldLiteral, HeldTerms};
-use crate::held::{compared, joined, prefixed};
-use crate::leaves::{
+use asl_meaning::bounded::{Bounded, Held, HeldListing, HeldLiteral, HeldTerms};
+use asl_meaning::held::{compared, joined, prefixed};
+use asl_meaning::leaves::{
     Level, Shape, Start, after_bar, after_close, after_comma, after_open, after_prefix,
     after_tilde, inner_at, joint_at, name_at, relation_at, start_of, token, variable, variable_at,
 };
-use crate::lexeme::Lexeme;
-use crate::meaning::{Joint, Prefix};
-use crate::parts::{as_terms, called, listed, listing_held, literal_held, literal_of};
+use asl_meaning::lexeme::Lexeme;
+use asl_meaning::meaning::{Joint, Prefix};
+use asl_meaning::parts::{as_terms, called, listed, listing_held, literal_held, literal_of};
 use asl_term::boxed::Boxed;
 use asl_term::copying::copy_text;
 use asl_term::sequence::{Seq, Starved};
@@ -54,7 +55,7 @@ fn join_to<'a>(
     joint: Joint,
     right: Option<(Held, &'a [Lexeme])>,
 ) -> Result<Option<(Held, &'a [Lexeme])>, Starved>
-    ensures { Gives (λ x. (x.0, x.1.now)) result (spec.join_to limited left joint (spec.view_front right.entry)) }
+    ensures { Gives (λ x. (x.0, x.1.now)) result (spec.join_to limited left joint (view_front right.entry)) }
 {
     match right {
         None => Ok(None),
@@ -171,7 +172,7 @@ fn relate_to<'a>(
     op: RelOp,
     right: Option<(Held, &'a [Lexeme])>,
 ) -> Option<(Held, &'a [Lexeme])>
-    ensures { spec.view_front result ≡ spec.relate_to limited left op (spec.view_front right.entry) }
+    ensures { view_front result ≡ spec.relate_to limited left op (view_front right.entry) }
 {
     let (m, rest) = right?;
     let m = compared(op, left, m)?;

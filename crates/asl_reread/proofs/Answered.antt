@@ -9,9 +9,9 @@ use Rattle.asl_lexer.proofs.Bytes.{both}
 use Rattle.asl_lexer.proofs.Seams.{whole, before_stop}
 use Rattle.asl_lexer.proofs.SpelledTokens.{tokens_spelled}
 use Rattle.asl_term.specs.declared.syntax.AgentText.{AgentText}
-use Rattle.asl_reading.specs.declared.lexeme.Lexeme.{Lexeme}
-use Rattle.asl_reading.specs.Lexemes.{lexemes}
-use Rattle.asl_reading.specs.Limits.{too_deep}
+use Rattle.asl_meaning.specs.declared.lexeme.Lexeme.{Lexeme}
+use Rattle.asl_meaning.specs.Lexemes.{lexemes}
+use Rattle.asl_meaning.specs.Limits.{too_deep}
 use Rattle.asl_grammar.specs.declared.sentence.Sentence.{Sentence}
 use Rattle.asl_grammar.specs.declared.sentence.Sentence.TheVariants as sentence
 use Rattle.asl_grammar.specs.Limits.{is_within}

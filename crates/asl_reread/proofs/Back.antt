@@ -4,10 +4,10 @@ use Rattle.asl_lexer.specs.declared.token.Sign.TheVariants as sign
 use Rattle.asl_lexer.specs.Bare as bares
 use Rattle.asl_lexer.specs.Bare.{Bare}
 use Rattle.asl_term.specs.declared.syntax.RelOp.{RelOp}
-use Rattle.asl_reading.specs.declared.lexeme.Lexeme.{Lexeme}
-use Rattle.asl_reading.specs.declared.meaning.Meaning.{Meaning}
-use Rattle.asl_reading.specs.declared.meaning.Joint.{Joint}
-use Rattle.asl_reading.specs.Meanings.{joined, compared}
+use Rattle.asl_meaning.specs.declared.lexeme.Lexeme.{Lexeme}
+use Rattle.asl_meaning.specs.declared.meaning.Meaning.{Meaning}
+use Rattle.asl_meaning.specs.declared.meaning.Joint.{Joint}
+use Rattle.asl_meaning.specs.Meanings.{joined, compared}
 use Rattle.asl_reading.specs.Grammar.{Rule, disjunction, conjunction, negation, relation, sum, product, signed, primary, operand, Joins, Relates}
 use Rattle.asl_reading.specs.Grammar.{Reads, just_or, just_and, just_negation, just_relation, just_sum, just_product, just_signed, chained, related, in_brackets}
 use Rattle.asl_reread.specs.Shown.{mark}

@@ -7,11 +7,11 @@ use Rattle.asl_lexer.specs.Bare as bares
 use Rattle.asl_lexer.specs.Bare.{Bare}
 use Rattle.asl_term.specs.declared.syntax.Formula.{Formula}
 use Rattle.asl_term.specs.declared.syntax.Formula.TheVariants as formula
-use Rattle.asl_reading.specs.declared.lexeme.Lexeme.{Lexeme}
-use Rattle.asl_reading.specs.declared.meaning.Meaning.{Meaning}
-use Rattle.asl_reading.specs.declared.meaning.Meaning.TheVariants as meaning
-use Rattle.asl_reading.specs.Plain.{is_action}
-use Rattle.asl_reading.proofs.Loop.{some_is}
+use Rattle.asl_meaning.specs.declared.lexeme.Lexeme.{Lexeme}
+use Rattle.asl_meaning.specs.declared.meaning.Meaning.{Meaning}
+use Rattle.asl_meaning.specs.declared.meaning.Meaning.TheVariants as meaning
+use Rattle.asl_meaning.specs.Plain.{is_action}
+use Rattle.asl_meaning.proofs.Options.{some_is}
 use Rattle.asl_grammar.specs.Sentences.{item_of, before, ReadsItem, with_sign, without_sign, ReadsItemList, only_item, more_items, ReadsBody, no_body, a_body}
 use Rattle.asl_print.specs.Tokens.{formula_tokens, body_tokens}
 use Rattle.asl_print.specs.Spelled.{is_spelled_formula}

@@ -12,12 +12,12 @@ use Rattle.asl_term.specs.declared.syntax.Expr.{Expr}
 use Rattle.asl_term.specs.Trees.{all}
 use Rattle.asl_term.specs.Exprs.{map_arg}
 use Rattle.asl_term.proofs.Exprs.{fold_inner}
-use Rattle.asl_reading.specs.declared.lexeme.Lexeme.{Lexeme}
-use Rattle.asl_reading.specs.declared.meaning.Meaning.{Meaning}
-use Rattle.asl_reading.specs.declared.meaning.Meaning.TheVariants as meaning
-use Rattle.asl_reading.specs.Meanings.{◌>>=◌, is_pure, is_deed, wants_formula, as_term, as_formula, as_arg, as_args, called}
+use Rattle.asl_meaning.specs.declared.lexeme.Lexeme.{Lexeme}
+use Rattle.asl_meaning.specs.declared.meaning.Meaning.{Meaning}
+use Rattle.asl_meaning.specs.declared.meaning.Meaning.TheVariants as meaning
+use Rattle.asl_meaning.specs.Meanings.{◌>>=◌, is_pure, is_deed, wants_formula, as_term, as_formula, as_arg, as_args, called}
 use Rattle.asl_reading.specs.Grammar.{disjunction, a_call}
-use Rattle.asl_reading.proofs.Loop.{some_is}
+use Rattle.asl_meaning.proofs.Options.{some_is}
 use Rattle.asl_print.specs.Tokens as tokens
 use Rattle.asl_print.specs.Tokens.{expr_tokens, arg_tokens}
 use Rattle.asl_print.specs.Spelled.{is_spelled_expr, is_spelled_arg, spelled_expr_step}

@@ -10,9 +10,9 @@ use Rattle.asl_term.specs.declared.syntax.Expr.TheVariants as expr
 use Rattle.asl_term.specs.declared.syntax.Clause.{Clause}
 use Rattle.asl_term.specs.declared.syntax.Plan.{Plan}
 use Rattle.asl_term.specs.Exprs.{is_ground_literal}
-use Rattle.asl_reading.specs.declared.lexeme.Lexeme.{Lexeme}
-use Rattle.asl_reading.specs.declared.lexeme.Lexeme.TheVariants as lexeme
-use Rattle.asl_reading.specs.Meanings.{truth}
+use Rattle.asl_meaning.specs.declared.lexeme.Lexeme.{Lexeme}
+use Rattle.asl_meaning.specs.declared.lexeme.Lexeme.TheVariants as lexeme
+use Rattle.asl_meaning.specs.Meanings.{truth}
 use Rattle.asl_grammar.specs.declared.sentence.Sentence.{Sentence}
 use Rattle.asl_grammar.specs.declared.sentence.Sentence.TheVariants as sentence
 use Rattle.asl_grammar.specs.Sentences.{kept_once, belief_or_rule, fact, Says, says_fact, says_rule, says_goal, says_plan}

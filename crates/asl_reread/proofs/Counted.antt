@@ -10,9 +10,9 @@ use Rattle.asl_term.specs.declared.syntax.Clause.{Clause}
 use Rattle.asl_term.specs.declared.syntax.Plan.{Plan}
 use Rattle.asl_term.specs.Exprs.{is_ground_literal}
 use Rattle.asl_term.proofs.Exprs.{fold_true}
-use Rattle.asl_reading.specs.declared.lexeme.Lexeme.{Lexeme}
-use Rattle.asl_reading.specs.declared.lexeme.Lexeme.TheVariants as lexeme
-use Rattle.asl_reading.specs.Limits.{within_literal, within_expr}
+use Rattle.asl_meaning.specs.declared.lexeme.Lexeme.{Lexeme}
+use Rattle.asl_meaning.specs.declared.lexeme.Lexeme.TheVariants as lexeme
+use Rattle.asl_meaning.specs.Limits.{within_literal, within_expr}
 use Rattle.asl_grammar.specs.declared.sentence.Sentence.{Sentence}
 use Rattle.asl_grammar.specs.declared.sentence.Sentence.TheVariants as sentence
 use Rattle.asl_grammar.specs.Limits.{is_within}

@@ -19,8 +19,8 @@ use Rattle.asl_lexer.specs.Scan.{value}
 use Rattle.asl_lexer.specs.Words.{atom_word, word_of, word, onto, pieces}
 use Rattle.asl_lexer.specs.Bare.{is_atom, is_var, is_spelled_token, IsSpelledToken}
 use Rattle.asl_lexer.proofs.Bytes.{both}
-use Rattle.asl_reading.specs.declared.lexeme.Lexeme.TheVariants as lexeme
-use Rattle.asl_reading.specs.Lexemes.{unnamed, name_of, lexeme_of, counts, lexemes_from}
+use Rattle.asl_meaning.specs.declared.lexeme.Lexeme.TheVariants as lexeme
+use Rattle.asl_meaning.specs.Lexemes.{unnamed, name_of, lexeme_of, counts, lexemes_from}
 use Rattle.asl_print.specs.Spelled.{is_functor_word, is_written_var}
 use Rattle.asl_reread.proofs.Words.{by_words}
 use Rattle.asl_reread.proofs.Leaves.{var_of}

@@ -13,11 +13,11 @@ use Rattle.asl_term.specs.declared.syntax.Formula.{Formula}
 use Rattle.asl_term.specs.declared.syntax.Formula.TheVariants as formula
 use Rattle.asl_term.specs.Exprs.{map_arg}
 use Rattle.asl_term.proofs.Exprs.{fold_rel, fold_inner}
-use Rattle.asl_reading.specs.declared.lexeme.Lexeme.{Lexeme}
-use Rattle.asl_reading.specs.declared.lexeme.Lexeme.TheVariants as lexeme
-use Rattle.asl_reading.specs.declared.meaning.Meaning.{Meaning}
-use Rattle.asl_reading.specs.declared.meaning.Meaning.TheVariants as meaning
-use Rattle.asl_reading.specs.Plain.{is_none, is_action}
+use Rattle.asl_meaning.specs.declared.lexeme.Lexeme.{Lexeme}
+use Rattle.asl_meaning.specs.declared.lexeme.Lexeme.TheVariants as lexeme
+use Rattle.asl_meaning.specs.declared.meaning.Meaning.{Meaning}
+use Rattle.asl_meaning.specs.declared.meaning.Meaning.TheVariants as meaning
+use Rattle.asl_meaning.specs.Plain.{is_none, is_action}
 use Rattle.asl_reading.specs.Grammar.{Reads, disjunction, primary}
 use Rattle.asl_grammar.specs.declared.sentence.Deed.{Deed}
 use Rattle.asl_grammar.specs.declared.sentence.Deed.TheVariants as deed

@@ -18,17 +18,17 @@ use Rattle.asl_term.specs.declared.syntax.Expr.{Expr}
 use Rattle.asl_term.specs.declared.syntax.Expr.TheVariants as expr
 use Rattle.asl_term.proofs.Terms.{fold_op}
 use Rattle.asl_term.proofs.Exprs.{fold_rel, fold_not, fold_and, fold_or}
-use Rattle.asl_reading.specs.declared.lexeme.Lexeme.{Lexeme}
-use Rattle.asl_reading.specs.declared.lexeme.Lexeme.TheVariants as lexeme
-use Rattle.asl_reading.specs.Lexemes.{lexeme_of}
-use Rattle.asl_reading.specs.declared.meaning.Meaning.{Meaning}
-use Rattle.asl_reading.specs.declared.meaning.Meaning.TheVariants as meaning
-use Rattle.asl_reading.specs.declared.meaning.Joint.{Joint}
-use Rattle.asl_reading.specs.declared.meaning.Joint.TheVariants as joint
-use Rattle.asl_reading.specs.declared.meaning.Prefix.TheVariants as prefix
-use Rattle.asl_reading.specs.Meanings.{◌>>=◌, as_term, as_formula, arith, both_terms, both_formulas, either_of, both_of, joined, compared, prefixed}
+use Rattle.asl_meaning.specs.declared.lexeme.Lexeme.{Lexeme}
+use Rattle.asl_meaning.specs.declared.lexeme.Lexeme.TheVariants as lexeme
+use Rattle.asl_meaning.specs.Lexemes.{lexeme_of}
+use Rattle.asl_meaning.specs.declared.meaning.Meaning.{Meaning}
+use Rattle.asl_meaning.specs.declared.meaning.Meaning.TheVariants as meaning
+use Rattle.asl_meaning.specs.declared.meaning.Joint.{Joint}
+use Rattle.asl_meaning.specs.declared.meaning.Joint.TheVariants as joint
+use Rattle.asl_meaning.specs.declared.meaning.Prefix.TheVariants as prefix
+use Rattle.asl_meaning.specs.Meanings.{◌>>=◌, as_term, as_formula, arith, both_terms, both_formulas, either_of, both_of, joined, compared, prefixed}
 use Rattle.asl_reading.specs.Grammar.{Rule, negation, sum, Joins, or, and, plus, minus, times, over, modulo, operand, Relates, less, less_same, more, more_same, same, differ, unify, negated}
-use Rattle.asl_reading.proofs.Loop.{some_is}
+use Rattle.asl_meaning.proofs.Options.{some_is}
 use Rattle.asl_print.specs.Tokens as tokens
 use Rattle.asl_print.specs.Tokens.{op_token, rel_sign}
 use Rattle.asl_print.specs.Spelled.{is_spelled, spelled_step, is_spelled_expr, spelled_expr_step}

@@ -10,13 +10,14 @@ use Rattle.asl_lexer.specs.Words.{atom_word}
 use Rattle.asl_term.specs.declared.syntax.Var.{Var}
 use Rattle.asl_term.specs.declared.syntax.Term.TheVariants as term
 use Rattle.asl_term.proofs.Terms.{fold_num, fold_str, fold_var}
-use Rattle.asl_reading.specs.declared.lexeme.Lexeme.{Lexeme}
-use Rattle.asl_reading.specs.declared.lexeme.Lexeme.TheVariants as lexeme
-use Rattle.asl_reading.specs.Lexemes.{lexeme_of}
-use Rattle.asl_reading.specs.declared.meaning.Meaning.TheVariants as meaning
-use Rattle.asl_reading.specs.Meanings.{truth, truth_name}
-use Rattle.asl_reading.specs.Grammar.{primary, positive, negative, variable, a_number, a_negative, a_string, a_variable, a_truth}
-use Rattle.asl_reading.proofs.Loop.{some_is}
+use Rattle.asl_meaning.specs.declared.lexeme.Lexeme.{Lexeme}
+use Rattle.asl_meaning.specs.declared.lexeme.Lexeme.TheVariants as lexeme
+use Rattle.asl_meaning.specs.Lexemes.{lexeme_of}
+use Rattle.asl_meaning.specs.declared.meaning.Meaning.TheVariants as meaning
+use Rattle.asl_meaning.specs.Meanings.{truth, truth_name}
+use Rattle.asl_meaning.specs.Leaves.{positive, negative, variable}
+use Rattle.asl_reading.specs.Grammar.{primary, a_number, a_negative, a_string, a_variable, a_truth}
+use Rattle.asl_meaning.proofs.Options.{some_is}
 use Rattle.asl_print.specs.Tokens as tokens
 use Rattle.asl_print.specs.Spelled.{spelled_step, is_written_var}
 use Rattle.asl_reread.specs.Shown.{num_shown, term_step}

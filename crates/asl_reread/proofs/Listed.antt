@@ -4,10 +4,10 @@ use Rattle.asl_lexer.specs.declared.token.Sign as signs
 use Rattle.asl_lexer.specs.declared.token.Sign.TheVariants as sign
 use Rattle.asl_lexer.specs.Bare as bares
 use Rattle.asl_lexer.specs.Bare.{Bare}
-use Rattle.asl_reading.specs.declared.lexeme.Lexeme.{Lexeme}
-use Rattle.asl_reading.specs.declared.meaning.Meaning.{Meaning}
-use Rattle.asl_reading.specs.declared.leaves.Shape.{Shape}
-use Rattle.asl_reading.specs.declared.leaves.Shape.TheVariants as shape
+use Rattle.asl_meaning.specs.declared.lexeme.Lexeme.{Lexeme}
+use Rattle.asl_meaning.specs.declared.meaning.Meaning.{Meaning}
+use Rattle.asl_meaning.specs.declared.leaves.Shape.{Shape}
+use Rattle.asl_meaning.specs.declared.leaves.Shape.TheVariants as shape
 use Rattle.asl_reading.specs.Grammar.{Rule, ReadsItems, last_item, next_item, ReadsParts, no_parts, round_parts, square_parts}
 use Rattle.asl_print.specs.Tokens.{comma_tokens, between_tokens}
 use Rattle.asl_reread.specs.Shown.{mark, commas_shown, between_shown}

@@ -11,11 +11,12 @@ use Rattle.asl_term.specs.declared.syntax.Term.{Term}
 use Rattle.asl_term.specs.declared.syntax.Term.TheVariants as term
 use Rattle.asl_term.specs.Trees.{all, or_true}
 use Rattle.asl_term.proofs.Terms.{fold_var, fold_list}
-use Rattle.asl_reading.specs.declared.lexeme.Lexeme.{Lexeme}
-use Rattle.asl_reading.specs.declared.lexeme.Lexeme.TheVariants as lexeme
-use Rattle.asl_reading.specs.declared.meaning.Meaning.{Meaning}
-use Rattle.asl_reading.specs.declared.meaning.Meaning.TheVariants as meaning
-use Rattle.asl_reading.specs.Grammar.{sum, variable, listing, ReadsItems, ReadsList, empty_list, some_list, ReadsTail, no_tail, variable_tail, a_list}
+use Rattle.asl_meaning.specs.declared.lexeme.Lexeme.{Lexeme}
+use Rattle.asl_meaning.specs.declared.lexeme.Lexeme.TheVariants as lexeme
+use Rattle.asl_meaning.specs.declared.meaning.Meaning.{Meaning}
+use Rattle.asl_meaning.specs.declared.meaning.Meaning.TheVariants as meaning
+use Rattle.asl_meaning.specs.Leaves.{variable}
+use Rattle.asl_reading.specs.Grammar.{sum, listing, ReadsItems, ReadsList, empty_list, some_list, ReadsTail, no_tail, variable_tail, a_list}
 use Rattle.asl_print.specs.Tokens as tokens
 use Rattle.asl_print.specs.Tokens.{term_tokens, comma_tokens, tail_tokens}
 use Rattle.asl_print.specs.Spelled.{is_spelled, spelled_step, is_written_var}

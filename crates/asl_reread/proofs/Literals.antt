@@ -9,14 +9,14 @@ use Rattle.asl_term.specs.declared.syntax.Term.{Term}
 use Rattle.asl_term.specs.declared.syntax.Term.TheVariants as term
 use Rattle.asl_term.specs.Trees.{all}
 use Rattle.asl_term.proofs.Terms.{fold_lit}
-use Rattle.asl_reading.specs.declared.lexeme.Lexeme.{Lexeme}
-use Rattle.asl_reading.specs.declared.lexeme.Lexeme.TheVariants as lexeme
-use Rattle.asl_reading.specs.declared.meaning.Meaning.{Meaning}
-use Rattle.asl_reading.specs.declared.meaning.Meaning.TheVariants as meaning
-use Rattle.asl_reading.specs.declared.leaves.Shape.TheVariants as shape
-use Rattle.asl_reading.specs.Meanings.{◌>>=◌, as_term, as_terms}
+use Rattle.asl_meaning.specs.declared.lexeme.Lexeme.{Lexeme}
+use Rattle.asl_meaning.specs.declared.lexeme.Lexeme.TheVariants as lexeme
+use Rattle.asl_meaning.specs.declared.meaning.Meaning.{Meaning}
+use Rattle.asl_meaning.specs.declared.meaning.Meaning.TheVariants as meaning
+use Rattle.asl_meaning.specs.declared.leaves.Shape.TheVariants as shape
+use Rattle.asl_meaning.specs.Meanings.{◌>>=◌, as_term, as_terms}
 use Rattle.asl_reading.specs.Grammar.{sum, ReadsParts, ReadsAtom, an_atom, ReadsLiteral, is_held, is_denied, a_literal}
-use Rattle.asl_reading.proofs.Loop.{some_is}
+use Rattle.asl_meaning.proofs.Options.{some_is}
 use Rattle.asl_print.specs.Tokens as tokens
 use Rattle.asl_print.specs.Tokens.{term_tokens, literal_tokens, between_tokens, sign_tokens}
 use Rattle.asl_print.specs.Spelled.{is_functor, is_spelled, spelled_step, is_spelled_literal}

@@ -14,12 +14,12 @@ use Rattle.asl_term.specs.declared.syntax.Expr.{Expr}
 use Rattle.asl_term.specs.declared.syntax.Expr.TheVariants as expr
 use Rattle.asl_term.proofs.Terms.{fold_lit}
 use Rattle.asl_term.proofs.Exprs.{fold_true, fold_false, fold_holds}
-use Rattle.asl_reading.specs.declared.lexeme.Lexeme.{Lexeme}
-use Rattle.asl_reading.specs.declared.lexeme.Lexeme.TheVariants as lexeme
-use Rattle.asl_reading.specs.Lexemes.{lexeme_of}
-use Rattle.asl_reading.specs.declared.meaning.Meaning.{Meaning}
-use Rattle.asl_reading.specs.declared.meaning.Meaning.TheVariants as meaning
-use Rattle.asl_reading.specs.Meanings.{atom, truth_name, is_pure, as_term, as_formula}
+use Rattle.asl_meaning.specs.declared.lexeme.Lexeme.{Lexeme}
+use Rattle.asl_meaning.specs.declared.lexeme.Lexeme.TheVariants as lexeme
+use Rattle.asl_meaning.specs.Lexemes.{lexeme_of}
+use Rattle.asl_meaning.specs.declared.meaning.Meaning.{Meaning}
+use Rattle.asl_meaning.specs.declared.meaning.Meaning.TheVariants as meaning
+use Rattle.asl_meaning.specs.Meanings.{atom, truth_name, is_pure, as_term, as_formula}
 use Rattle.asl_reading.specs.Grammar.{Rule, negation, primary}
 use Rattle.asl_print.specs.Tokens as tokens
 use Rattle.asl_print.specs.Tokens.{term_tokens, expr_tokens}

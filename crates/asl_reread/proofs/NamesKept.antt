@@ -14,7 +14,7 @@ use Rattle.asl_term.specs.declared.syntax.Term.TheVariants as term
 use Rattle.asl_term.specs.Same.{same_tree}
 use Rattle.asl_term.specs.Exprs.{literal_size, literal_depth}
 use Rattle.asl_term.proofs.Same.{same_true}
-use Rattle.asl_reading.specs.Limits.{within_literal}
+use Rattle.asl_meaning.specs.Limits.{within_literal}
 use Rattle.asl_grammar.specs.Sentences.{once_behind, kept_once}
 use Rattle.asl_reread.specs.Shown.{term_shown, literal_shown}
 use Rattle.asl_reread.proofs.Names.{nth_name, names, AreCounted}

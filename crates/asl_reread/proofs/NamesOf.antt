@@ -18,8 +18,8 @@ use Rattle.asl_term.specs.declared.syntax.Term.TheVariants as term
 use Rattle.asl_term.specs.Texts.{is_unnamed}
 use Rattle.asl_term.specs.Trees.{size, size_step, or_zero}
 use Rattle.asl_term.proofs.Terms.{OfTail, by_cases, fold_num, fold_str, fold_var, fold_lit, fold_list, fold_op}
-use Rattle.asl_reading.specs.declared.lexeme.Lexeme.{Lexeme}
-use Rattle.asl_reading.specs.declared.lexeme.Lexeme.TheVariants as lexeme
+use Rattle.asl_meaning.specs.declared.lexeme.Lexeme.{Lexeme}
+use Rattle.asl_meaning.specs.declared.lexeme.Lexeme.TheVariants as lexeme
 use Rattle.asl_reread.specs.Shown.{mark, word, op_shown, sign_shown, commas_shown, between_shown, tail_shown, num_shown, term_step, term_shown, literal_shown}
 use Rattle.asl_reread.proofs.Back.{bracketed}
 use Rattle.asl_reread.proofs.Names.{names_in, names, no_name}

@@ -16,16 +16,17 @@ use Rattle.asl_term.specs.declared.syntax.Expr.TheVariants as expr
 use Rattle.asl_term.specs.Exprs.{map_arg}
 use Rattle.asl_term.proofs.Terms.{fold_str, fold_var}
 use Rattle.asl_term.proofs.Exprs.{fold_rel, fold_not, fold_and, fold_or, fold_inner}
-use Rattle.asl_reading.specs.declared.lexeme.Lexeme.{Lexeme}
-use Rattle.asl_reading.specs.declared.lexeme.Lexeme.TheVariants as lexeme
-use Rattle.asl_reading.specs.declared.meaning.Meaning.{Meaning}
-use Rattle.asl_reading.specs.declared.meaning.Meaning.TheVariants as meaning
-use Rattle.asl_reading.specs.declared.meaning.Joint.{Joint}
-use Rattle.asl_reading.specs.declared.meaning.Joint.TheVariants as joint
-use Rattle.asl_reading.specs.declared.meaning.Prefix.TheVariants as prefix
-use Rattle.asl_reading.specs.Meanings.{◌>>=◌, is_pure, is_deed, as_formula, arith, either_of, both_of, joined, compared, prefixed, as_args, called}
-use Rattle.asl_reading.specs.Grammar.{Rule, variable, Joins, or, and, plus, minus, times, over, modulo, Relates, less, less_same, more, more_same, same, differ, unify}
-use Rattle.asl_reading.proofs.Loop.{some_is}
+use Rattle.asl_meaning.specs.declared.lexeme.Lexeme.{Lexeme}
+use Rattle.asl_meaning.specs.declared.lexeme.Lexeme.TheVariants as lexeme
+use Rattle.asl_meaning.specs.declared.meaning.Meaning.{Meaning}
+use Rattle.asl_meaning.specs.declared.meaning.Meaning.TheVariants as meaning
+use Rattle.asl_meaning.specs.declared.meaning.Joint.{Joint}
+use Rattle.asl_meaning.specs.declared.meaning.Joint.TheVariants as joint
+use Rattle.asl_meaning.specs.declared.meaning.Prefix.TheVariants as prefix
+use Rattle.asl_meaning.specs.Meanings.{◌>>=◌, is_pure, is_deed, as_formula, arith, either_of, both_of, joined, compared, prefixed, as_args, called}
+use Rattle.asl_meaning.specs.Leaves.{variable}
+use Rattle.asl_reading.specs.Grammar.{Rule, Joins, or, and, plus, minus, times, over, modulo, Relates, less, less_same, more, more_same, same, differ, unify}
+use Rattle.asl_meaning.proofs.Options.{some_is}
 use Rattle.asl_print.specs.Tokens.{rel_sign}
 use Rattle.asl_reread.specs.Shown.{mark, arg_shown, term_step, term_shown, expr_step, expr_shown}
 use Rattle.asl_reread.proofs.Meant.{shown_of, Good, good_term, good_expr}

@@ -7,8 +7,8 @@ use Rattle.asl_lexer.proofs.Bytes.{both}
 use Rattle.asl_term.specs.declared.syntax.LiteralOf.{LiteralOf}
 use Rattle.asl_term.specs.declared.syntax.Term.{Term}
 use Rattle.asl_term.specs.Same.{same_tree}
-use Rattle.asl_reading.specs.declared.meaning.Meaning.{Meaning}
-use Rattle.asl_reading.specs.Plain.{is_plain, are_plain, is_plain_literal}
+use Rattle.asl_meaning.specs.declared.meaning.Meaning.{Meaning}
+use Rattle.asl_meaning.specs.Plain.{is_plain, are_plain, is_plain_literal}
 use Rattle.asl_grammar.specs.Sentences.{once_behind, kept_once}
 use Rattle.asl_reread.proofs.Literals.{GoodTerms, terms_none, terms_next, LiteralParts}
 use Rattle.asl_reread.proofs.Listings.{terms_then}

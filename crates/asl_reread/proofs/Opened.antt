@@ -15,10 +15,10 @@ use Rattle.asl_term.specs.declared.syntax.Formula.{Formula}
 use Rattle.asl_term.specs.declared.syntax.Formula.TheVariants as formula
 use Rattle.asl_term.specs.Exprs.{depth, depth_step, size, literal_size, literal_depth}
 use Rattle.asl_term.proofs.Exprs.{fold_rel}
-use Rattle.asl_reading.specs.declared.lexeme.Lexeme.{Lexeme}
-use Rattle.asl_reading.specs.declared.lexeme.Lexeme.TheVariants as lexeme
-use Rattle.asl_reading.specs.Lexemes.{lexeme_of, counts}
-use Rattle.asl_reading.specs.Limits.{too_deep, within, within_literal, within_expr}
+use Rattle.asl_meaning.specs.declared.lexeme.Lexeme.{Lexeme}
+use Rattle.asl_meaning.specs.declared.lexeme.Lexeme.TheVariants as lexeme
+use Rattle.asl_meaning.specs.Lexemes.{lexeme_of, counts}
+use Rattle.asl_meaning.specs.Limits.{too_deep, within, within_literal, within_expr}
 use Rattle.asl_grammar.specs.declared.sentence.Sentence.{Sentence}
 use Rattle.asl_grammar.specs.declared.sentence.Sentence.TheVariants as sentence
 use Rattle.asl_grammar.specs.Limits.{within_formula, is_within}

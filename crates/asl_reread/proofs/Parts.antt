@@ -15,12 +15,12 @@ use Rattle.asl_term.specs.declared.syntax.Kind.{Kind}
 use Rattle.asl_term.specs.declared.syntax.Kind.TheVariants as kind
 use Rattle.asl_term.specs.declared.syntax.Trigger.{Trigger}
 use Rattle.asl_term.proofs.Exprs.{by_cases, fold_true}
-use Rattle.asl_reading.specs.declared.lexeme.Lexeme.{Lexeme}
-use Rattle.asl_reading.specs.declared.lexeme.Lexeme.TheVariants as lexeme
-use Rattle.asl_reading.specs.Lexemes.{lexeme_of}
-use Rattle.asl_reading.specs.declared.meaning.Meaning.{Meaning}
-use Rattle.asl_reading.specs.Plain.{is_plain_literal}
-use Rattle.asl_reading.proofs.Loop.{some_is}
+use Rattle.asl_meaning.specs.declared.lexeme.Lexeme.{Lexeme}
+use Rattle.asl_meaning.specs.declared.lexeme.Lexeme.TheVariants as lexeme
+use Rattle.asl_meaning.specs.Lexemes.{lexeme_of}
+use Rattle.asl_meaning.specs.declared.meaning.Meaning.{Meaning}
+use Rattle.asl_meaning.specs.Plain.{is_plain_literal}
+use Rattle.asl_meaning.proofs.Options.{some_is}
 use Rattle.asl_grammar.specs.Sentences.{label_of, adds_of, ReadsFormula, a_formula, ReadsHead, a_head, ReadsLabel, no_label, a_label, ReadsKind, a_belief, an_achievement, a_test, ReadsTrigger, a_trigger, ReadsContext, no_context, a_context}
 use Rattle.asl_print.specs.Tokens.{label_tokens, change_token, kind_tokens, trigger_tokens, context_tokens, expr_tokens, literal_tokens}
 use Rattle.asl_print.specs.Spelled.{is_functor_word, is_spelled_literal, is_spelled_expr, spelled_expr_step, is_spelled_label}

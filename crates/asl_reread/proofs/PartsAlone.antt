@@ -10,9 +10,9 @@ use Rattle.asl_lexer.proofs.Seams.{whole}
 use Rattle.asl_lexer.proofs.SpelledTokens.{tokens_spelled}
 use Rattle.asl_term.specs.Texts as texts
 use Rattle.asl_term.specs.Exprs.{text}
-use Rattle.asl_reading.specs.declared.lexeme.Lexeme.{Lexeme}
-use Rattle.asl_reading.specs.declared.meaning.Meaning.{Meaning}
-use Rattle.asl_reading.specs.Lexemes.{lexemes}
+use Rattle.asl_meaning.specs.declared.lexeme.Lexeme.{Lexeme}
+use Rattle.asl_meaning.specs.declared.meaning.Meaning.{Meaning}
+use Rattle.asl_meaning.specs.Lexemes.{lexemes}
 use Rattle.asl_reading.specs.Grammar.{Reads, disjunction, ReadsLiteral}
 use Rattle.asl_print.proofs.Terms.{term_gives}
 use Rattle.asl_print.proofs.Exprs.{literal_gives, expr_gives}

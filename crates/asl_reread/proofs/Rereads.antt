@@ -6,11 +6,11 @@ use Rattle.asl_lexer.proofs.Bytes.{both}
 use Rattle.asl_term.specs.declared.syntax.LiteralOf.{LiteralOf}
 use Rattle.asl_term.specs.declared.syntax.ListingOf.{ListingOf}
 use Rattle.asl_term.specs.declared.syntax.Term.{Term}
-use Rattle.asl_reading.specs.declared.lexeme.Lexeme.{Lexeme}
-use Rattle.asl_reading.specs.declared.lexeme.Lexeme.TheVariants as lexeme
-use Rattle.asl_reading.specs.declared.meaning.Meaning.{Meaning}
-use Rattle.asl_reading.specs.declared.leaves.Shape.{Shape}
-use Rattle.asl_reading.specs.Meanings.{as_terms}
+use Rattle.asl_meaning.specs.declared.lexeme.Lexeme.{Lexeme}
+use Rattle.asl_meaning.specs.declared.lexeme.Lexeme.TheVariants as lexeme
+use Rattle.asl_meaning.specs.declared.meaning.Meaning.{Meaning}
+use Rattle.asl_meaning.specs.declared.leaves.Shape.{Shape}
+use Rattle.asl_meaning.specs.Meanings.{as_terms}
 use Rattle.asl_reading.specs.Grammar.{Rule, Reads, just_or, just_and, just_negation, just_relation, just_sum, just_product, just_signed, chained, related, negated, subtracted, a_number, a_negative, a_string, a_variable, a_truth, a_literal, a_list, in_brackets, a_call}
 use Rattle.asl_reading.specs.Grammar.{ReadsItems, last_item, next_item, ReadsParts, no_parts, round_parts, square_parts, ReadsAtom, an_atom, ReadsLiteral, is_held, is_denied, ReadsList, empty_list, some_list, ReadsTail, no_tail, variable_tail, list_tail}
 use Rattle.asl_print.specs.Spelled.{is_functor, is_written_var}

@@ -12,9 +12,9 @@ use Rattle.asl_lexer.specs.Bare as bares
 use Rattle.asl_lexer.specs.Bare.{Bare, bare, bare_word}
 use Rattle.asl_lexer.proofs.Table.{mark_word}
 use Rattle.asl_lexer.proofs.NumberTexts.{numbers_read}
-use Rattle.asl_reading.specs.declared.lexeme.Lexeme.{Lexeme}
-use Rattle.asl_reading.specs.declared.lexeme.Lexeme.TheVariants as lexeme
-use Rattle.asl_reading.specs.Lexemes.{lexeme_of, counts, lexemes_from}
+use Rattle.asl_meaning.specs.declared.lexeme.Lexeme.{Lexeme}
+use Rattle.asl_meaning.specs.declared.lexeme.Lexeme.TheVariants as lexeme
+use Rattle.asl_meaning.specs.Lexemes.{lexeme_of, counts, lexemes_from}
 use Rattle.asl_print.specs.Spelled.{is_written_var}
 use Rattle.asl_print.specs.Means.{NamesAs, unnamed, named}
 use Rattle.asl_print.proofs.Means.{tokens_mean}

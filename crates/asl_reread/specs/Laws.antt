@@ -8,9 +8,9 @@ use Rattle.asl_term.specs.Texts as texts
 use Rattle.asl_term.specs.Exprs.{literal_text, text}
 use Rattle.asl_lexer.specs.declared.token.Tok.{Tok}
 use Rattle.asl_lexer.specs.Lexing.{AreTokens}
-use Rattle.asl_reading.specs.declared.meaning.Meaning.{Meaning}
-use Rattle.asl_reading.specs.Lexemes.{lexemes}
-use Rattle.asl_reading.specs.Meanings.{as_term, as_formula}
+use Rattle.asl_meaning.specs.declared.meaning.Meaning.{Meaning}
+use Rattle.asl_meaning.specs.Lexemes.{lexemes}
+use Rattle.asl_meaning.specs.Meanings.{as_term, as_formula}
 use Rattle.asl_reading.specs.Grammar.{Reads, disjunction, ReadsLiteral}
 use Rattle.asl_print.specs.Agents.{agent_text}
 use Rattle.asl_grammar.specs.Agents.{IsAgent}

@@ -28,9 +28,9 @@ use Rattle.asl_term.specs.declared.syntax.Kind.TheVariants.{Belief, Achieve, Tes
 use Rattle.asl_term.specs.declared.syntax.Trigger.{Trigger}
 use Rattle.asl_term.specs.declared.syntax.Clause.{Clause}
 use Rattle.asl_term.specs.declared.syntax.Plan.{Plan}
-use Rattle.asl_reading.specs.declared.lexeme.Lexeme.{Lexeme}
-use Rattle.asl_reading.specs.declared.lexeme.Lexeme.TheVariants as lexeme
-use Rattle.asl_reading.specs.Lexemes.{lexeme_of}
+use Rattle.asl_meaning.specs.declared.lexeme.Lexeme.{Lexeme}
+use Rattle.asl_meaning.specs.declared.lexeme.Lexeme.TheVariants as lexeme
+use Rattle.asl_meaning.specs.Lexemes.{lexeme_of}
 use Rattle.asl_print.specs.Tokens.{rel_sign}
 
 abbrev pub mark : signs.Sign → Lexeme

@@ -5,7 +5,9 @@ use crate::believing::answer_beliefs;
 use crate::lines::{Fault, done};
 use crate::lists::answer_lists;
 use crate::planning::{answer_plans, relevant};
+use crate::projects::answer_project;
 use crate::reading::{Raws, raws_of};
+use crate::schedules::answer_schedule;
 use crate::searching::answer_search;
 use crate::sources::answer_source;
 use crate::terms::answer_term;
@@ -70,6 +72,12 @@ pub fn answer(
         return relevant(alloc, text, given, out);
     }
     if let Some(outcome) = answer_tokens(alloc, name, text, out) {
+        return done(outcome);
+    }
+    if let Some(outcome) = answer_schedule(alloc, name, text, out) {
+        return done(outcome);
+    }
+    if let Some(outcome) = answer_project(alloc, name, text, out) {
         return done(outcome);
     }
     match answer_source(alloc, name, text, out) {

@@ -33,6 +33,19 @@ pub fn put_counted(alloc: Global, name: &[u8], n: u64, out: &mut Text) -> Result
     write_number(alloc, n, out)
 }
 
+/// A clause by its number, and the place of its first token.
+pub fn put_clause(
+    alloc: Global,
+    number: u64,
+    line: u64,
+    column: u64,
+    out: &mut Text,
+) -> Result<(), Starved> {
+    put_counted(alloc, b"clause", number, out)?;
+    put_counted(alloc, b" line", line, out)?;
+    put_counted(alloc, b" column", column, out)
+}
+
 /// The nodes and the levels of a tree.
 pub fn put_measures(alloc: Global, nodes: u64, levels: u64, out: &mut Text) -> Result<(), Starved> {
     write_number(alloc, nodes, out)?;

@@ -4,7 +4,7 @@ ghost use Rattle.std.specs.Prelude.{◌≤◌, length};
 
 use crate::lines::{Fault, done, number_of};
 use crate::reading::tokens_of;
-use crate::showing::{put_between, put_counted};
+use crate::showing::{put_between, put_clause, put_counted};
 use crate::tokens::put_lex_fault;
 use asl_grammar::agent::{agent, sentences};
 use asl_grammar::sentence::Sentence;
@@ -28,11 +28,7 @@ fn put_text_fault(alloc: Global, fault: TextFault, out: &mut Text) -> Result<(),
             number,
             line,
             column,
-        } => {
-            put_counted(alloc, b"clause", number, out)?;
-            put_counted(alloc, b" line", line, out)?;
-            put_counted(alloc, b" column", column, out)
-        }
+        } => put_clause(alloc, number, line, column, out),
     }
 }
 

@@ -1,18 +1,17 @@
 //! The calls of asl_lexer. Their argument is the text itself.
 
-ghost use Rattle.calls.specs.Entries.{ends_entry};
-
 use crate::lines::Fault;
 use crate::showing::{put_between, put_counted};
 use asl_lexer::lexing::tokens;
 use asl_lexer::pieces::{Clauses, Ends, cut};
 use asl_lexer::scan::value;
-use asl_lexer::token::{LexFault, Sign, Tok, TokKind, Word};
+use asl_lexer::token::{LexFault, Tok, TokKind, Word};
 use asl_lexer::words::word;
 use asl_term::copying::text_of;
 use asl_term::printing::write_number;
 use asl_term::sequence::Starved;
 use asl_term::syntax::Text;
+use mas_project::project::Entries;
 use std::alloc::Global;
 
 fn kind_name(kind: TokKind) -> &'static str {
@@ -104,24 +103,6 @@ fn put_value(alloc: Global, digits: &[u8], out: &mut Text) -> Result<(), Starved
     match value(digits) {
         None => out.append(b"none"),
         Some(number) => write_number(alloc, number, out),
-    }
-}
-
-/// The words that end a piece of a project.
-struct Entries;
-
-impl Ends for Entries {
-    ghost use Rattle.calls.specs.Entries.{ends_entry};
-
-    ghost ends = { ends_entry };
-
-    fn ends_piece(word: Word) -> bool {
-        match word {
-            Word::Sign(Sign::OpenBrace)
-            | Word::Sign(Sign::Semicolon)
-            | Word::Sign(Sign::CloseBrace) => true,
-            _ => false,
-        }
     }
 }
 

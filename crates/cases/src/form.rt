@@ -87,8 +87,8 @@ pub struct Plain {
     ghost some: { 1 ≤ short },
 }
 
-/// The files of the shelf, which calls of shelf and sink fail, the words, and the names of the project and of its world,
-/// empty where it has none.
+/// The files of the shelf, which calls of shelf and sink fail, the words, and the names of the project and of the schedule along
+/// which it is run, empty where there is none.
 #[derive(Drop)]
 pub struct Given {
     pub files: Files,
@@ -96,7 +96,7 @@ pub struct Given {
     pub sink_fails: Numbers,
     pub words: Vec<String>,
     pub project: Text,
-    pub world: Text,
+    pub schedule: Text,
 }
 
 impl Given {
@@ -107,7 +107,7 @@ impl Given {
             sink_fails: Seq::new(alloc),
             words: Vec::new(alloc),
             project: Seq::new(alloc),
-            world: Seq::new(alloc),
+            schedule: Seq::new(alloc),
         }
     }
 }

@@ -9,8 +9,9 @@ use asl_term::sequence::Starved;
 const PIECES: [&str; 4] = ["|", "+", "!", "*"];
 
 /// The keys of a case that take a text.
-const TEXT_KEYS: [&str; 10] = [
-    "source", "world", "file", "words", "project", "fault", "output", "trace", "facts", "has",
+const TEXT_KEYS: [&str; 11] = [
+    "source", "world", "schedule", "file", "words", "project", "fault", "output", "trace", "facts",
+    "has",
 ];
 
 /// The keys of a case that take a number, numbers or a word.

@@ -20,11 +20,20 @@ use std::alloc::Global;
 /// The name of the file that `source` makes.
 const SOURCE_NAME: &str = "a.asl";
 
-/// The name of the file that `world` makes.
-pub const WORLD_NAME: &str = "w.env";
+/// The name of the file that `world` makes, and that of the project that has this world and the agent of `source`.
+const WORLD_NAME: &str = "w.env";
+
+const PROJECT_NAME: &str = "m.mas2j";
+
+const PROJECT_TEXT: &str = "MAS m { environment: w agents: solo a.asl; }";
+
+/// The name of the file that `schedule` makes.
+const SCHEDULE_NAME: &str = "s.txt";
 
 /// The keys of which each makes a case the call of a project.
-const PROJECT_KEYS: [&str; 6] = ["project", "cycles", "lead", "depth", "tries", "level"];
+const PROJECT_KEYS: [&str; 7] = [
+    "project", "schedule", "cycles", "lead", "depth", "tries", "level",
+];
 
 fn level_of(section: &Section<'_>) -> Result<Level, Fault> {
     let Some(entry) = find(section, "level") else {
@@ -67,14 +76,20 @@ fn has_world(section: &Section<'_>) -> bool {
     has_word(section.body, b"world")
 }
 
+/// The name of the project that is run where none is named.
+fn usual_project(section: &Section<'_>) -> &'static str {
+    if has_world(section) {
+        PROJECT_NAME
+    } else {
+        SOURCE_NAME
+    }
+}
+
 /// The words of the command line: the lines under `words`, or the usual ones.
 fn words_into(alloc: Global, section: &Section<'_>, words: &mut Vec<String>) -> Result<(), Fault> {
     let Some(entry) = find(section, "words") else {
         put_word(alloc, "run", words)?;
-        put_word(alloc, SOURCE_NAME, words)?;
-        if has_world(section) {
-            put_word(alloc, WORLD_NAME, words)?;
-        }
+        put_word(alloc, usual_project(section), words)?;
         return Ok(());
     };
     let mut text = Seq::new(alloc);
@@ -107,11 +122,11 @@ fn ask_into(alloc: Global, section: &Section<'_>, given: &mut Given) -> Result<b
         return Err(fault_at(entry.number, "words stand beside project or options"));
     }
     if find(section, "project").is_none() {
-        given.project.append(SOURCE_NAME.as_bytes())?;
+        given.project.append(usual_project(section).as_bytes())?;
     }
     text_at(section, "project", &mut given.project)?;
-    if has_world(section) {
-        given.world.append(WORLD_NAME.as_bytes())?;
+    if has_word(section.body, b"schedule") {
+        given.schedule.append(SCHEDULE_NAME.as_bytes())?;
     }
     Ok(true)
 }
@@ -142,14 +157,24 @@ fn put_usual(alloc: Global, name: &str, entry: &Entry<'_>, files: &mut Files) ->
     Ok(())
 }
 
+/// The project of a world, and the world.
+fn put_world(alloc: Global, entry: &Entry<'_>, files: &mut Files) -> Result<(), Fault> {
+    let name = text_of(alloc, PROJECT_NAME.as_bytes())?;
+    let bytes = text_of(alloc, PROJECT_TEXT.as_bytes())?;
+    files.push(Filed { name, bytes })?;
+    put_usual(alloc, WORLD_NAME, entry, files)
+}
+
 /// The files of the shelf in the order in which they stand.
 fn files_into(alloc: Global, section: &Section<'_>, files: &mut Files) -> Result<(), Fault> {
     let lines = section.body;
     for at in 0..lines.len() {
         if lines[at].word == b"source".as_slice() {
             put_usual(alloc, SOURCE_NAME, &entry_at(lines, at), files)?;
+        } else if lines[at].word == b"schedule".as_slice() {
+            put_usual(alloc, SCHEDULE_NAME, &entry_at(lines, at), files)?;
         } else if lines[at].word == b"world".as_slice() {
-            put_usual(alloc, WORLD_NAME, &entry_at(lines, at), files)?;
+            put_world(alloc, &entry_at(lines, at), files)?;
         } else if lines[at].word == b"file".as_slice() {
             put_file(alloc, &entry_at(lines, at), files)?;
         }

@@ -4,26 +4,26 @@ ghost use Rattle.std.specs.Prelude.{◌≡◌, ◌≤◌, IfOk, OnOk};
 
 use crate::comparing::{Difference, Got, agent_lines, first_difference, passes};
 use crate::form::{Fault, Given, Mode, Place, Plain, Section, Wanted};
-use crate::lines::read_lines;
+use crate::lines::{is_feed, read_lines};
 use crate::reading::{check_file, read_case, read_refused};
 use crate::telling::{put_difference, put_fault, put_place};
-use asl_term::copying::text_of;
+use asl_term::copying::{copy_text, text_of};
 use asl_term::room::Roomy;
 use asl_term::sequence::{Seq, Starved};
-use asl_term::syntax::Text;
+use asl_term::syntax::{Filed, Files, Text};
 use mas_io::memory::{MemoryShelf, MemorySink, memory_shelf, memory_sink};
-use mas_top::status::{Status, code, fault_line};
-use mas_top::top::{run_project, run_words};
+use mas_reading::status::{Status, code, fault_line};
+use mas_top::top::{replay_project, run_project, run_words};
 use std::alloc::Global;
 use std::sync::Wait;
 use std::thread::Threads;
 
-/// What is asked for: words, or a project and its world.
+/// What is asked for: words, or a project and the schedule along which it is run.
 #[derive(Drop)]
 struct Asked {
     words: Vec<String>,
     project: Text,
-    world: Text,
+    schedule: Text,
 }
 
 /// Takes free places with blanks, until so many are left.
@@ -60,19 +60,13 @@ fn call<R: Threads + Wait + Sync>(
     shelf: &mut MemoryShelf,
     sink: &mut MemorySink,
 ) -> Status {
-    if plain.is_project {
-        let world = name_if(&asked.world);
-        run_project(
-            rt,
-            alloc,
-            &plain.permitted.options,
-            &asked.project,
-            world,
-            shelf,
-            sink,
-        )
-    } else {
-        run_words(rt, alloc, asked.words.as_slice(), shelf, sink)
+    if !plain.is_project {
+        return run_words(rt, alloc, asked.words.as_slice(), shelf, sink);
+    }
+    let options = &plain.permitted.options;
+    match name_if(&asked.schedule) {
+        None => run_project(rt, alloc, options, &asked.project, shelf, sink),
+        Some(schedule) => replay_project(rt, alloc, options, &asked.project, schedule, shelf, sink),
     }
 }
 
@@ -147,6 +141,100 @@ fn judge_end(
     judge(alloc, plain, wanted, &got, reason)
 }
 
+/// How a call ended, by its code, and what it wrote.
+#[derive(Clone, Copy)]
+struct Done<'a> {
+    status: u8,
+    written: &'a [u8],
+}
+
+fn copy_files(alloc: Global, files: &Files) -> Result<Files, Starved> {
+    let mut all = Seq::new(alloc);
+    for file in files.as_slice() {
+        let name = copy_text(alloc, &file.name)?;
+        let bytes = copy_text(alloc, &file.bytes)?;
+        all.push(Filed { name, bytes })?;
+    }
+    Ok(all)
+}
+
+/// The last two lines of a report, which are its schedule.
+fn schedule_of(report: &[u8]) -> &[u8] {
+    let (mut at, mut last, mut before) = (0usize, 0usize, 0usize);
+    for line in report.split_inclusive(is_feed) {
+        before = last;
+        last = at;
+        at = at.saturating_add(line.len());
+    }
+    report.get(before..).unwrap_or(&[])
+}
+
+/// The project that was run, where one was and its report was written whole.
+fn project_run(
+    alloc: Global,
+    plain: &Plain,
+    asked: Asked,
+    status: u8,
+) -> Result<Option<Text>, Starved> {
+    if status != 0 && status != 8 {
+        return Ok(None);
+    }
+    if plain.is_project {
+        return Ok(Some(asked.project));
+    }
+    match asked.words.as_slice() {
+        [command, project] if command.as_str() == "run" => Ok(Some(text_of(
+            alloc,
+            project.as_str().as_bytes(),
+        )?)),
+        _ => Ok(None),
+    }
+}
+
+/// Whether a run along the schedule that the report prints writes the report again, and ends as the run did; if not, why, in `reason`.
+fn is_again<R: Threads + Wait + Sync>(
+    rt: &R,
+    alloc: Global,
+    plain: &Plain,
+    asked: Asked,
+    files: Files,
+    done: &Done<'_>,
+    reason: &mut Text,
+) -> Result<bool, Starved> {
+    let Some(project) = project_run(alloc, plain, asked, done.status)? else {
+        return Ok(true);
+    };
+    let name = text_of(alloc, b"the printed schedule")?;
+    let again = replayed(rt, alloc, plain, &project, &name, files, done)?;
+    if !again {
+        reason.append(b"its replay differs")?;
+    }
+    Ok(again)
+}
+
+fn replayed<R: Threads + Wait + Sync>(
+    rt: &R,
+    alloc: Global,
+    plain: &Plain,
+    project: &Text,
+    name: &Text,
+    files: Files,
+    done: &Done<'_>,
+) -> Result<bool, Starved> {
+    let mut files = files;
+    files.push(Filed {
+        name: copy_text(alloc, name)?,
+        bytes: text_of(alloc, schedule_of(done.written))?,
+    })?;
+    let mut shelf = memory_shelf(files, Seq::new(alloc));
+    let mut room = Roomy::new(alloc);
+    room.reserve(done.written.len() as u64)?;
+    let mut sink = memory_sink(room, 1_000_000, Seq::new(alloc));
+    let options = &plain.permitted.options;
+    let status = replay_project(rt, alloc, options, project, name, &mut shelf, &mut sink);
+    Ok(code(&status) == done.status && sink.written() == done.written)
+}
+
 fn run<R: Threads + Wait + Sync>(
     rt: &R,
     alloc: Global,
@@ -163,18 +251,26 @@ fn run<R: Threads + Wait + Sync>(
         sink_fails,
         words,
         project,
-        world,
+        schedule,
     } = given;
     let asked = Asked {
         words,
         project,
-        world,
+        schedule,
     };
+    let again = copy_files(alloc, &files)?;
     let mut shelf = memory_shelf(files, shelf_fails);
     let mut sink = memory_sink(room, plain.short, sink_fails);
     let status = call(rt, alloc, plain, &asked, &mut shelf, &mut sink);
     let written = sink.written().get(blanks..).unwrap_or(&[]);
-    judge_end(alloc, plain, wanted, &status, written, reason)
+    if !judge_end(alloc, plain, wanted, &status, written, reason)? {
+        return Ok(false);
+    }
+    let done = Done {
+        status: code(&status),
+        written,
+    };
+    is_again(rt, alloc, plain, asked, again, &done, reason)
 }
 
 /// Runs a case, and tells whether it passed; if not, why, in `reason`.

@@ -5,12 +5,12 @@ use Rattle.asl_lexer.specs.declared.token.LexFault.{LexFault}
 use Rattle.asl_lexer.specs.Words.{pieces, is_end, IsCut}
 use Rattle.asl_lexer.specs.Words as words
 use Rattle.asl_lexer.specs.Lexing.{AreTokens}
-use Rattle.asl_reading.specs.declared.lexeme.Lexeme.{Lexeme}
-use Rattle.asl_reading.specs.Lexemes.{lexemes}
-use Rattle.asl_reading.specs.Limits.{too_deep}
-use Rattle.asl_reading.specs.declared.bounded.Bounded.TheVariants.{Within}
-use Rattle.asl_reading.specs.Holding.{limited, unlimited, keep_if}
-use Rattle.asl_reading.proofs.Loop.{some_is}
+use Rattle.asl_meaning.specs.declared.lexeme.Lexeme.{Lexeme}
+use Rattle.asl_meaning.specs.Lexemes.{lexemes}
+use Rattle.asl_meaning.specs.Limits.{too_deep}
+use Rattle.asl_meaning.specs.declared.bounded.Bounded.TheVariants.{Within}
+use Rattle.asl_meaning.specs.Holding.{limited, unlimited, keep_if}
+use Rattle.asl_meaning.proofs.Options.{some_is}
 use Rattle.mas_world.specs.declared.acts.WorldText.{WorldText}
 use Rattle.env_file.specs.declared.fault.WorldFault.{WorldFault}
 use Rattle.env_file.specs.declared.fault.WorldFault.TheVariants.{Memory, Lex, Clause, Limit, Unbound, UnknownArtifact}
@@ -20,11 +20,11 @@ use Rattle.env_file.specs.declared.statement.Statement.{Statement}
 use Rattle.env_file.specs.declared.statement.Statement.TheVariants as statement
 use Rattle.env_file.specs.Statements.{Says}
 use Rattle.env_file.specs.Limits.{is_within}
-use Rattle.env_file.specs.Guards.{guard_parts}
+use Rattle.env_file.specs.Guards.{said_parts}
 use Rattle.env_file.specs.Binding.{unbound}
 use Rattle.env_file.specs.Holding.{KeptStatement, hold_statement}
 use Rattle.env_file.specs.Speaking.{statement_by}
-use Rattle.env_file.specs.Worlds.{nothing, has_name, with_use, bound_made, guarded_made, made, Answers, all_read, brackets, no_clause, large, is_refused, is_read, HasAnswer, IsWorld, IsNone}
+use Rattle.env_file.specs.Worlds.{nothing, has_name, with_use, bound_made, made, Answers, all_read, brackets, no_clause, large, is_refused, is_read, HasAnswer, IsWorld, IsNone}
 use Rattle.env_file.specs.Answering.{said, piece_by, piece_at, onward, answer_by, Told}
 use Rattle.env_file.proofs.Spoken.{sound_statement}
 use Rattle.env_file.proofs.Spelled.{complete_statement}
@@ -146,10 +146,6 @@ module _ (w : WorldText) (k : ℕ) (t : Tok) (fault : LexFault) where
   bound_lex a ps None e = cc
   bound_lex a ps (Some name) e = cc
 
-  guard_lex : (a : WrittenAct) (o : Option (List Part)) → guarded_made w k t a o ≡ Err (Lex fault) → ⊥
-  guard_lex a None e = cc
-  guard_lex a (Some ps) e = bound_lex a ps (unbound a ps) e
-
   use_lex : (name : List ℕ) (b c : Bool) → ◌≡◌ {A = Result WorldText WorldFault} (cond b (Err (Clause k t.line t.column)) (cond c (Ok (with_use w name)) (Err (UnknownArtifact k name)))) (Err (Lex fault)) → ⊥
   use_lex name true c e = cc
   use_lex name false true e = cc
@@ -159,7 +155,7 @@ module _ (w : WorldText) (k : ℕ) (t : Tok) (fault : LexFault) where
   made_lex artifacts (statement.Fact l) e = cc
   made_lex artifacts (statement.Hide name) e = cc
   made_lex artifacts (statement.Use name) e = use_lex name (has_name w.uses name) (has_name artifacts name) e
-  made_lex artifacts (statement.Act a) e = guard_lex a (guard_parts a.guard) e
+  made_lex artifacts (statement.Act a) e = bound_lex a (said_parts a.guard) (unbound a (said_parts a.guard)) e
 
 never_lex : {artifacts : List (List ℕ)} {k : ℕ} {w : WorldText} {ps : List (List Tok)} {fault : LexFault} → Answers artifacts k w ps (Err (Lex fault)) → ⊥
 never_lex {artifacts} {k} {w} {fault = fault} (is_refused {t = t} {s = s} h r e m) = made_lex w k t fault artifacts s m

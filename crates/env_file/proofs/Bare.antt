@@ -17,20 +17,21 @@ use Rattle.asl_term.specs.declared.syntax.Expr.TheVariants as expr
 use Rattle.asl_term.specs.Trees.{all, or_true}
 use Rattle.asl_term.proofs.Terms.{fold_num, fold_str, fold_var, fold_lit, fold_list, fold_op}
 use Rattle.asl_term.proofs.Exprs.{fold_true, fold_false, fold_holds, fold_rel, fold_inner, fold_not, fold_and, fold_or}
-use Rattle.asl_reading.specs.declared.lexeme.Lexeme.{Lexeme}
-use Rattle.asl_reading.specs.declared.lexeme.Lexeme.TheVariants.{Atom, Truth, Sign}
-use Rattle.asl_reading.specs.declared.meaning.Meaning.{Meaning}
-use Rattle.asl_reading.specs.declared.meaning.Meaning.TheVariants as meaning
-use Rattle.asl_reading.specs.declared.meaning.Joint.{Joint}
-use Rattle.asl_reading.specs.declared.meaning.Joint.TheVariants as joint
-use Rattle.asl_reading.specs.declared.meaning.Prefix.{Prefix}
-use Rattle.asl_reading.specs.declared.meaning.Prefix.TheVariants as prefix
-use Rattle.asl_reading.specs.declared.leaves.Shape.{Shape}
-use Rattle.asl_reading.specs.declared.leaves.Shape.TheVariants as shape
-use Rattle.asl_reading.specs.Meanings.{◌>>=◌, as_term, as_terms, as_formula, as_args, both_terms, both_formulas, arith, either_of, both_of, atom, truth_name, joined, compared, prefixed, called, is_pure, is_deed}
-use Rattle.asl_reading.specs.Grammar.{variable, Rule, Reads, just_or, just_and, just_negation, just_relation, just_sum, just_product, just_signed, chained, related, negated, subtracted, a_number, a_negative, a_string, a_variable, a_truth, a_literal, a_list, in_brackets, a_call, ReadsItems, last_item, next_item, ReadsParts, no_parts, round_parts, square_parts, ReadsAtom, an_atom, ReadsLiteral, is_held, is_denied, ReadsList, empty_list, some_list, ReadsTail, no_tail, variable_tail, list_tail}
+use Rattle.asl_meaning.specs.declared.lexeme.Lexeme.{Lexeme}
+use Rattle.asl_meaning.specs.declared.lexeme.Lexeme.TheVariants.{Atom, Truth, Sign}
+use Rattle.asl_meaning.specs.declared.meaning.Meaning.{Meaning}
+use Rattle.asl_meaning.specs.declared.meaning.Meaning.TheVariants as meaning
+use Rattle.asl_meaning.specs.declared.meaning.Joint.{Joint}
+use Rattle.asl_meaning.specs.declared.meaning.Joint.TheVariants as joint
+use Rattle.asl_meaning.specs.declared.meaning.Prefix.{Prefix}
+use Rattle.asl_meaning.specs.declared.meaning.Prefix.TheVariants as prefix
+use Rattle.asl_meaning.specs.declared.leaves.Shape.{Shape}
+use Rattle.asl_meaning.specs.declared.leaves.Shape.TheVariants as shape
+use Rattle.asl_meaning.specs.Meanings.{◌>>=◌, as_term, as_terms, as_formula, as_args, both_terms, both_formulas, arith, either_of, both_of, atom, truth_name, joined, compared, prefixed, called, is_pure, is_deed}
+use Rattle.asl_meaning.specs.Leaves.{variable}
+use Rattle.asl_reading.specs.Grammar.{Rule, Reads, just_or, just_and, just_negation, just_relation, just_sum, just_product, just_signed, chained, related, negated, subtracted, a_number, a_negative, a_string, a_variable, a_truth, a_literal, a_list, in_brackets, a_call, ReadsItems, last_item, next_item, ReadsParts, no_parts, round_parts, square_parts, ReadsAtom, an_atom, ReadsLiteral, is_held, is_denied, ReadsList, empty_list, some_list, ReadsTail, no_tail, variable_tail, list_tail}
 use Rattle.asl_reading.proofs.Sound.{bind_some}
-use Rattle.asl_reading.proofs.Loop.{some_is}
+use Rattle.asl_meaning.proofs.Options.{some_is}
 use Rattle.asl_grammar.specs.Sentences.{ReadsHead, a_head, ReadsFormula, a_formula}
 use Rattle.env_file.specs.declared.statement.Part.{Part}
 use Rattle.env_file.specs.declared.statement.Part.TheVariants.{Holds, Denied, Related}
@@ -301,7 +302,7 @@ bare_head (a_head r e) f = bare_literal r f
 
 bare_guard : {n : ℕ} {xs ys : List Lexeme} {g : Option Expr} → ReadsGuard n xs ys g → Free xs → ((ps : List Part) → guard_parts g ≡ Some ps → BareParts ps) × Free ys
 bare_guard no_guard f = (λ ps e. subst BareParts (some_is [] ps e) refl, f)
-bare_guard (a_guard {xs = xs} (a_formula {m = m} {e = e} r h)) f = let p = bare r (behind (Sign sign.Colon) xs f).1 in (formula_bare m e h p.0, p.1)
+bare_guard (a_guard {xs = xs} (a_formula {m = m} {e = e} r h) k) f = let p = bare r (behind (Sign sign.Colon) xs f).1 in (formula_bare m e h p.0, p.1)
 
 BareOne : Option Effect → Type 0
 BareOne None = Unit {0}

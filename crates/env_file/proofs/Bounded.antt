@@ -4,10 +4,10 @@ use Rattle.asl_lexer.specs.declared.token.Sign.TheVariants as sign
 use Rattle.asl_term.specs.declared.syntax.LiteralOf.{LiteralOf}
 use Rattle.asl_term.specs.declared.syntax.Term.{Term}
 use Rattle.asl_term.specs.declared.syntax.Expr.{Expr}
-use Rattle.asl_reading.specs.declared.lexeme.Lexeme.{Lexeme}
-use Rattle.asl_reading.specs.declared.lexeme.Lexeme.TheVariants.{Atom, Var, Truth, Not, Sign, End}
-use Rattle.asl_reading.specs.declared.lexeme.Lexeme.TheVariants as lexeme
-use Rattle.asl_reading.specs.Limits.{too_deep}
+use Rattle.asl_meaning.specs.declared.lexeme.Lexeme.{Lexeme}
+use Rattle.asl_meaning.specs.declared.lexeme.Lexeme.TheVariants.{Atom, Var, Truth, Not, Sign, End}
+use Rattle.asl_meaning.specs.declared.lexeme.Lexeme.TheVariants as lexeme
+use Rattle.asl_meaning.specs.Limits.{too_deep}
 use Rattle.asl_reading.proofs.Within.{Fits, within, within_literal}
 use Rattle.asl_grammar.specs.Sentences.{adds_of, ReadsFormula, a_formula, ReadsHead, a_head}
 use Rattle.env_file.specs.declared.statement.Effect.{Effect}
@@ -44,7 +44,7 @@ adds_within _ xs b f limit count h = absurd cc
 guard_within : {m : ℕ} {xs ys : List Lexeme} {g : Option Expr} → ReadsGuard m xs ys g → (limit count room : ℕ) → limit ≡ count + room → too_deep limit count xs ≡ false → Fits limit count room (λ k. ReadsGuard k xs ys g) ys
 unfolding too_deep
 guard_within no_guard limit count room e h = (no_guard, h)
-guard_within (a_guard r) limit count room e h = let w = formula_within r limit count room e h in (a_guard w.0, w.1)
+guard_within (a_guard r p) limit count room e h = let w = formula_within r limit count room e h in (a_guard w.0 p, w.1)
 
 effect_within : {m : ℕ} {xs ys : List Lexeme} {o : Option Effect} → ReadsEffect m xs ys o → (limit count room : ℕ) → limit ≡ count + room → too_deep limit count xs ≡ false → Fits limit count room (λ k. ReadsEffect k xs ys o) ys
 unfolding too_deep

@@ -14,22 +14,22 @@ use Rattle.asl_term.specs.declared.syntax.Term.TheVariants as term
 use Rattle.asl_term.specs.Trees.{all, or_true, is_ground}
 use Rattle.asl_term.specs.Exprs.{is_ground_literal}
 use Rattle.asl_term.proofs.Grounds.{ground_num, ground_str, ground_lit, ground_list, ground_op}
-use Rattle.asl_reading.specs.declared.lexeme.Lexeme.{Lexeme}
-use Rattle.asl_reading.specs.declared.meaning.Meaning.{Meaning}
-use Rattle.asl_reading.specs.declared.meaning.Meaning.TheVariants as meaning
-use Rattle.asl_reading.specs.declared.meaning.Joint.{Joint}
-use Rattle.asl_reading.specs.declared.meaning.Joint.TheVariants as joint
-use Rattle.asl_reading.specs.declared.meaning.Prefix.{Prefix}
-use Rattle.asl_reading.specs.declared.meaning.Prefix.TheVariants as prefix
+use Rattle.asl_meaning.specs.declared.lexeme.Lexeme.{Lexeme}
+use Rattle.asl_meaning.specs.declared.meaning.Meaning.{Meaning}
+use Rattle.asl_meaning.specs.declared.meaning.Meaning.TheVariants as meaning
+use Rattle.asl_meaning.specs.declared.meaning.Joint.{Joint}
+use Rattle.asl_meaning.specs.declared.meaning.Joint.TheVariants as joint
+use Rattle.asl_meaning.specs.declared.meaning.Prefix.{Prefix}
+use Rattle.asl_meaning.specs.declared.meaning.Prefix.TheVariants as prefix
 use Rattle.asl_term.specs.declared.syntax.RelOp.{RelOp}
 use Rattle.asl_term.specs.declared.syntax.Expr.{Expr}
 use Rattle.asl_term.specs.declared.syntax.ArgOf.{ArgOf}
-use Rattle.asl_reading.specs.declared.leaves.Shape.{Shape}
-use Rattle.asl_reading.specs.Meanings.{◌>>=◌, as_term, as_terms, as_formula, as_args, both_terms, both_formulas, arith, either_of, both_of, truth_name, joined, compared, prefixed, called, is_pure, is_deed}
-use Rattle.asl_reading.specs.Plain.{is_plain_literal}
+use Rattle.asl_meaning.specs.declared.leaves.Shape.{Shape}
+use Rattle.asl_meaning.specs.Meanings.{◌>>=◌, as_term, as_terms, as_formula, as_args, both_terms, both_formulas, arith, either_of, both_of, truth_name, joined, compared, prefixed, called, is_pure, is_deed}
+use Rattle.asl_meaning.specs.Plain.{is_plain_literal}
 use Rattle.asl_reading.specs.Grammar.{Rule, Reads, just_or, just_and, just_negation, just_relation, just_sum, just_product, just_signed, chained, related, negated, subtracted, a_number, a_negative, a_string, a_variable, a_truth, a_literal, a_list, in_brackets, a_call, ReadsItems, last_item, next_item, ReadsParts, no_parts, round_parts, square_parts, ReadsAtom, an_atom, ReadsLiteral, is_held, is_denied, ReadsList, empty_list, some_list, ReadsTail, no_tail, variable_tail, list_tail}
 use Rattle.asl_reading.proofs.Sound.{bind_some}
-use Rattle.asl_reading.proofs.Loop.{some_is}
+use Rattle.asl_meaning.proofs.Options.{some_is}
 use Rattle.asl_grammar.specs.Sentences.{ReadsHead, a_head}
 use Rattle.asl_grammar.proofs.Answered.{ok_is}
 use Rattle.mas_world.specs.declared.acts.WorldText.{WorldText}
@@ -40,9 +40,9 @@ use Rattle.env_file.specs.declared.statement.WrittenAct.{WrittenAct}
 use Rattle.env_file.specs.declared.statement.Statement.{Statement}
 use Rattle.env_file.specs.declared.statement.Statement.TheVariants as statement
 use Rattle.env_file.specs.Statements.{is_variable, States, a_fact, a_hide, a_use, an_act, Says}
-use Rattle.env_file.specs.Guards.{guard_parts}
+use Rattle.env_file.specs.Guards.{said_parts}
 use Rattle.env_file.specs.Binding.{unbound}
-use Rattle.env_file.specs.Worlds.{same_literal, with_fact, with_use, has_name, bound_made, guarded_made, made, nothing, Answers, all_read, is_read, IsWorld}
+use Rattle.env_file.specs.Worlds.{same_literal, with_fact, with_use, has_name, bound_made, made, nothing, Answers, all_read, is_read, IsWorld}
 use Rattle.env_file.proofs.Facts.{literal_apart}
 
 -- no two are the same
@@ -272,10 +272,6 @@ module _ (w : WorldText) (h : AreRead w.facts) (k : ℕ) (t : Tok) where
   bound_kept a ps None = h
   bound_kept a ps (Some name) = tt
 
-  guard_kept : (a : WrittenAct) (o : Option (List Part)) → Kept (guarded_made w k t a o)
-  guard_kept a None = tt
-  guard_kept a (Some ps) = bound_kept a ps (unbound a ps)
-
   use_kept : (name : List ℕ) (b c : Bool) → Kept (cond b (Err (Clause k t.line t.column)) (cond c (Ok (with_use w name)) (Err (UnknownArtifact k name))))
   use_kept name true c = tt
   use_kept name false true = h
@@ -285,7 +281,7 @@ module _ (w : WorldText) (h : AreRead w.facts) (k : ℕ) (t : Tok) where
   made_kept artifacts (statement.Fact l) g = fact_kept w.facts l h g
   made_kept artifacts (statement.Hide name) g = h
   made_kept artifacts (statement.Use name) g = use_kept name (has_name w.uses name) (has_name artifacts name)
-  made_kept artifacts (statement.Act a) g = guard_kept a (guard_parts a.guard)
+  made_kept artifacts (statement.Act a) g = bound_kept a (said_parts a.guard) (unbound a (said_parts a.guard))
 
 read_good : {artifacts : List (List ℕ)} {k : ℕ} {w : WorldText} {ps : List (List Tok)} {text : WorldText} → Answers artifacts k w ps (Ok text) → AreRead w.facts → AreRead text.facts
 read_good all_read h = h

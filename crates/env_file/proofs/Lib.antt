@@ -1,3 +1,4 @@
+pub mod Guarded
 pub mod Weighed
 pub mod Made
 pub mod Spoken

@@ -4,10 +4,10 @@ use Rattle.std.specs.List.{list_any}
 use Rattle.std.specs.Option.{option_map}
 use Rattle.asl_lexer.specs.declared.token.Sign.TheVariants as sign
 use Rattle.asl_term.specs.declared.syntax.Term.{Term}
-use Rattle.asl_reading.specs.declared.lexeme.Lexeme.{Lexeme}
-use Rattle.asl_reading.specs.declared.lexeme.Lexeme.TheVariants.{Truth, Sign, End}
-use Rattle.asl_reading.specs.declared.bounded.Bounded.TheVariants.{Within}
-use Rattle.asl_reading.specs.Holding.{Bounds, KeptLiteral, KeptExpr}
+use Rattle.asl_meaning.specs.declared.lexeme.Lexeme.{Lexeme}
+use Rattle.asl_meaning.specs.declared.lexeme.Lexeme.TheVariants.{Truth, Sign, End}
+use Rattle.asl_meaning.specs.declared.bounded.Bounded.TheVariants.{Within}
+use Rattle.asl_meaning.specs.Holding.{Bounds, KeptLiteral, KeptExpr}
 use Rattle.asl_reading.proofs.Built.{Holds, ReadsLiteral}
 use Rattle.asl_grammar.specs.Sentences.{adds_of, label_of}
 use Rattle.asl_grammar.proofs.Made.{ReadsFormula, ReadsHead}
@@ -15,7 +15,8 @@ use Rattle.env_file.specs.declared.statement.Statement.TheVariants as statement
 use Rattle.env_file.specs.Statements.{is_word, is_variable, doer_of, has_annots, before as true_before}
 use Rattle.env_file.specs.Statements as grammar
 use Rattle.env_file.specs.Holding.{KeptGuard, KeptEffect, KeptEffects, KeptStatement, guard_of, effect_of, before, hold_guard, hold_effect, hold_effects, hold_statement, fact_of, act_with}
-use Rattle.env_file.proofs.Weighed.{guard_made, effect_made, before_made, fact_made, hide_small, use_small, act_made}
+use Rattle.env_file.proofs.Guarded.{parts_some}
+use Rattle.env_file.proofs.Weighed.{guard_only, effect_made, before_made, fact_made, hide_small, use_small, act_made}
 
 module _ (bs : Bounds) where
   abbrev pub ReadsGuard : ℕ → List Lexeme → List Lexeme → KeptGuard → Type 0
@@ -36,8 +37,10 @@ module _ (bs : Bounds) where
   pub no_guard : {n : ℕ} {xs : List Lexeme} → ReadsGuard n xs xs (Within None)
   no_guard = record { value = None; holds = grammar.no_guard; same = refl }
 
-  pub a_guard : {n : ℕ} {xs ys : List Lexeme} {e : KeptExpr} → ReadsFormula bs n xs ys e → ReadsGuard n (Sign sign.Colon ∷ xs) ys (guard_of e)
-  a_guard r = record { value = Some r.value; holds = grammar.a_guard r.holds; same = sym (guard_made bs r.value) ∙ ap guard_of r.same }
+  pub a_guard : {n : ℕ} {xs ys : List Lexeme} {e : KeptExpr} {g : KeptGuard} → ReadsFormula bs n xs ys e → guard_of e ≡ Some g → ReadsGuard n (Sign sign.Colon ∷ xs) ys g
+  a_guard {g = g} r f =
+      let d = guard_only bs r.value g (ap guard_of r.same ∙ f) in
+      record { value = Some r.value; holds = grammar.a_guard r.holds (parts_some r.value d.0).1; same = d.1 }
 
   pub a_change : {n : ℕ} {x : Lexeme} {add : Bool} {xs ys : List Lexeme} {l : KeptLiteral} → adds_of x ≡ Some add → ReadsLiteral bs n xs ys l → ReadsEffect n (x ∷ xs) ys (Some (effect_of add l))
   a_change {add = add} f r =

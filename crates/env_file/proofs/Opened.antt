@@ -10,7 +10,7 @@ use Rattle.asl_term.specs.declared.syntax.Term.TheOpen as layer
 use Rattle.asl_term.specs.declared.syntax.Term.TheFolds.{fold-Term}
 use Rattle.asl_term.specs.Trees.{all}
 use Rattle.asl_term.proofs.Terms.{map_literal, fold_lit}
-use Rattle.asl_reading.specs.Plain.{plain_step, is_plain, is_plain_literal}
+use Rattle.asl_meaning.specs.Plain.{plain_step, is_plain, is_plain_literal}
 use Rattle.mas_world.specs.declared.acts.WorldText.{WorldText}
 use Rattle.mas_world.specs.Facts.{settled_step, is_settled, is_settled_literal, same_fact, AreFacts}
 use Rattle.mas_world.specs.Worlds.{AreNamed}
@@ -20,9 +20,9 @@ use Rattle.env_file.specs.declared.statement.Part.{Part}
 use Rattle.env_file.specs.declared.statement.WrittenAct.{WrittenAct}
 use Rattle.env_file.specs.declared.statement.Statement.{Statement}
 use Rattle.env_file.specs.declared.statement.Statement.TheVariants as statement
-use Rattle.env_file.specs.Guards.{guard_parts}
+use Rattle.env_file.specs.Guards.{said_parts}
 use Rattle.env_file.specs.Binding.{unbound}
-use Rattle.env_file.specs.Worlds.{same_literal, has_name, use_made, bound_made, guarded_made, made, Answers, all_read, is_read, IsWorld}
+use Rattle.env_file.specs.Worlds.{same_literal, has_name, use_made, bound_made, made, Answers, all_read, is_read, IsWorld}
 use Rattle.env_file.proofs.Ground.{are_once, AreRead, read_facts}
 
 -- ---- without arithmetic
@@ -85,10 +85,6 @@ module _ (w : WorldText) (h : w.uses ≡ []) (k : ℕ) (t : Tok) where
   bound_none a ps None = h
   bound_none a ps (Some name) = tt
 
-  guard_none : (a : WrittenAct) (o : Option (List Part)) → UsesNone (guarded_made w k t a o)
-  guard_none a None = tt
-  guard_none a (Some ps) = bound_none a ps (unbound a ps)
-
   use_none : (name : List ℕ) (b : Bool) → UsesNone (if b then Err (Clause k t.line t.column) else Err (UnknownArtifact k name))
   use_none name true = tt
   use_none name false = tt
@@ -97,7 +93,7 @@ module _ (w : WorldText) (h : w.uses ≡ []) (k : ℕ) (t : Tok) where
   made_none (statement.Fact l) = h
   made_none (statement.Hide name) = h
   made_none (statement.Use name) = use_none name (has_name w.uses name)
-  made_none (statement.Act a) = guard_none a (guard_parts a.guard)
+  made_none (statement.Act a) = bound_none a (said_parts a.guard) (unbound a (said_parts a.guard))
 
 read_none : {k : ℕ} {w : WorldText} {ps : List (List Tok)} {text : WorldText} → Answers [] k w ps (Ok text) → w.uses ≡ [] → text.uses ≡ []
 read_none all_read h = h

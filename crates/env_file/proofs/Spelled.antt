@@ -8,17 +8,18 @@ use Rattle.asl_lexer.specs.declared.token.Sign.TheVariants as sign
 use Rattle.asl_term.specs.declared.syntax.LiteralOf.{LiteralOf}
 use Rattle.asl_term.specs.declared.syntax.Term.{Term}
 use Rattle.asl_term.specs.declared.syntax.Expr.{Expr}
-use Rattle.asl_reading.specs.declared.lexeme.Lexeme.{Lexeme}
-use Rattle.asl_reading.specs.declared.lexeme.Lexeme.TheVariants.{Atom, Truth, Not, Sign, End}
-use Rattle.asl_reading.specs.declared.lexeme.Lexeme.TheVariants as lexeme
-use Rattle.asl_reading.specs.declared.bounded.Bounded.TheVariants.{Within}
-use Rattle.asl_reading.specs.Meanings.{◌>>=◌}
+use Rattle.asl_meaning.specs.declared.lexeme.Lexeme.{Lexeme}
+use Rattle.asl_meaning.specs.declared.lexeme.Lexeme.TheVariants.{Atom, Truth, Not, Sign, End}
+use Rattle.asl_meaning.specs.declared.lexeme.Lexeme.TheVariants as lexeme
+use Rattle.asl_meaning.specs.declared.bounded.Bounded.TheVariants.{Within}
+use Rattle.asl_meaning.specs.Meanings.{◌>>=◌}
 use Rattle.asl_reading.specs.Grammar.{ReadsLiteral, is_held, is_denied, an_atom, ReadsParts, no_parts, round_parts, square_parts, sum}
-use Rattle.asl_reading.specs.declared.meaning.Meaning.{Meaning}
-use Rattle.asl_reading.specs.declared.leaves.Shape.TheVariants as shape
-use Rattle.asl_reading.specs.Holding.{Bounds, KeptLiteral, KeptExpr, literal_plain, hold_literal, hold_formula}
-use Rattle.asl_reading.specs.Reading.{Front, literal_by, inside, after_comma}
-use Rattle.asl_reading.proofs.Keeping.{formula_held}
+use Rattle.asl_meaning.specs.declared.meaning.Meaning.{Meaning}
+use Rattle.asl_meaning.specs.declared.leaves.Shape.TheVariants as shape
+use Rattle.asl_meaning.specs.Holding.{Bounds, KeptLiteral, KeptExpr, literal_plain, hold_literal, hold_formula}
+use Rattle.asl_meaning.specs.Leaves.{Front, after_comma}
+use Rattle.asl_reading.specs.Reading.{literal_by, inside}
+use Rattle.asl_meaning.proofs.Keeping.{formula_held}
 use Rattle.asl_reading.proofs.Shorter.{shorter_literal}
 use Rattle.asl_reading.proofs.Complete.{StopsPrimary, StopsOr, reads_or, reads_literal}
 use Rattle.asl_grammar.specs.Sentences.{label_of, adds_of, ReadsFormula, a_formula, ReadsHead, a_head}
@@ -30,7 +31,8 @@ use Rattle.env_file.specs.declared.statement.Statement.TheVariants as statement
 use Rattle.env_file.specs.Statements.{is_word, is_variable, doer_of, has_annots, ReadsGuard, no_guard, a_guard, ReadsEffect, a_change, no_change, ReadsEffects, only_effect, more_effects, States, a_fact, a_hide, a_use, an_act, Says}
 use Rattle.env_file.specs.Holding.{KeptGuard, KeptEffect, KeptEffects, KeptStatement, guard_of, effect_of, before, hold_guard, hold_effect, hold_effects, hold_statement, fact_of, act_with}
 use Rattle.env_file.specs.Speaking.{after_word, after_right_arrow, is_name, starts_with_name, before_name, when_last, hide_of, use_of, named_by, doer_by, nothing_by, as_guard, effect_list_by, some_guard_by, guard_by, change_by, effect_by, effects_by, act_of, with_effects_by, with_guard_by, act_by, fact_by, act_or_fact, use_or_other, bare_by, statement_by}
-use Rattle.env_file.proofs.Weighed.{guard_made, effect_made, before_made, fact_made, hide_small, use_small, act_made}
+use Rattle.env_file.proofs.Guarded.{parts_told}
+use Rattle.env_file.proofs.Weighed.{guard_there as guard_kept, effect_made, before_made, fact_made, hide_small, use_small, act_made}
 
 -- ---- words
 
@@ -115,9 +117,9 @@ module _ (bs : Bounds) where
   guard_there : {n : ℕ} {xs zs : List Lexeme} {k : Option Expr} → ReadsGuard n xs (Sign sign.RightArrow ∷ zs) k → guard_by bs n xs ≡ Some (hold_guard bs k, Sign sign.RightArrow ∷ zs)
   unfolding guard_by
   guard_there no_guard = refl
-  guard_there {zs = zs} (a_guard {e = e} r) =
+  guard_there {zs = zs} (a_guard {e = e} {ps = ps} r p) =
       ap as_guard (formula_there r (refl, (refl, (refl, (refl, (refl, (refl, refl)))))))
-      ∙ ap (λ (k : KeptGuard). Some (k, Sign sign.RightArrow ∷ zs)) (guard_made bs e)
+      ∙ ap (λ (o : Option KeptGuard). o >>= λ g. Some (g, Sign sign.RightArrow ∷ zs)) (guard_kept bs e (parts_told e ps p))
 
   effect_there : {n : ℕ} {xs ys : List Lexeme} {o : Option Effect} → ReadsEffect n xs ys o → StopsPrimary ys → effect_by bs n xs ≡ Some (option_map (hold_effect bs) o, ys)
   unfolding effect_by change_by

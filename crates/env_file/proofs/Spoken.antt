@@ -5,15 +5,16 @@ use Rattle.std.specs.Option.{option_map, option_map_or}
 use Rattle.asl_lexer.specs.declared.token.Sign.TheVariants as sign
 use Rattle.asl_term.specs.declared.syntax.LiteralOf.{LiteralOf}
 use Rattle.asl_term.specs.declared.syntax.Term.{Term}
-use Rattle.asl_reading.specs.declared.lexeme.Lexeme.{Lexeme}
-use Rattle.asl_reading.specs.declared.lexeme.Lexeme.TheVariants.{Truth, Sign, End}
-use Rattle.asl_reading.specs.declared.bounded.Bounded.TheVariants.{Within}
-use Rattle.asl_reading.specs.declared.leaves.Level.TheVariants as levels
-use Rattle.asl_reading.specs.Meanings.{◌>>=◌}
+use Rattle.asl_meaning.specs.declared.lexeme.Lexeme.{Lexeme}
+use Rattle.asl_meaning.specs.declared.lexeme.Lexeme.TheVariants.{Truth, Sign, End}
+use Rattle.asl_meaning.specs.declared.bounded.Bounded.TheVariants.{Within}
+use Rattle.asl_meaning.specs.declared.leaves.Level.TheVariants as levels
+use Rattle.asl_meaning.specs.Meanings.{◌>>=◌}
 use Rattle.asl_reading.specs.Grammar.{ReadsLiteral, is_held, is_denied, an_atom}
-use Rattle.asl_reading.specs.Holding.{Bounds, KeptLiteral, KeptExpr, as_formula, literal_plain}
-use Rattle.asl_reading.specs.Reading.{Front, level_by, literal_by, inside, after_comma}
-use Rattle.asl_reading.proofs.Loop.{some_is}
+use Rattle.asl_meaning.specs.Holding.{Bounds, KeptLiteral, KeptExpr, as_formula, literal_plain}
+use Rattle.asl_meaning.specs.Leaves.{Front, after_comma}
+use Rattle.asl_reading.specs.Reading.{level_by, literal_by, inside}
+use Rattle.asl_meaning.proofs.Options.{some_is}
 use Rattle.asl_reading.proofs.Sound.{bind_some, moved, Begins, mapped, comma_only, sound, sound_literal}
 use Rattle.asl_grammar.specs.Sentences.{label_of, adds_of}
 use Rattle.asl_grammar.specs.Sentences as grammar
@@ -133,12 +134,13 @@ module _ (bs : Bounds) where
   unfolding guard_by
   sound_guard n xs ys k h = go (after_colon xs) refl h
     where
-      go : (o : Option (List Lexeme)) → after_colon xs ≡ o → option_map_or {U = Front KeptGuard} (λ us. formula_by bs n us >>= λ e. Some (guard_of e.0, e.1)) o (Some (Within None, xs)) ≡ Some (k, ys) → ReadsGuard bs n xs ys k
+      go : (o : Option (List Lexeme)) → after_colon xs ≡ o → option_map_or {U = Front KeptGuard} (λ us. formula_by bs n us >>= λ e. guard_of e.0 >>= λ g. Some (g, e.1)) o (Some (Within None, xs)) ≡ Some (k, ys) → ReadsGuard bs n xs ys k
       go None f h = moved (λ z w. ReadsGuard bs n xs z w) (Within None) xs k ys h (no_guard bs)
       go (Some us) f h =
           let a = bind_some (formula_by bs n us) _ (k, ys) h in
-          let part = a_guard bs (sound_formula n us a.0.1 a.0.0 a.1) in
-          moved (λ z w. ReadsGuard bs n xs z w) (guard_of a.0.0) a.0.1 k ys a.2 (subst (λ (z : List Lexeme). ReadsGuard bs n z a.0.1 (guard_of a.0.0)) (sym (colon_only xs us f)) part)
+          let b = bind_some (guard_of a.0.0) _ (k, ys) a.2 in
+          let part = a_guard bs (sound_formula n us a.0.1 a.0.0 a.1) b.1 in
+          moved (λ z w. ReadsGuard bs n xs z w) b.0 a.0.1 k ys b.2 (subst (λ (z : List Lexeme). ReadsGuard bs n z a.0.1 b.0) (sym (colon_only xs us f)) part)
 
   pub sound_effect : (n : ℕ) (xs ys : List Lexeme) (o : Option KeptEffect) → effect_by bs n xs ≡ Some (o, ys) → ReadsEffect bs n xs ys o
   unfolding effect_by change_by

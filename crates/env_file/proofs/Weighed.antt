@@ -1,16 +1,18 @@
 -- What is kept of a clause is what is made of what is kept of its parts.
-use Rattle.std.proofs.Common.{◌≡◌, ℕ, Bool, true, false, ◌&&◌, ◌⊎◌, inl, inr, List, [], ◌∷◌, ◌++◌, Option, Some, None, refl, sym, ap, ◌∙◌}
+use Rattle.std.proofs.Common.{◌≡◌, ℕ, Bool, true, false, ◌&&◌, ◌⊎◌, inl, inr, List, [], ◌∷◌, ◌++◌, Option, Some, None, if◌then◌else◌, refl, sym, ap, ◌∙◌}
 use Rattle.std.specs.Option.{option_map}
 use Rattle.std.specs.List.{list_all}
 use Rattle.std.proofs.lemmas.Bool.{and_from, and_cases, and_left, and_right}
 use Rattle.asl_term.specs.declared.syntax.LiteralOf.{LiteralOf}
 use Rattle.asl_term.specs.declared.syntax.Term.{Term}
 use Rattle.asl_term.specs.declared.syntax.Expr.{Expr}
-use Rattle.asl_reading.specs.declared.bounded.Bounded.TheVariants.{Within, Past}
-use Rattle.asl_reading.specs.Plain.{is_plain_literal, is_action}
-use Rattle.asl_reading.specs.Limits.{within_literal}
-use Rattle.asl_reading.specs.Holding.{Bounds, limited, unlimited, bounded, fits_term, fits_literal, fits_expr, has_small_parts, keep_if, literal_outline, hold_literal, hold_formula}
-use Rattle.asl_reading.proofs.Past.{falls, all_terms, never, literal_past}
+use Rattle.asl_meaning.specs.declared.bounded.Bounded.TheVariants.{Within, Past}
+use Rattle.asl_meaning.specs.Conjuncts.{has_parts}
+use Rattle.asl_meaning.specs.Plain.{is_plain_literal, is_action}
+use Rattle.asl_meaning.specs.Limits.{within_literal}
+use Rattle.asl_meaning.specs.Holding.{Bounds, limited, unlimited, bounded, fits_term, fits_literal, fits_expr, has_small_parts, keep_if, literal_outline, hold_literal, hold_formula}
+use Rattle.asl_meaning.proofs.Options.{some_is}
+use Rattle.asl_meaning.proofs.Past.{falls, all_terms, never, literal_past}
 use Rattle.env_file.specs.declared.statement.Effect.{Effect}
 use Rattle.env_file.specs.declared.statement.Statement.{Statement}
 use Rattle.env_file.specs.declared.statement.Statement.TheVariants as statement
@@ -46,12 +48,23 @@ guard_past bs (Some x) e = e
 module _ (bs : Bounds) where
   -- ---- parts of clauses
 
-  pub guard_made : (x : Expr) → guard_of (hold_formula bs x) ≡ hold_guard bs (Some x)
+  pub guard_made : (x : Expr) → guard_of (hold_formula bs x) ≡ (if has_parts x then Some (hold_guard bs (Some x)) else None)
   guard_made x = go (fits_expr bs x)
     where
-      go : (b : Bool) → guard_of (keep_if b x tt) ≡ keep_if b (Some x) tt
+      go : (b : Bool) → guard_of (keep_if b x (has_parts x)) ≡ (if has_parts x then Some (keep_if b (Some x) tt) else None)
       go true = refl
       go false = refl
+
+  pub guard_there : (x : Expr) → has_parts x ≡ true → guard_of (hold_formula bs x) ≡ Some (hold_guard bs (Some x))
+  guard_there x h = guard_made x ∙ ap (λ (b : Bool). if b then Some (hold_guard bs (Some x)) else None) h
+
+  -- what is kept of a guard is kept of one with parts
+  pub guard_only : (x : Expr) (g : KeptGuard) → guard_of (hold_formula bs x) ≡ Some g → (has_parts x ≡ true) × (hold_guard bs (Some x) ≡ g)
+  guard_only x g e = go (has_parts x) (sym (guard_made x) ∙ e)
+    where
+      go : (b : Bool) → (if b then Some (hold_guard bs (Some x)) else None) ≡ Some g → (b ≡ true) × (hold_guard bs (Some x) ≡ g)
+      go true f = (refl, some_is (hold_guard bs (Some x)) g f)
+      go false f = absurd cc
 
   pub effect_made : (add : Bool) (l : LiteralOf Term) → effect_of add (hold_literal bs l) ≡ hold_effect bs (record { add = add; lit = l })
   effect_made add l = go (has_small_parts bs l)

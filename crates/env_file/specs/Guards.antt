@@ -1,11 +1,11 @@
 -- The parts of a guard: what `&` joins.
-use Rattle.std.specs.Prelude.{Bool, List, [], ◌∷◌, ◌++◌, map, Option, Some, None}
+use Rattle.std.specs.Prelude.{List, [], ◌∷◌, ◌++◌, map, Option, Some, None, unwrap_or}
 use Rattle.asl_term.specs.declared.syntax.Expr.{Expr}
 use Rattle.asl_term.specs.declared.syntax.Expr.TheVariants as expr
 use Rattle.asl_term.specs.declared.syntax.Expr.TheOpen.{Expr-F}
 use Rattle.asl_term.specs.declared.syntax.Expr.TheOpen as layer
 use Rattle.asl_term.specs.declared.syntax.Expr.TheFolds.{fold-Expr}
-use Rattle.asl_reading.specs.Meanings.{◌>>=◌}
+use Rattle.asl_meaning.specs.Meanings.{◌>>=◌}
 use Rattle.env_file.specs.declared.statement.Part.{Part}
 use Rattle.env_file.specs.declared.statement.Part.TheVariants.{Holds, Denied, Related}
 
@@ -32,6 +32,10 @@ parts = fold-Expr (Option (List Part)) parts_step
 abbrev pub guard_parts : Option Expr → Option (List Part)
 guard_parts None = Some []
 guard_parts (Some e) = parts e
+
+-- the parts of the guard of a clause, which has them
+abbrev pub said_parts : Option Expr → List Part
+said_parts g = unwrap_or (guard_parts g) []
 
 abbrev pub expr_of : Part → Expr
 expr_of (Holds l) = expr.Holds l

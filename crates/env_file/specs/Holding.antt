@@ -1,12 +1,13 @@
 -- What clauses say, kept within the limits of trees while they are read.
-use Rattle.std.specs.Prelude.{ℕ, Bool, true, List, [], ◌∷◌, ◌++◌, Option, Some, None}
+use Rattle.std.specs.Prelude.{ℕ, Bool, true, List, [], ◌∷◌, ◌++◌, Option, Some, None, if◌then◌else◌}
 use Rattle.std.specs.List.{list_all}
 use Rattle.asl_term.specs.declared.syntax.LiteralOf.{LiteralOf}
 use Rattle.asl_term.specs.declared.syntax.Term.{Term}
 use Rattle.asl_term.specs.declared.syntax.Expr.{Expr}
-use Rattle.asl_reading.specs.declared.bounded.Bounded.{Bounded}
-use Rattle.asl_reading.specs.declared.bounded.Bounded.TheVariants.{Within, Past}
-use Rattle.asl_reading.specs.Holding.{Bounds, bounded, fits_expr, has_small_parts, keep_if, KeptLiteral, KeptExpr}
+use Rattle.asl_meaning.specs.declared.bounded.Bounded.{Bounded}
+use Rattle.asl_meaning.specs.declared.bounded.Bounded.TheVariants.{Within, Past}
+use Rattle.asl_meaning.specs.Conjuncts.{has_parts}
+use Rattle.asl_meaning.specs.Holding.{Bounds, bounded, fits_expr, has_small_parts, keep_if, KeptLiteral, KeptExpr}
 use Rattle.env_file.specs.declared.statement.Effect.{Effect}
 use Rattle.env_file.specs.declared.statement.Statement.{Statement}
 use Rattle.env_file.specs.declared.statement.Statement.TheVariants as statement
@@ -26,9 +27,10 @@ KeptStatement = Bounded Statement (Unit {0})
 
 -- ---- what is made of parts
 
-abbrev pub guard_of : KeptExpr → KeptGuard
-guard_of (Within e) = Within (Some e)
-guard_of (Past u) = Past tt
+-- a guard has parts
+abbrev pub guard_of : KeptExpr → Option KeptGuard
+guard_of (Within e) = if has_parts e then Some (Within (Some e)) else None
+guard_of (Past parts) = if parts then Some (Past tt) else None
 
 abbrev pub effect_of : Bool → KeptLiteral → KeptEffect
 effect_of add (Within l) = Within (record { add = add; lit = l })

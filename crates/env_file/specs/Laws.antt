@@ -1,7 +1,7 @@
 -- What is true of world files.
 use Rattle.std.specs.Prelude.{◌≡◌, ℕ, List, [], false, Result}
-use Rattle.asl_reading.specs.declared.lexeme.Lexeme.{Lexeme}
-use Rattle.asl_reading.specs.Limits.{too_deep}
+use Rattle.asl_meaning.specs.declared.lexeme.Lexeme.{Lexeme}
+use Rattle.asl_meaning.specs.Limits.{too_deep}
 use Rattle.mas_world.specs.declared.acts.WorldText.{WorldText}
 use Rattle.env_file.specs.declared.fault.WorldFault.{WorldFault}
 use Rattle.env_file.specs.declared.statement.Statement.{Statement}

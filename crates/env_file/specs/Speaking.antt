@@ -4,12 +4,13 @@ use Rattle.std.specs.List.{list_any}
 use Rattle.std.specs.Option.{option_map, option_map_or}
 use Rattle.asl_lexer.specs.declared.token.Sign.TheVariants as sign
 use Rattle.asl_term.specs.declared.syntax.Term.{Term}
-use Rattle.asl_reading.specs.declared.lexeme.Lexeme.{Lexeme}
-use Rattle.asl_reading.specs.declared.lexeme.Lexeme.TheVariants.{Truth, Sign}
-use Rattle.asl_reading.specs.declared.bounded.Bounded.TheVariants.{Within}
-use Rattle.asl_reading.specs.Holding.{Bounds, KeptLiteral, KeptExpr}
-use Rattle.asl_reading.specs.Meanings.{◌>>=◌}
-use Rattle.asl_reading.specs.Reading.{Front, after_comma, literal_by, inside}
+use Rattle.asl_meaning.specs.declared.lexeme.Lexeme.{Lexeme}
+use Rattle.asl_meaning.specs.declared.lexeme.Lexeme.TheVariants.{Truth, Sign}
+use Rattle.asl_meaning.specs.declared.bounded.Bounded.TheVariants.{Within}
+use Rattle.asl_meaning.specs.Holding.{Bounds, KeptLiteral, KeptExpr}
+use Rattle.asl_meaning.specs.Meanings.{◌>>=◌}
+use Rattle.asl_meaning.specs.Leaves.{Front, after_comma}
+use Rattle.asl_reading.specs.Reading.{literal_by, inside}
 use Rattle.asl_grammar.specs.Sentences.{label_of, adds_of}
 use Rattle.asl_grammar.specs.Speaking.{after_colon, is_last, first_of, formula_by, head_by}
 use Rattle.env_file.specs.declared.statement.Statement.{Statement}
@@ -64,7 +65,7 @@ abbrev pub nothing_by : List Lexeme → Front (Option KeptEffect)
 nothing_by ts = after_true ts >>= λ us. Some (None, us)
 
 abbrev pub as_guard : Front KeptExpr → Front KeptGuard
-as_guard found = found >>= λ e. Some (guard_of e.0, e.1)
+as_guard found = found >>= λ e. guard_of e.0 >>= λ g. Some (g, e.1)
 
 unfoldable pub effect_list_by : (List Lexeme → Front (Option KeptEffect)) → ℕ → List Lexeme → Front KeptEffects
 effect_list_by effect zero ts = None

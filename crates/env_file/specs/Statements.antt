@@ -8,14 +8,17 @@ use Rattle.asl_term.specs.declared.syntax.LiteralOf.{LiteralOf}
 use Rattle.asl_term.specs.declared.syntax.Term.{Term}
 use Rattle.asl_term.specs.declared.syntax.Term.TheVariants as term
 use Rattle.asl_term.specs.declared.syntax.Expr.{Expr}
-use Rattle.asl_reading.specs.declared.lexeme.Lexeme.{Lexeme}
-use Rattle.asl_reading.specs.declared.lexeme.Lexeme.TheVariants.{Atom, Var, Truth, Sign, End}
-use Rattle.asl_reading.specs.Meanings.{atom}
-use Rattle.asl_reading.specs.Grammar.{variable, ReadsLiteral}
+use Rattle.asl_meaning.specs.declared.lexeme.Lexeme.{Lexeme}
+use Rattle.asl_meaning.specs.declared.lexeme.Lexeme.TheVariants.{Atom, Var, Truth, Sign, End}
+use Rattle.asl_meaning.specs.Meanings.{atom}
+use Rattle.asl_meaning.specs.Leaves.{variable}
+use Rattle.asl_reading.specs.Grammar.{ReadsLiteral}
 use Rattle.asl_grammar.specs.Sentences.{label_of, adds_of, ReadsFormula, ReadsHead}
+use Rattle.env_file.specs.declared.statement.Part.{Part}
 use Rattle.env_file.specs.declared.statement.Effect.{Effect}
 use Rattle.env_file.specs.declared.statement.Statement.{Statement}
 use Rattle.env_file.specs.declared.statement.Statement.TheVariants as statement
+use Rattle.env_file.specs.Guards.{parts}
 
 -- ---- single tokens
 
@@ -54,10 +57,11 @@ has_annots (t ∷ ts) = (ends_literal t && opens_square ts) || has_annots ts
 
 -- ---- the clauses
 
--- the guard, as one formula
+-- the guard, as one formula, each part of which is a literal, `not` before a literal, or a relation
 pub data ReadsGuard : ℕ → List Lexeme → List Lexeme → Option Expr → Type 0 where
   no_guard : {n : ℕ} {xs : List Lexeme} → ReadsGuard n xs xs None
-  a_guard : {n : ℕ} {xs ys : List Lexeme} {e : Expr} → ReadsFormula n xs ys e → ReadsGuard n (Sign sign.Colon ∷ xs) ys (Some e)
+  a_guard : {n : ℕ} {xs ys : List Lexeme} {e : Expr} {ps : List Part} → ReadsFormula n xs ys e → parts e ≡ Some ps
+      → ReadsGuard n (Sign sign.Colon ∷ xs) ys (Some e)
 
 -- an effect, None for `true`, which adds nothing
 pub data ReadsEffect : ℕ → List Lexeme → List Lexeme → Option Effect → Type 0 where

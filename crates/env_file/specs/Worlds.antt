@@ -12,9 +12,9 @@ use Rattle.asl_term.specs.declared.syntax.Term.TheVariants as term
 use Rattle.asl_term.specs.Same.{same_tree}
 use Rattle.asl_term.specs.Names.{with_name}
 use Rattle.asl_term.specs.Exprs.{is_ground_literal}
-use Rattle.asl_reading.specs.Plain.{is_plain_literal}
-use Rattle.asl_reading.specs.Lexemes.{lexemes}
-use Rattle.asl_reading.specs.Limits.{too_deep}
+use Rattle.asl_meaning.specs.Plain.{is_plain_literal}
+use Rattle.asl_meaning.specs.Lexemes.{lexemes}
+use Rattle.asl_meaning.specs.Limits.{too_deep}
 use Rattle.mas_world.specs.declared.acts.Act.{Act}
 use Rattle.mas_world.specs.declared.acts.WorldText.{WorldText}
 use Rattle.env_file.specs.declared.fault.WorldFault.{WorldFault}
@@ -26,7 +26,7 @@ use Rattle.env_file.specs.declared.statement.Statement.{Statement}
 use Rattle.env_file.specs.declared.statement.Statement.TheVariants as statement
 use Rattle.env_file.specs.Statements.{Says}
 use Rattle.env_file.specs.Limits.{is_within}
-use Rattle.env_file.specs.Guards.{guard_parts, exprs_of}
+use Rattle.env_file.specs.Guards.{said_parts, exprs_of}
 use Rattle.env_file.specs.Binding.{unbound}
 
 -- ---- what is said
@@ -76,17 +76,12 @@ bound_made w k a ps (Some name) = Err (Unbound k name)
 abbrev pub act_made : WorldText → ℕ → WrittenAct → List Part → Result WorldText WorldFault
 act_made w k a ps = bound_made w k a ps (unbound a ps)
 
--- a guard with a part that is none of the three is refused as no clause
-abbrev pub guarded_made : WorldText → ℕ → Tok → WrittenAct → Option (List Part) → Result WorldText WorldFault
-guarded_made w k t a None = Err (Clause k t.line t.column)
-guarded_made w k t a (Some ps) = act_made w k a ps
-
 -- the world of before with what the clause says, or why the clause, which has the number k and begins with t, is refused
 abbrev pub made : List (List ℕ) → WorldText → ℕ → Tok → Statement → Result WorldText WorldFault
 made artifacts w k t (statement.Fact l) = Ok (with_said w l)
 made artifacts w k t (statement.Hide name) = Ok (with_hidden w name)
 made artifacts w k t (statement.Use name) = use_made artifacts w k t name
-made artifacts w k t (statement.Act a) = guarded_made w k t a (guard_parts a.guard)
+made artifacts w k t (statement.Act a) = act_made w k a (said_parts a.guard)
 
 -- ---- pieces
 

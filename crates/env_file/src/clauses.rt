@@ -1,8 +1,8 @@
 //! Clauses of world files, read from their tokens.
 
 ghost use Rattle.std.specs.Prelude.{◌≡◌, length};
-ghost use Rattle.asl_reading.specs.Holding.{limited};
-ghost use Rattle.asl_reading.specs.Reading.{Gives, view_front};
+ghost use Rattle.asl_meaning.specs.Holding.{limited};
+ghost use Rattle.asl_meaning.specs.Leaves.{Gives, view_front};
 ghost use Rattle.asl_grammar.specs.Speaking as grammar;
 ghost use Rattle.env_file.specs.Holding as holding;
 ghost use Rattle.env_file.specs.Speaking as spec;
@@ -14,11 +14,11 @@ use crate::marks::{
 use crate::saying::{act_with, effect_of, fact_of, guard_of, put_effect};
 use crate::statement::{HeldEffect, HeldEffects, HeldGuard, HeldStatement, Statement};
 use asl_grammar::marks::{add_at, after_colon, is_last};
-use asl_reading::bounded::{Bounded, Held, HeldExpr, HeldLiteral};
-use asl_reading::held::as_formula;
-use asl_reading::leaves::after_comma;
-use asl_reading::lexeme::Lexeme;
-use asl_reading::parts::literal_plain;
+use asl_meaning::bounded::{Bounded, Held, HeldExpr, HeldLiteral};
+use asl_meaning::held::as_formula;
+use asl_meaning::leaves::after_comma;
+use asl_meaning::lexeme::Lexeme;
+use asl_meaning::parts::literal_plain;
 use asl_reading::reading::{expression, literal};
 use asl_term::sequence::{Seq, Starved};
 use asl_term::syntax::Term;
@@ -69,7 +69,8 @@ fn as_guard(found: Option<(HeldExpr, &[Lexeme])>) -> Option<(HeldGuard, &[Lexeme
     ensures { view_front result ≡ spec.as_guard (view_front found.entry) }
 {
     let (e, rest) = found?;
-    Some((guard_of(e), rest))
+    let guard = guard_of(e)?;
+    Some((guard, rest))
 }
 
 fn some_guard(

@@ -1,7 +1,7 @@
 //! The parts of a guard.
 
 ghost use Rattle.std.specs.Prelude.{◌≡◌, [], ◌∷◌, ◌++◌, Some, IfOk};
-ghost use Rattle.asl_reading.specs.Reading.{Gives};
+ghost use Rattle.asl_meaning.specs.Leaves.{Gives};
 ghost use Rattle.env_file.specs.Guards as spec;
 
 use crate::statement::{Part, Parts};
@@ -63,13 +63,23 @@ fn parts(alloc: Global, e: &Expr) -> Result<Option<Parts>, Starved>
     }
 }
 
-/// The parts of a guard; an act without one has none.
-pub fn guard_parts(alloc: Global, guard: &Option<Expr>) -> Result<Option<Parts>, Starved>
+/// The parts of a guard, if it has them; an act without one has none.
+fn guard_parts(alloc: Global, guard: &Option<Expr>) -> Result<Option<Parts>, Starved>
     ensures { Gives (λ x. x) result (spec.guard_parts guard.now) }
 {
     match guard {
         Some(e) => parts(alloc, e),
         None => Ok(Some(Seq::new(alloc))),
+    }
+}
+
+/// The parts of the guard of a clause, which has them.
+pub fn said_parts(alloc: Global, guard: &Option<Expr>) -> Result<Parts, Starved>
+    ensures { IfOk result (λ ps. ps ≡ spec.said_parts guard.now) }
+{
+    match guard_parts(alloc, guard)? {
+        Some(ps) => Ok(ps),
+        None => Ok(Seq::new(alloc)),
     }
 }
 

@@ -4,14 +4,14 @@ ghost use Rattle.std.specs.Prelude.{◌≡◌};
 ghost use Rattle.std.specs.List.{list_any};
 ghost use Rattle.asl_grammar.specs.Sentences as grammar;
 ghost use Rattle.asl_grammar.specs.Speaking as speaking;
-ghost use Rattle.asl_reading.specs.Reading.{Gives, view_front, view_rest};
+ghost use Rattle.asl_meaning.specs.Leaves.{Gives, view_front, view_rest};
 ghost use Rattle.env_file.specs.Speaking as spec;
 ghost use Rattle.env_file.specs.Statements as tokens;
 
 use asl_lexer::token::Sign;
-use asl_reading::leaves::variable;
-use asl_reading::lexeme::Lexeme;
-use asl_reading::meaning::{atom, truth_name};
+use asl_meaning::leaves::variable;
+use asl_meaning::lexeme::Lexeme;
+use asl_meaning::meaning::{atom, truth_name};
 use asl_term::copying::{copy_text, text_of};
 use asl_term::sequence::Starved;
 use asl_term::syntax::{Term, Text};

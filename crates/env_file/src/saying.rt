@@ -1,24 +1,31 @@
 //! What clauses say of the trees in them.
 
 ghost use Rattle.std.specs.Prelude.{◌≡◌, [], ◌∷◌, ◌++◌, Some, IfOk};
-ghost use Rattle.asl_reading.specs.Holding.{limited};
+ghost use Rattle.asl_meaning.specs.Holding.{limited};
 ghost use Rattle.env_file.specs.Holding as spec;
 
 use crate::limits::is_within;
 use crate::statement::{
     Effect, Effects, HeldEffect, HeldEffects, HeldGuard, HeldStatement, Statement, WrittenAct,
 };
-use asl_reading::bounded::{Bounded, HeldExpr, HeldLiteral};
+use asl_meaning::bounded::{Bounded, HeldExpr, HeldLiteral};
+use asl_meaning::conjuncts::has_parts;
 use asl_term::sequence::Starved;
 use asl_term::syntax::Term;
 
-/// What is kept of a guard.
-pub fn guard_of(e: HeldExpr) -> HeldGuard
+/// What is kept of a guard, if it has parts.
+pub fn guard_of(e: HeldExpr) -> Option<HeldGuard>
     ensures { result ≡ spec.guard_of e }
 {
     match e {
-        Bounded::Within(e) => Bounded::Within(Some(e)),
-        Bounded::Past(()) => Bounded::Past(()),
+        Bounded::Within(e) => {
+            if has_parts(&e) {
+                Some(Bounded::Within(Some(e)))
+            } else {
+                None
+            }
+        }
+        Bounded::Past(parts) => { if parts { Some(Bounded::Past(())) } else { None } }
     }
 }
 

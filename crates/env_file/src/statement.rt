@@ -1,6 +1,6 @@
 //! What a clause of a world file says.
 
-use asl_reading::bounded::Bounded;
+use asl_meaning::bounded::Bounded;
 use asl_term::sequence::Seq;
 use asl_term::syntax::{Expr, Literal, Relation, Term, Text};
 

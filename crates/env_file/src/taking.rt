@@ -10,7 +10,7 @@ ghost use Rattle.env_file.specs.Worlds as spec;
 
 use crate::binding::unbound;
 use crate::fault::WorldFault;
-use crate::guards::{exprs_of, guard_parts};
+use crate::guards::{exprs_of, said_parts};
 use crate::statement::{Effect, Part, Statement, WrittenAct};
 use asl_lexer::token::Tok;
 use asl_term::compare_expr::equal_literal;
@@ -181,15 +181,12 @@ fn make_guarded(
     alloc: Global,
     text: &mut WorldText,
     number: u64,
-    first: &Tok,
     a: &WrittenAct,
 ) -> Result<(), WorldFault>
-    ensures { Makes result text.new (spec.guarded_made text.old number first.now a.now (guards.guard_parts a.now.guard)) }
+    ensures { Makes result text.new (spec.act_made text.old number a.now (guards.said_parts a.now.guard)) }
 {
-    match guard_parts(alloc, &a.guard)? {
-        Some(ps) => make_act(alloc, text, number, a, ps.as_slice()),
-        None => Err(clause_fault(number, first)),
-    }
+    let ps = said_parts(alloc, &a.guard)?;
+    make_act(alloc, text, number, a, ps.as_slice())
 }
 
 /// Makes of the world what a clause says; else the clause is refused.
@@ -213,6 +210,6 @@ pub fn make(
             Ok(())
         }
         Statement::Use(name) => make_use(alloc, artifacts, text, number, first, name),
-        Statement::Act(a) => make_guarded(alloc, text, number, first, a),
+        Statement::Act(a) => make_guarded(alloc, text, number, a),
     }
 }

@@ -2,7 +2,7 @@
 #![tactic(auto)]
 
 use mas_io::real::{FileShelf, OutSink};
-use mas_top::status::{Status, code, fault_line};
+use mas_reading::status::{Status, code, fault_line};
 use mas_top::top::run_words;
 use std::process::ExitCode;
 use std::{env, io};

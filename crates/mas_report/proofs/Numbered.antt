@@ -14,7 +14,7 @@ use Rattle.mas_board.specs.declared.seats.Sensed.{Sensed}
 use Rattle.mas_board.specs.declared.seats.Sensed.TheVariants.{Input as Given, Left, Ahead}
 use Rattle.mas_board.specs.Boards.{State, sense, seat_at, is_at_limit, all_quiet, is_ahead, left_cycles, left_stopped, left_quiet, ahead, given}
 use Rattle.mas_core.specs.Platform.{Platform, after_sense, think, after_thought, turn_in, is_agent, turn, and_run, run}
-use Rattle.mas_report.specs.Schedule.{AllFromOne}
+use Rattle.mas_schedule.specs.Schedule.{AllFromOne}
 
 some_same : {A : Type 0} {x y : A} → Some x ≡ Some y → x ≡ y
 some_same e = cc

@@ -20,7 +20,7 @@ use Rattle.mas_board.specs.Boards.{State, seat_at, box_of, name_of, name_or_none
 use Rattle.mas_core.specs.Platform.{Platform, run, ended}
 use Rattle.mas_core.specs.Robin.{turns}
 use Rattle.mas_report.specs.declared.options.Options.{Options}
-use Rattle.mas_report.specs.Schedule.{schedule_text, line_feed, printed}
+use Rattle.mas_schedule.specs.Schedule.{schedule_text, line_feed, printed}
 
 abbrev pub level_word : Level → List ℕ
 level_word Say = codes "say"

@@ -1,6 +1,5 @@
-//! The report of a run, and its schedule.
+//! The report of a run.
 #![tactic(auto)]
 
 pub mod options;
 pub mod report;
-pub mod schedule;

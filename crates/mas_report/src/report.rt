@@ -9,7 +9,6 @@ ghost use Rattle.mas_board.specs.Seating.{IsSound};
 ghost use Rattle.mas_report.specs.Report as spec;
 
 use crate::options::Options;
-use crate::schedule::put_schedule;
 use asl_term::names::Names;
 use asl_term::printing::{write, write_number};
 use asl_term::printing_expr::write_literal;
@@ -20,6 +19,7 @@ use mas_board::seats::Phase;
 use mas_core::robin::Done;
 use mas_mind::mind::{End, Level, Message, verb_text};
 use mas_mind::thinking::Mind;
+use mas_schedule::schedule::put_schedule;
 use mas_world::artifact::Artifact;
 use mas_world::world::World;
 use std::alloc::Global;

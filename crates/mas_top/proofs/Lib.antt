@@ -1,4 +1,6 @@
-pub mod Inner
+pub mod Opened
 pub mod Runs
+pub mod Played
 pub mod Caused
+pub mod Followed
 pub mod Laws

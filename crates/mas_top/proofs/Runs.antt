@@ -1,68 +1,132 @@
 -- The report of a whole run.
-use Rattle.std.proofs.Common.{ℕ, ◌≡◌, ◌≤◌, ◌-◌, Bool, List, [], ◌∷◌, length, Option, IfSome, slice_get, refl, ap, sym, ◌∙◌, subst, arith}
-use Rattle.asl_term.specs.declared.syntax.AgentText.{AgentText}
-use Rattle.asl_cycle.specs.Agent.{Mindset, agent_kind, opening_mind}
-use Rattle.mas_world.specs.declared.acts.WorldText.{WorldText}
-use Rattle.mas_mind.specs.Minds.{IsAgent}
-use Rattle.mas_board.specs.Seating.{IsSound}
-use Rattle.mas_core.specs.Fits.{Start, IsMindOf}
-use Rattle.mas_top.specs.Reading.{solo, budgets_of, opening_world}
-use Rattle.mas_mind.specs.Minds.{Kind}
+use Rattle.std.proofs.Common.{ℕ, zero, suc, ◌≡◌, ◌≤◌, ◌<◌, ◌-◌, Bool, true, false, replicate, List, [], length, Option, None, Some, IfSome, slice_get, refl, ap, sym, ◌∙◌, subst, arith}
+use Rattle.std.proofs.lemmas.List.{length-replicate}
+use Rattle.asl_cycle.specs.Agent.{Mindset, agent_kind}
+use Rattle.mas_mind.specs.Minds.{Kind, IsAgent}
 use Rattle.mas_board.specs.Boards as boards
-use Rattle.mas_core.specs.Platform.{Platform, run}
+use Rattle.mas_board.specs.Seating.{IsSound, AreLimits}
+use Rattle.mas_core.specs.Fits.{Start, IsMindOf}
+use Rattle.mas_core.specs.Platform.{Platform, run, ended}
+use Rattle.mas_core.specs.Replay.{RanAlong}
 use Rattle.mas_core.specs.Robin.{RanOut}
+use Rattle.mas_schedule.specs.Schedule.{printed}
+use Rattle.mas_schedule.proofs.Scanned.{printed-schedule}
 use Rattle.mas_report.specs.declared.options.Options.{Options}
-use Rattle.mas_report.specs.Schedule.{printed}
-use Rattle.mas_report.specs.Report.{front_text, report_text, is_spent}
-use Rattle.mas_report.proofs.Scanned.{printed-schedule}
+use Rattle.mas_report.specs.Limits.{IsWithin}
+use Rattle.mas_report.specs.Report.{IsReport, front_text, report_text, is_spent}
 use Rattle.mas_report.proofs.Numbered.{run_numbers}
-use Rattle.mas_top.specs.Headline.{IsRobinReport}
+use Rattle.mas_reading.specs.declared.sources.Source.{Source}
+use Rattle.mas_top.specs.Fits.{CanRun}
+use Rattle.mas_top.specs.Headline.{IsRunReport}
+use Rattle.mas_top.specs.Opening.{opening_board, opening_minds, texts_of}
+use Rattle.mas_top.specs.Playing.{IsReplayed}
+use Rattle.mas_top.proofs.Opened.{mind_at, opened_length}
+
+true_false : true ≡ false → ⊥
+true_false e = cc
 
 few : (s : boards.State) → IsSound s → length s.seats ≤ 65535
 few s h = let l = h.limits.few in omega arith
 
--- what is printed of a run is its report, with the schedule of the round robin
+-- what is printed of a run are its numbers
+prints : {V : Type 0} (k : Kind V) (o : Options) (p done : Platform V) (schedule w : List ℕ) → IsSound p.board → run k p schedule ≡ Some done →
+    w ≡ report_text k.lines o done.board done.minds schedule → printed w ≡ schedule
+prints {V} k o p done schedule w sound r t =
+    ap printed t ∙ printed-schedule (front_text k.lines o done.board done.minds) schedule (run_numbers k p done schedule (few p.board sound) r)
+
+-- its text is its report
+reports : {V : Type 0} (k : Kind V) (o : Options) (p done : Platform V) (schedule : List ℕ) (spent : Bool) (w : List ℕ) → run k p schedule ≡ Some done →
+    ended done.board.seats ≡ true → spent ≡ is_spent done.board.seats → w ≡ report_text k.lines o done.board done.minds schedule → printed w ≡ schedule →
+    IsReport k o p spent w
+reports {V} k o p done schedule spent w r e b t same = record {
+  done = done;
+  ran = ap (run k p) same ∙ r;
+  ended = e;
+  spent_is = sym b;
+  is = t ∙ ap (report_text k.lines o done.board done.minds) (sym same);
+}
+
+-- that of the round robin
 pub robin_report : {V : Type 0} (k : Kind V) (o : Options) (p : Platform V) (board : boards.Noted) (minds : List V) (spent : Bool) (w : List ℕ) →
     IsSound p.board → RanOut k p board minds → spent ≡ is_spent board.state.seats → w ≡ report_text k.lines o board.state minds board.schedule →
-    IsRobinReport k o p spent w
+    IsRunReport k o p None spent w
 robin_report {V} k o p board minds spent w sound r b t =
     let done : Platform V = record { board = board.state; minds = minds; thoughts = r.thoughts } in
-    let n = run_numbers k p done board.schedule (few p.board sound) r.ran in
-    let same : printed w ≡ board.schedule = ap printed t ∙ printed-schedule (front_text k.lines o board.state minds) board.schedule n in
+    let same = prints k o p done board.schedule w sound r.ran t in
+    record { report = reports k o p done board.schedule spent w r.ran r.ended b t same; scheduled = record { robin = same ∙ r.schedule } }
+
+-- that of a run along given numbers
+pub replay_report : {V : Type 0} (k : Kind V) (o : Options) (p : Platform V) (names : List ℕ) (board : boards.Noted) (minds : List V) (spent : Bool) (w : List ℕ) →
+    IsSound p.board → RanAlong k p names board minds → spent ≡ is_spent board.state.seats → w ≡ report_text k.lines o board.state minds board.schedule →
+    IsReplayed k o p names spent w
+replay_report {V} k o p names board minds spent w sound r b t =
+    let done : Platform V = record { board = board.state; minds = minds; thoughts = r.thoughts } in
+    let u = t ∙ ap (report_text k.lines o board.state minds) r.schedule in
+    let same = prints k o p done names w sound r.ran u in
     record {
-      report = record {
-        done = done;
-        ran = ap (run k p) same ∙ r.ran;
-        ended = r.ended;
-        spent_is = sym b;
-        is = t ∙ ap (report_text k.lines o board.state minds) (sym same);
-      };
-      robin = record { robin = same ∙ r.schedule };
+      done = done;
+      ran = r.ran;
+      ended = r.ended;
+      report = record { report = reports k o p done names spent w r.ran r.ended b u same; scheduled = same };
     }
 
+-- ---- the start
+
 -- the board at the start
-abbrev opens : Options → Option WorldText → boards.Noted
-opens o world = record { state = boards.opening (solo ∷ []) (opening_world world) o.cycles o.lead; schedule = [] }
+abbrev opens : Options → Source → boards.Noted
+opens o source = record { state = opening_board o source; schedule = [] }
 
--- the agent before its first cycle
-abbrev mind : Options → AgentText → Mindset
-mind o source = opening_mind 1 1 source (budgets_of o) o.level
+seat_get : {A : Type 0} (n i : ℕ) (x : A) → i < n → slice_get (replicate n x) i ≡ Some x
+seat_get zero i x l = absurd (omega arith)
+seat_get (suc n) zero x l = refl
+seat_get (suc n) (suc i) x l = let k : i < n = omega arith in seat_get n i x k
 
-the_mind : (o : Options) (world : Option WorldText) (source : AgentText) (a : ℕ) → IsAgent 1 a →
-    IfSome (slice_get (mind o source ∷ []) (a - 1)) (IsMindOf agent_kind (opens o world).state a)
-the_mind o world source a i =
-    let first = i.from_one in
-    let last = i.named in
-    let one : a ≡ 1 = omega arith in
-    subst (λ n. IfSome (slice_get (mind o source ∷ []) (n - 1)) (IsMindOf agent_kind (opens o world).state n)) (sym one)
-    (record { me = refl; agents = refl; made = refl; awaits = λ e. absurd cc })
+-- at the start every seat is one at which nothing has happened
+fresh : (n a : ℕ) → IsAgent n a → boards.seat_of (replicate n boards.no_seat) a ≡ boards.no_seat
+fresh n a i =
+    let f = i.from_one in
+    let l = i.named in
+    let k : a - 1 < n = omega arith in
+    ap boards.seat_or_none (seat_get n (a - 1) boards.no_seat k)
 
-starts_here : (o : Options) (world : Option WorldText) (source : AgentText) → Start agent_kind (opens o world) (mind o source ∷ [])
-starts_here o world source = record { unplayed = refl; fit = record { number = refl; each = the_mind o world source } }
+mind_fits : (o : Options) (source : Source) (a : ℕ) (m : Option Mindset) → (boards.seat_at (opening_board o source) a).cycle ≡ 0 →
+    length (opening_board o source).seats ≡ length source.names →
+    IfSome m (λ m. (m.me ≡ a) × ((m.agents ≡ length source.names) × ((m.cycles ≡ 0) × (m.awaits ≡ false)))) →
+    IfSome m (IsMindOf agent_kind (opening_board o source) a)
+mind_fits o source a None c n h = tt
+mind_fits o source a (Some m) c n h =
+    record { me = h.0; agents = h.1.0 ∙ sym n; made = h.1.1.0 ∙ sym c; awaits = λ e. absurd (true_false (sym e ∙ h.1.1.1)) }
 
--- board and mind of one agent fit
-pub starts : (o : Options) (world : Option WorldText) (source : AgentText) (board : boards.Noted) (minds : List Mindset) →
-    board ≡ record { state = boards.opening (solo ∷ []) (opening_world world) o.cycles o.lead; schedule = [] } →
-    minds ≡ opening_mind 1 1 source (budgets_of o) o.level ∷ [] → Start agent_kind board minds
-starts o world source board minds b m =
-    subst (λ x. Start agent_kind x minds) (sym b) (subst (λ x. Start agent_kind (opens o world) x) (sym m) (starts_here o world source))
+the_minds : (o : Options) (source : Source) → CanRun source → (a : ℕ) → IsAgent (length (opening_board o source).seats) a →
+    IfSome (slice_get (opening_minds o source) (a - 1)) (IsMindOf agent_kind (opening_board o source) a)
+the_minds o source c a i =
+    let n = length-replicate (length source.names) boards.no_seat in
+    let j : IsAgent (length source.names) a = subst (λ x. IsAgent x a) n i in
+    mind_fits o source a (slice_get (opening_minds o source) (a - 1)) (ap (λ s. s.cycle) (fresh (length source.names) a j)) n
+    (mind_at o (length source.names) a (texts_of source.roles) j.from_one (subst (λ x. a ≤ x) c.named j.named))
+
+starts_here : (o : Options) (source : Source) → CanRun source → Start agent_kind (opens o source) (opening_minds o source)
+starts_here o source c = record {
+  unplayed = refl;
+  fit = record {
+    number = opened_length o (length source.names) (texts_of source.roles) ∙ sym c.named ∙ sym (length-replicate (length source.names) boards.no_seat);
+    each = the_minds o source c;
+  };
+}
+
+-- board and minds of a source fit
+pub starts : (o : Options) (source : Source) (board : boards.Noted) (minds : List Mindset) → CanRun source →
+    board ≡ record { state = opening_board o source; schedule = [] } → minds ≡ opening_minds o source → Start agent_kind board minds
+starts o source board minds c b m =
+    subst (λ x. Start agent_kind x minds) (sym b) (subst (λ x. Start agent_kind (opens o source) x) (sym m) (starts_here o source c))
+
+-- the limits of the board
+pub limits : (o : Options) (source : Source) → IsWithin o → CanRun source → AreLimits (length source.names) o.cycles o.lead
+limits o source w c = record {
+  some = c.some;
+  few = let l = c.few in omega arith;
+  cycle = w.cycles.0;
+  short = w.cycles.1;
+  ahead = w.lead.0;
+  close = w.lead.1;
+}

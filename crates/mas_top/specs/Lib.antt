@@ -1,6 +1,7 @@
-pub mod Later
-pub mod Statuses
-pub mod Reading
-pub mod Files
-pub mod Faults
+pub mod Words
+pub mod Opening
+pub mod Fits
+pub mod Runs
+pub mod Caused
 pub mod Headline
+pub mod Playing

@@ -1,26 +1,28 @@
-//! A run of one agent, from its source to the report.
+//! A run, from its source to the report.
 
-ghost use Rattle.std.specs.Prelude.{◌≡◌, ◌∷◌, [], IfOk, IfSome, true};
-ghost use Rattle.std.specs.List.{list_all};
-ghost use Rattle.asl_term.specs.Exprs.{is_ground_literal};
-ghost use Rattle.asl_cycle.specs.Agent.{opening_mind};
+ghost use Rattle.std.specs.Prelude.{◌≡◌, [], IfOk, IfSome, IfErr, None, Some, MatchResult};
+ghost use Rattle.asl_cycle.specs.Agent.{agent_kind};
 ghost use Rattle.mas_board.specs.Boards as boards;
 ghost use Rattle.mas_core.specs.Fits.{Start};
 ghost use Rattle.mas_core.specs.Platform.{opening_platform};
+ghost use Rattle.mas_core.specs.Replay.{Faulted};
 ghost use Rattle.mas_report.specs.Limits.{IsWithin};
-ghost use Rattle.mas_top.specs.Headline.{IsRobinReport, IsRobinReportOf};
-ghost use Rattle.mas_top.specs.Reading.{budgets_of, CanOpen, no_text, opening_world, solo};
+ghost use Rattle.mas_report.specs.Report as spec;
+ghost use Rattle.mas_top.specs.Fits.{CanOpen, CanRun};
+ghost use Rattle.mas_top.specs.Headline.{IsRunReport};
+ghost use Rattle.mas_top.specs.Opening.{no_text, opening, opening_board, opening_minds, opening_world};
+ghost use Rattle.mas_top.specs.Playing.{IsReplayed};
 
-use crate::files::Source;
-use asl_cycle::agent::{Agent, open_agent};
-use asl_resolve::answers::Budgets;
-use asl_term::copying::text_of;
-use asl_term::names::{Names, number};
+use crate::minds::open_minds;
+use asl_cycle::agent::Agent;
+use asl_term::names::Names;
 use asl_term::sequence::{Seq, Starved};
-use asl_term::syntax::{AgentText, Text};
+use asl_term::syntax::Text;
 use mas_board::board::{Board, open_board};
-use mas_core::robin::round_robin;
+use mas_core::replay::{PlayFault, replay};
+use mas_core::robin::{Done, round_robin};
 use mas_mind::thinking::Mind;
+use mas_reading::sources::Source;
 use mas_report::options::Options;
 use mas_report::report::{is_spent, report};
 use mas_world::acts::WorldText;
@@ -37,33 +39,11 @@ pub struct Output {
     pub spent: bool,
 }
 
-/// The names of a run without a project.
-fn solo_names(alloc: Global) -> Result<Names, Starved>
-    ensures { IfOk result (λ n. n ≡ solo ∷ []) }
-{
-    let mut names = Names::new(alloc)?;
-    let name = text_of(alloc, b"solo")?;
-    number(&mut names, &name)?;
-    Ok(names)
-}
-
-/// The agent of this source before its first cycle.
-fn open_solo(
-    alloc: Global,
-    o: &Options,
-    names: &Names,
-    source: &AgentText,
-) -> Result<Agent, Starved>
-    requires within { IsWithin o.now }
-    requires named { names.now ≡ solo ∷ [] }
-    requires ground { list_all is_ground_literal source.now.beliefs ≡ true }
-    ensures { IfOk result (λ a. a ≡ opening_mind 1 1 source.now (budgets_of o.now) o.now.level) }
-{
-    let budgets = Budgets {
-        depth: o.depth,
-        tries: o.tries,
-    };
-    open_agent(alloc, 1, names, source, budgets, o.level)
+/// A board on which nothing has happened, and the minds of its agents.
+#[derive(Drop)]
+pub struct Opened<M: Mind, A: Artifact> {
+    pub board: Board<A>,
+    pub minds: Seq<M>,
 }
 
 /// A world without facts, in which no action is done.
@@ -89,68 +69,101 @@ fn world_at_start(alloc: Global, text: Option<WorldText>) -> Result<World<Tabled
     }
 }
 
-/// The board at the start, of one agent.
-fn solo_board(
+/// The board and the minds of a source at the start.
+#[tactic(auto, using(crate::proofs::Runs::limits))]
+fn open_source(alloc: Global, o: &Options, source: Source) -> Result<Opened<Agent, Tabled>, Starved>
+    requires within { IsWithin o.now }
+    requires can { CanRun source }
+    ensures board { IfOk result (λ p. p.board ≡ record { state = opening_board o.now source; schedule = [] }) }
+    ensures minds { IfOk result (λ p. p.minds ≡ opening_minds o.now source) }
+{
+    let Source {
+        names,
+        roles,
+        world,
+    } = source;
+    let minds = open_minds(alloc, o, &names, roles.as_slice())?;
+    let world = world_at_start(alloc, world)?;
+    let board = open_board(alloc, world, names, o.cycles, o.lead)?;
+    Ok(Opened { board, minds })
+}
+
+/// The report of a run that is done, and whether an end in it is `budget`.
+fn told<M: Mind, A: Artifact>(
     alloc: Global,
     o: &Options,
-    names: Names,
-    text: Option<WorldText>,
-) -> Result<Board<Tabled>, Starved>
-    requires within { IsWithin o.now }
-    requires named { names ≡ solo ∷ [] }
-    requires world { IfSome text CanOpen }
-    ensures { IfOk result (λ b. b ≡ record { state = boards.opening (solo ∷ []) (opening_world text) o.now.cycles o.now.lead; schedule = [] }) }
+    done: &Done<M, A>,
+) -> Result<Output, Starved>
+    ensures spent { IfOk result (λ out. out.spent ≡ spec.is_spent done.now.board.state.seats) }
+    ensures text { IfOk result (λ out. out.text ≡ spec.report_text M.kind.lines o.now done.now.board.state done.now.minds done.now.board.schedule) }
 {
-    let world = world_at_start(alloc, text)?;
-    open_board(alloc, world, names, o.cycles, o.lead)
+    let spent = is_spent(&done.board);
+    let text = report(alloc, o, done)?;
+    Ok(Output { text, spent })
 }
 
 /// The round robin of these minds over this board, and its report.
 fn run_out<M: Mind, A: Artifact>(
     alloc: Global,
     o: &Options,
-    board: Board<A>,
-    minds: Seq<M>,
+    opened: Opened<M, A>,
 ) -> Result<Output, Starved>
-    requires { Start M.kind board minds }
-    ensures { IfOk result (λ out. IsRobinReport M.kind o.now (opening_platform board.state minds) out.spent out.text) }
+    requires { Start M.kind opened.board opened.minds }
+    ensures { IfOk result (λ out. IsRunReport M.kind o.now (opening_platform opened.board.state opened.minds) None out.spent out.text) }
 {
+    let Opened { board, minds } = opened;
     board.holds();
     let done = round_robin(alloc, board, minds)?;
-    let spent = is_spent(&done.board);
-    let text = report(alloc, o, &done)?;
-    Ok(Output { text, spent })
+    let out = told(alloc, o, &done)?;
+    Ok(out)
 }
 
-/// The mind of the agent of this source, alone in its list.
-fn solo_minds(
+/// The run of these minds over this board along these numbers, and its report.
+fn run_along<M: Mind, A: Artifact>(
     alloc: Global,
     o: &Options,
-    names: &Names,
-    source: &AgentText,
-) -> Result<Seq<Agent>, Starved>
-    requires within { IsWithin o.now }
-    requires named { names.now ≡ solo ∷ [] }
-    requires ground { list_all is_ground_literal source.now.beliefs ≡ true }
-    ensures { IfOk result (λ ms. ms ≡ opening_mind 1 1 source.now (budgets_of o.now) o.now.level ∷ []) }
+    opened: Opened<M, A>,
+    names: &Seq<u64>,
+) -> Result<Output, PlayFault>
+    requires { Start M.kind opened.board opened.minds }
+    ensures ok { IfOk result (λ out. IsReplayed M.kind o.now (opening_platform opened.board.state opened.minds) names.now out.spent out.text) }
+    ensures err { IfErr result (Faulted M.kind (opening_platform opened.board.state opened.minds) names.now) }
 {
-    let agent = open_solo(alloc, o, names, source)?;
-    let mut minds = Seq::new(alloc);
-    minds.push(agent)?;
-    Ok(minds)
+    let Opened { board, minds } = opened;
+    board.holds();
+    let done = replay(alloc, board, minds, names)?;
+    match told(alloc, o, &done) {
+        Ok(out) => Ok(out),
+        Err(_) => Err(PlayFault::Memory),
+    }
 }
 
-/// The report of the run of this source.
+/// The report of the run of a source, by the round robin.
 #[tactic(auto, using(crate::proofs::Runs::starts))]
 pub fn run_source(alloc: Global, o: &Options, source: Source) -> Result<Output, Starved>
     requires within { IsWithin o.now }
-    requires ground { list_all is_ground_literal source.agent.beliefs ≡ true }
-    requires world { IfSome source.world CanOpen }
-    ensures { IfOk result (λ out. IsRobinReportOf o.now out.spent source out.text) }
+    requires can { CanRun source }
+    ensures { IfOk result (λ out. IsRunReport agent_kind o.now (opening o.now source) None out.spent out.text) }
 {
-    let Source { agent, world } = source;
-    let names = solo_names(alloc)?;
-    let minds = solo_minds(alloc, o, &names, &agent)?;
-    let board = solo_board(alloc, o, names, world)?;
-    run_out(alloc, o, board, minds)
+    let opened = open_source(alloc, o, source)?;
+    run_out(alloc, o, opened)
+}
+
+/// The report of the run of a source along these numbers.
+#[tactic(auto, using(crate::proofs::Runs::starts))]
+pub fn replay_source(
+    alloc: Global,
+    o: &Options,
+    source: Source,
+    names: &Seq<u64>,
+) -> Result<Output, PlayFault>
+    requires within { IsWithin o.now }
+    requires can { CanRun source }
+    ensures ok { IfOk result (λ out. IsReplayed agent_kind o.now (opening o.now source) names.now out.spent out.text) }
+    ensures err { IfErr result (Faulted agent_kind (opening o.now source) names.now) }
+{
+    match open_source(alloc, o, source) {
+        Ok(opened) => run_along(alloc, o, opened, names),
+        Err(_) => Err(PlayFault::Memory),
+    }
 }

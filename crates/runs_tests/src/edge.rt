@@ -6,7 +6,7 @@ use mas_io::real::{FileShelf, OutSink};
 use mas_io::shelf::{Fetched, Shelf};
 use mas_io::sink::{Put, Sink};
 use mas_io::writing::write_all;
-use mas_top::status::{Status, code, fault_line};
+use mas_reading::status::{Status, code, fault_line};
 use std::alloc::Global;
 use std::fs;
 use std::test::Fail;

@@ -1,7 +1,7 @@
-//! Tests of the crates above the trees that no case can say: the place of a fault, and real files and output.
+//! Tests of what no case can say: laws, and real files and output.
 #![tactic(auto)]
 
 #[cfg(test)]
 mod edge;
 #[cfg(test)]
-mod reading;
+mod laws;

@@ -1,5 +1,5 @@
 use Rattle.std.proofs.Common.{◌≡◌, ◌<◌, length, Some, None, rules, arith}
-use Rattle.asl_reading.specs.Holding.{limited}
+use Rattle.asl_meaning.specs.Holding.{limited}
 use Rattle.asl_grammar.specs.Holding.{put_item}
 use Rattle.asl_grammar.specs.Speaking.{item_by, after_semicolon}
 use Rattle.asl_grammar.proofs.Body.{items_stop, items_more, items_end, item_shorter, semicolon_shorter}

@@ -1,5 +1,5 @@
 use Rattle.std.proofs.Common.{length}
-use Rattle.asl_reading.specs.Holding.{limited}
+use Rattle.asl_meaning.specs.Holding.{limited}
 use Rattle.asl_grammar.specs.Speaking.{item_by, item_list_by}
 use Rattle.asl_grammar.proofs.Body.{ItemsLeft}
 use Rattle.asl_grammar.proofs.clauses.item_list.Given as goal

@@ -1,6 +1,6 @@
 use Rattle.std.proofs.Common.{◌≡◌, length, ap, rules, arith}
-use Rattle.asl_reading.specs.Lexemes.{lexemes}
-use Rattle.asl_reading.proofs.Numbering.{same_length}
+use Rattle.asl_meaning.specs.Lexemes.{lexemes}
+use Rattle.asl_meaning.proofs.Numbering.{same_length}
 use Rattle.asl_reading.proofs.places.expr_at.Goals as goal
 
 pub split_at-requires : goal.split_at-requires

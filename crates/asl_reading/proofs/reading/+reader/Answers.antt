@@ -1,8 +1,9 @@
 use Rattle.std.proofs.Common.{◌≡◌, ◌∙◌, ◌<◌, ◌-◌, suc, length, Some, None, rules, arith}
-use Rattle.asl_reading.specs.declared.leaves.Level.TheVariants as levels
-use Rattle.asl_reading.specs.declared.leaves.Shape.TheVariants as shape
-use Rattle.asl_reading.specs.Holding.{limited}
-use Rattle.asl_reading.specs.Reading.{after_comma, after_open, after_close, joint_at, step_by, items_by, level_by, operand_by, inside}
+use Rattle.asl_meaning.specs.declared.leaves.Level.TheVariants as levels
+use Rattle.asl_meaning.specs.declared.leaves.Shape.TheVariants as shape
+use Rattle.asl_meaning.specs.Holding.{limited}
+use Rattle.asl_meaning.specs.Leaves.{after_comma, after_open, after_close, joint_at}
+use Rattle.asl_reading.specs.Reading.{step_by, items_by, level_by, operand_by, inside}
 use Rattle.asl_reading.proofs.Loop.{goes_on, fails, ends, joint_shorter, comma_shorter}
 use Rattle.asl_reading.proofs.Items.{items_stop, items_more, items_end}
 use Rattle.asl_reading.proofs.Sound.{step_shorter, item_shorter}

@@ -1,5 +1,5 @@
 use Rattle.std.proofs.Common.{◌≡◌, length, ◌+◌, ◌*◌}
-use Rattle.asl_reading.specs.Holding.{limited}
+use Rattle.asl_meaning.specs.Holding.{limited}
 use Rattle.asl_reading.specs.Reading.{level_by, operand_by, base_by, items_by, inside}
 use Rattle.asl_reading.proofs.Loop.{rank, prefix_rank, Continues, Passed}
 use Rattle.asl_reading.proofs.Items.{ItemsLeft}

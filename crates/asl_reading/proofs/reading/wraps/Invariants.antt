@@ -1,5 +1,5 @@
 use Rattle.std.proofs.Common.{◌≡◌, ◌-◌, Some}
-use Rattle.asl_reading.specs.Holding.{limited}
+use Rattle.asl_meaning.specs.Holding.{limited}
 use Rattle.asl_reading.specs.Reading.{wrapped}
 use Rattle.asl_reading.proofs.reading.wraps.Given as goal
 

@@ -1,6 +1,6 @@
 use Rattle.std.proofs.Common.{◌≡◌, ◌<◌, length, Some, None, rules, arith}
-use Rattle.asl_reading.specs.Holding.{limited}
-use Rattle.asl_reading.specs.Reading.{after_comma}
+use Rattle.asl_meaning.specs.Holding.{limited}
+use Rattle.asl_meaning.specs.Leaves.{after_comma}
 use Rattle.asl_reading.proofs.Loop.{comma_shorter}
 use Rattle.env_file.specs.Holding.{put_effect}
 use Rattle.env_file.specs.Speaking.{effect_by}

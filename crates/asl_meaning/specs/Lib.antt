@@ -1,0 +1,7 @@
+pub mod Lexemes
+pub mod Meanings
+pub mod Limits
+pub mod Plain
+pub mod Conjuncts
+pub mod Holding
+pub mod Leaves

@@ -1,0 +1,271 @@
+//! What expressions mean as they are read, before it is known whether a term or a formula is wanted.
+
+ghost use Rattle.std.specs.Prelude.{◌≡◌, IfOk};
+ghost use Rattle.asl_meaning.specs.Meanings as spec;
+
+use asl_term::boxed::Boxed;
+use asl_term::copying::text_of;
+use asl_term::sequence::{Seq, Starved};
+use asl_term::syntax::{ArithOf, Call, Expr, Literal, LiteralOf, Op, RelOp, Relation, Term, Text};
+use std::alloc::Global;
+
+/// What an expression means.
+#[derive(Drop)]
+pub enum Meaning {
+    /// The word `true` or `false`: a constant where a formula is wanted, and this atom where a term is.
+    Truth(bool, Literal),
+    /// A term, and a formula too.
+    Literal(Literal),
+    /// Another term.
+    Term(Term),
+    Relation(Relation),
+    Call(Call),
+    /// A formula with `not`, `&` or `|`.
+    Formula(Expr),
+}
+
+/// What stands between two operands of one level.
+#[derive(Clone, Copy, Debug, PartialEq, Eq, Drop)]
+pub enum Joint {
+    Or,
+    And,
+    Arith(Op),
+}
+
+/// What stands before an operand.
+#[derive(Clone, Copy, Debug, PartialEq, Eq, Drop)]
+pub enum Prefix {
+    Not,
+    Minus,
+}
+
+fn is_count(known: &[u8], n: u64, name: &Text, count: u64) -> bool
+    ensures { result ≡ spec.is_count known.now n name.now count }
+{
+    name.as_slice() == known && count == n
+}
+
+fn is_from(known: &[u8], n: u64, name: &Text, count: u64) -> bool
+    ensures { result ≡ spec.is_from known.now n name.now count }
+{
+    name.as_slice() == known && n <= count
+}
+
+#[tactic(auto, unfolding(crate::specs::Meanings::is_pure))]
+pub fn is_pure(name: &Text, count: u64) -> bool
+    ensures { result ≡ spec.is_pure name.now count }
+{
+    is_count(b"findall".as_slice(), 3, name, count)
+        || is_count(b"count".as_slice(), 2, name, count)
+        || is_count(b"member".as_slice(), 2, name, count)
+        || is_count(b"length".as_slice(), 2, name, count)
+        || is_count(b"nth".as_slice(), 3, name, count)
+        || is_from(b"concat".as_slice(), 3, name, count)
+        || is_count(b"max".as_slice(), 2, name, count)
+        || is_count(b"min".as_slice(), 2, name, count)
+        || is_count(b"reverse".as_slice(), 2, name, count)
+        || is_count(b"ground".as_slice(), 1, name, count)
+        || is_count(b"my_name".as_slice(), 1, name, count)
+        || is_count(b"number".as_slice(), 1, name, count)
+        || is_count(b"string".as_slice(), 1, name, count)
+        || is_count(b"list".as_slice(), 1, name, count)
+        || is_count(b"atom".as_slice(), 1, name, count)
+        || is_count(b"literal".as_slice(), 1, name, count)
+}
+
+#[tactic(auto, unfolding(crate::specs::Meanings::is_on_goals))]
+fn is_on_goals(name: &Text, count: u64) -> bool
+    ensures { result ≡ spec.is_on_goals name.now count }
+{
+    is_count(b"drop_intention".as_slice(), 1, name, count)
+        || is_count(b"drop_desire".as_slice(), 1, name, count)
+        || is_count(b"succeed_goal".as_slice(), 1, name, count)
+        || is_count(b"fail_goal".as_slice(), 1, name, count)
+        || is_count(b"intend".as_slice(), 1, name, count)
+        || is_count(b"desire".as_slice(), 1, name, count)
+}
+
+#[tactic(auto, unfolding(crate::specs::Meanings::is_deed))]
+pub fn is_deed(name: &Text, count: u64) -> bool
+    ensures { result ≡ spec.is_deed name.now count }
+{
+    is_on_goals(name, count)
+        || is_from(b"print".as_slice(), 0, name, count)
+        || is_count(b"fail".as_slice(), 0, name, count)
+        || is_count(b"abolish".as_slice(), 1, name, count)
+        || is_count(b"send".as_slice(), 3, name, count)
+        || is_count(b"send".as_slice(), 4, name, count)
+        || is_count(b"broadcast".as_slice(), 2, name, count)
+        || is_count(b"stopMAS".as_slice(), 0, name, count)
+}
+
+#[tactic(auto, unfolding(crate::specs::Meanings::wants_formula))]
+pub fn wants_formula(name: &Text, place: u64) -> bool
+    ensures { result ≡ spec.wants_formula name.now place }
+{
+    is_count(b"findall".as_slice(), 1, name, place) || is_count(b"count".as_slice(), 0, name, place)
+}
+
+pub fn atom(alloc: Global, name: Text) -> Literal
+    ensures { result ≡ spec.atom name }
+{
+    LiteralOf {
+        neg: false,
+        functor: name,
+        args: Seq::new(alloc),
+        annots: Seq::new(alloc),
+    }
+}
+
+pub fn truth_name(alloc: Global, b: bool) -> Result<Text, Starved>
+    ensures { IfOk result (λ r. r ≡ spec.truth_name b) }
+{
+    if b {
+        text_of(alloc, b"true".as_slice())
+    } else {
+        text_of(alloc, b"false".as_slice())
+    }
+}
+
+/// The word as an expression of its own.
+pub fn truth(alloc: Global, b: bool) -> Result<Meaning, Starved>
+    ensures { IfOk result (λ m. m ≡ spec.truth b) }
+{
+    Ok(Meaning::Truth(b, atom(alloc, truth_name(alloc, b)?)))
+}
+
+/// As a term.
+pub fn as_term(m: Meaning) -> Option<Term>
+    ensures { result ≡ spec.as_term m }
+{
+    match m {
+        Meaning::Truth(_, l) => Some(Term::Lit(l)),
+        Meaning::Literal(l) => Some(Term::Lit(l)),
+        Meaning::Term(t) => Some(t),
+        Meaning::Relation(_) => None,
+        Meaning::Call(_) => None,
+        Meaning::Formula(_) => None,
+    }
+}
+
+/// As a formula, which holds no action of a body.
+pub fn as_formula(m: Meaning) -> Option<Expr>
+    ensures { result ≡ spec.as_formula m }
+{
+    match m {
+        Meaning::Truth(b, _) => {
+            if b {
+                Some(Expr::True)
+            } else {
+                Some(Expr::False)
+            }
+        }
+        Meaning::Literal(l) => Some(Expr::Holds(l)),
+        Meaning::Term(_) => None,
+        Meaning::Relation(r) => Some(Expr::Rel(r)),
+        Meaning::Call(c) => {
+            if is_pure(&c.name, c.args.len()) {
+                Some(Expr::Inner(c))
+            } else {
+                None
+            }
+        }
+        Meaning::Formula(e) => Some(e),
+    }
+}
+
+fn arith(alloc: Global, op: Op, left: Term, right: Term) -> Result<Term, Starved>
+    ensures { IfOk result (λ t. t ≡ spec.arith op left right) }
+{
+    let left = Boxed::new(alloc, left)?;
+    let right = Boxed::new(alloc, right)?;
+    Ok(Term::Op(ArithOf { op, left, right }))
+}
+
+fn both_terms(left: Meaning, right: Meaning) -> Option<(Term, Term)>
+    ensures { result ≡ spec.both_terms left right }
+{
+    let left = as_term(left)?;
+    let right = as_term(right)?;
+    Some((left, right))
+}
+
+fn both_formulas(left: Meaning, right: Meaning) -> Option<(Expr, Expr)>
+    ensures { result ≡ spec.both_formulas left right }
+{
+    let left = as_formula(left)?;
+    let right = as_formula(right)?;
+    Some((left, right))
+}
+
+fn either_of(alloc: Global, left: Expr, right: Expr) -> Result<Expr, Starved>
+    ensures { IfOk result (λ e. e ≡ spec.either_of left right) }
+{
+    let left = Boxed::new(alloc, left)?;
+    let right = Boxed::new(alloc, right)?;
+    Ok(Expr::Or(left, right))
+}
+
+fn both_of(alloc: Global, left: Expr, right: Expr) -> Result<Expr, Starved>
+    ensures { IfOk result (λ e. e ≡ spec.both_of left right) }
+{
+    let left = Boxed::new(alloc, left)?;
+    let right = Boxed::new(alloc, right)?;
+    Ok(Expr::And(left, right))
+}
+
+/// Two operands and what stands between them.
+#[tactic(auto, unfolding(crate::specs::Meanings::joined))]
+pub fn joined(
+    alloc: Global,
+    joint: Joint,
+    left: Meaning,
+    right: Meaning,
+) -> Result<Option<Meaning>, Starved>
+    ensures { IfOk result (λ r. r ≡ spec.joined joint left right) }
+{
+    match joint {
+        Joint::Or => match both_formulas(left, right) {
+            Some((left, right)) => Ok(Some(Meaning::Formula(either_of(alloc, left, right)?))),
+            None => Ok(None),
+        },
+        Joint::And => match both_formulas(left, right) {
+            Some((left, right)) => Ok(Some(Meaning::Formula(both_of(alloc, left, right)?))),
+            None => Ok(None),
+        },
+        Joint::Arith(op) => match both_terms(left, right) {
+            Some((left, right)) => Ok(Some(Meaning::Term(arith(alloc, op, left, right)?))),
+            None => Ok(None),
+        },
+    }
+}
+
+/// Two terms and a relation between them.
+#[tactic(auto, unfolding(crate::specs::Meanings::compared))]
+pub fn compared(op: RelOp, left: Meaning, right: Meaning) -> Option<Meaning>
+    ensures { result ≡ spec.compared op left right }
+{
+    let (left, right) = both_terms(left, right)?;
+    Some(Meaning::Relation(Relation { op, left, right }))
+}
+
+/// An operand and what stands before it.
+#[tactic(auto, unfolding(crate::specs::Meanings::prefixed))]
+pub fn prefixed(alloc: Global, prefix: Prefix, m: Meaning) -> Result<Option<Meaning>, Starved>
+    ensures { IfOk result (λ r. r ≡ spec.prefixed prefix m) }
+{
+    match prefix {
+        Prefix::Not => {
+            let Some(e) = as_formula(m) else {
+                return Ok(None);
+            };
+            Ok(Some(Meaning::Formula(Expr::Not(Boxed::new(alloc, e)?))))
+        }
+        Prefix::Minus => {
+            let Some(t) = as_term(m) else {
+                return Ok(None);
+            };
+            Ok(Some(Meaning::Term(arith(alloc, Op::Sub, Term::Num(0), t)?)))
+        }
+    }
+}

@@ -1,0 +1,9 @@
+pub mod Places
+pub mod Steps
+pub mod Mails
+pub mod Leads
+pub mod Changes
+pub mod Rests
+pub mod Calms
+pub mod Ends
+pub mod Goes

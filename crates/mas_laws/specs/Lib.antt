@@ -1,0 +1,3 @@
+pub mod Mail
+pub mod Lead
+pub mod Quiet

@@ -1,0 +1,6 @@
+//! What is true of every run of the platform.
+#![tactic(auto)]
+
+pub mod lead;
+pub mod mail;
+pub mod quiet;

@@ -1,0 +1,16 @@
+pub mod Machine
+pub mod Complete
+pub mod Sound
+pub mod Stops
+pub mod Words
+pub mod Refused
+pub mod Drafting
+pub mod Told
+pub mod Named
+pub mod Tested
+pub mod Whole
+pub mod Meets
+pub mod Readings
+pub mod Single
+pub mod Answers
+pub mod Agents

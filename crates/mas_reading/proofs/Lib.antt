@@ -1,0 +1,9 @@
+pub mod Inner
+pub mod Folders
+pub mod Counted
+pub mod Unless
+pub mod Fetched
+pub mod Parts
+pub mod Stands
+pub mod Within
+pub mod Single

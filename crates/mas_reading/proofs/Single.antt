@@ -1,0 +1,350 @@
+-- Files describe one source, and are then not refused.
+use Rattle.std.proofs.Common.{ℕ, ◌≡◌, ◌≤◌, ◌<◌, inl, inr, Bool, true, false, List, [], ◌∷◌, ◌++◌, Option, None, Some, refl, ap, sym, ◌∙◌, subst, arith}
+use Rattle.std.specs.Prelude.{Result, Ok as Yes, Err as No}
+use Rattle.asl_term.specs.declared.syntax.Filed.{Filed}
+use Rattle.asl_term.specs.declared.syntax.AgentText.{AgentText}
+use Rattle.asl_lexer.specs.declared.token.LexFault.{LexFault}
+use Rattle.asl_lexer.specs.declared.token.LexFault.TheVariants as lex
+use Rattle.asl_lexer.specs.Lexing.{IsFirstFault}
+use Rattle.asl_reading.specs.declared.fault.TextFault.{TextFault}
+use Rattle.asl_reading.specs.declared.fault.TextFault.TheVariants as fault
+use Rattle.asl_grammar.specs.declared.sentence.Sentence.{Sentence}
+use Rattle.asl_grammar.specs.Agents.{AreSentences, nothing, all_added}
+use Rattle.asl_grammar.proofs.Single.{one_answer}
+use Rattle.mas_world.specs.declared.acts.WorldText.{WorldText}
+use Rattle.env_file.specs.declared.fault.WorldFault.{WorldFault}
+use Rattle.env_file.specs.declared.fault.WorldFault.TheVariants as world
+use Rattle.env_file.specs.Worlds.{IsWorld}
+use Rattle.env_file.proofs.Single.{one_world}
+use Rattle.mas_project.specs.declared.syntax.AgentLine.{AgentLine}
+use Rattle.mas_project.specs.declared.syntax.ProjectText.{ProjectText}
+use Rattle.mas_project.specs.declared.fault.ProjectFault.TheVariants as project
+use Rattle.mas_project.specs.declared.fault.ProjectFault.{ProjectFault}
+use Rattle.mas_project.specs.Projects.{IsProject, IsRefused}
+use Rattle.mas_project.proofs.Answers.{one_answer as one_reply}
+use Rattle.mas_io.specs.Causes.{Rose}
+use Rattle.mas_io.specs.declared.shelf.Fetched.TheVariants.{Bytes, Missing as Lacks, TooLong}
+use Rattle.mas_reading.specs.declared.sources.Role.{Role}
+use Rattle.mas_reading.specs.declared.sources.Source.{Source}
+use Rattle.mas_reading.specs.declared.status.Status.{Status}
+use Rattle.mas_reading.specs.declared.status.Status.TheVariants.{Ok, Usage, Missing, ReadFault, WriteFault, Refused, Limit, Budget, Memory, Later}
+use Rattle.mas_reading.specs.declared.status.Reason.{Reason}
+use Rattle.mas_reading.specs.declared.status.Reason.TheVariants as reason
+use Rattle.mas_reading.specs.declared.status.What.{What}
+use Rattle.mas_reading.specs.declared.status.What.TheVariants as what
+use Rattle.mas_reading.specs.Later.{Runs, first_later, IsFirstLater}
+use Rattle.mas_reading.specs.Projects.{folder, project_in, is_agent_file, all_cycles, most_cycles}
+use Rattle.mas_reading.specs.Files.{HasFile, Reader, agents, worlds, projects, IsRefusal, most_bytes}
+use Rattle.mas_reading.specs.Sources.{
+  ProjectBy,
+  HasProject,
+  HasWorld,
+  HasRole,
+  HasRoles,
+  Describe,
+  HasSource,
+  LineRefused,
+  PartRefused,
+  FirstRefused,
+  project_refused,
+  cycles_refused,
+  part_refused,
+  AreRefused,
+}
+
+some_same : {A : Type 0} {x y : A} → Some x ≡ Some y → x ≡ y
+some_same e = cc
+
+none_some : {A : Type 0} {x : A} → None ≡ Some x → ⊥
+none_some e = cc
+
+true_false : true ≡ false → ⊥
+true_false e = cc
+
+bytes_lack : (bytes : List ℕ) → Bytes bytes ≡ Lacks → ⊥
+bytes_lack bytes e = cc
+
+bytes_long : (bytes : List ℕ) → Bytes bytes ≡ TooLong → ⊥
+bytes_long bytes e = cc
+
+bytes_same : (a b : List ℕ) → Bytes a ≡ Bytes b → a ≡ b
+bytes_same a b e = cc
+
+abbrev said : ProjectText → Result ProjectText ProjectFault
+said p = Yes p
+
+projects_same : (p q : ProjectText) → said p ≡ said q → p ≡ q
+projects_same p q e = cc
+
+project_fault : (p : ProjectText) (f : ProjectFault) → Yes p ≡ No f → ⊥
+project_fault p f e = cc
+
+one_project : (bytes : List ℕ) (p q : ProjectText) → IsProject bytes p → IsProject bytes q → p ≡ q
+one_project bytes p q h g = projects_same p q (one_reply bytes (Yes p) (Yes q) h g)
+
+not_both : (bytes : List ℕ) (p : ProjectText) (f : ProjectFault) → IsProject bytes p → IsRefused bytes f → ⊥
+not_both bytes p f h g = project_fault p f (one_reply bytes (Yes p) (No f) h g)
+
+-- ---- files of one name
+
+-- two files of one name have the same bytes
+pub same_file : (most : ℕ) (files : List Filed) (name : List ℕ) (P Q : List ℕ → Type 0) (h : HasFile most (Some files) name P) (g : HasFile most (Some files) name Q) → h.bytes ≡ g.bytes
+same_file most files name P Q h g = bytes_same h.bytes g.bytes (h.has ∙ sym g.has)
+
+-- so what is promised of the bytes of both is so of those of one
+pub with_file : (most : ℕ) (files : List Filed) (name : List ℕ) (P Q : List ℕ → Type 0) (h : HasFile most (Some files) name P) (g : HasFile most (Some files) name Q) → Q h.bytes
+with_file most files name P Q h g = subst Q (sym (same_file most files name P Q h g)) g.are
+
+abbrev answered : List Sentence → Result (List Sentence) TextFault
+answered said = Yes said
+
+sentences_same : (a b : List Sentence) → answered a ≡ answered b → a ≡ b
+sentences_same a b e = cc
+
+-- one agent of the bytes runs
+one_agent : (bytes : List ℕ) (a b : AgentText) → Runs bytes a → Runs bytes b → a ≡ b
+one_agent bytes a b r s = r.together ∙ ap (all_added nothing) (sentences_same r.said s.said (one_answer bytes (Yes r.said) (Yes s.said) r.are s.are)) ∙ sym s.together
+
+abbrev opened : WorldText → Result WorldText WorldFault
+opened text = Yes text
+
+worlds_same : (a b : WorldText) → opened a ≡ opened b → a ≡ b
+worlds_same a b e = cc
+
+one_text : (bytes : List ℕ) (a b : WorldText) → IsWorld [] bytes a → IsWorld [] bytes b → a ≡ b
+one_text bytes a b h g = worlds_same a b (one_world [] bytes (Yes a) (Yes b) h g)
+
+-- ---- one project, one world, the same agents
+
+project_by : (b : Bool) (files : List Filed) (word : List ℕ) (p q : ProjectText) → ProjectBy b (Some files) word p → ProjectBy b (Some files) word q → p ≡ q
+project_by true files word p q h g = h ∙ sym g
+project_by false files word p q h g =
+    let e = same_file most_bytes files word _ _ h g in
+    let w : IsProject h.bytes g.are.written = subst (λ x. IsProject x g.are.written) (sym e) g.are.is in
+    h.are.placed ∙ ap (project_in (folder word)) (one_project h.bytes h.are.written g.are.written h.are.is w) ∙ sym g.are.placed
+
+same_project : (files : List Filed) (word : List ℕ) (p q : ProjectText) → HasProject (Some files) word p → HasProject (Some files) word q → p ≡ q
+same_project files word p q h g = project_by (is_agent_file word) files word p q h g
+
+same_world : (files : List Filed) (name : Option (List ℕ)) (a b : Option WorldText) → HasWorld (Some files) name a → HasWorld (Some files) name b → a ≡ b
+same_world files None None None h g = refl
+same_world files None None (Some b) h g = absurd g
+same_world files None (Some a) b h g = absurd h
+same_world files (Some name) None b h g = absurd h
+same_world files (Some name) (Some a) None h g = absurd g
+same_world files (Some name) (Some a) (Some b) h g =
+    ap Some (one_text h.bytes a b h.are (with_file most_bytes files name (λ x. IsWorld [] x a) (λ x. IsWorld [] x b) h g))
+
+abbrev role : AgentText → ℕ → Role
+role text count = record { text = text; count = count }
+
+same_role : (files : List Filed) (line : AgentLine) (a b : Role) → HasRole (Some files) line a → HasRole (Some files) line b → a ≡ b
+same_role files line a b h g =
+    ap (λ t. role t a.count) (one_agent h.text.bytes a.text b.text h.text.are
+    (with_file most_bytes files line.file (λ x. Runs x a.text) (λ x. Runs x b.text) h.text g.text))
+    ∙ ap (role b.text) (h.count ∙ sym g.count)
+
+same_roles : (files : List Filed) (lines : List AgentLine) (a b : List Role) → HasRoles (Some files) lines a → HasRoles (Some files) lines b → a ≡ b
+same_roles files [] [] [] h g = refl
+same_roles files [] [] (y ∷ b) h g = absurd g
+same_roles files [] (x ∷ a) b h g = absurd h
+same_roles files (line ∷ lines) [] b h g = absurd h
+same_roles files (line ∷ lines) (x ∷ a) [] h g = absurd g
+same_roles files (line ∷ lines) (x ∷ a) (y ∷ b) h g =
+    ap (λ r. r ∷ a) (same_role files line x y h.0 g.0) ∙ ap (λ rs. y ∷ rs) (same_roles files lines a b h.1 g.1)
+
+abbrev source : List (List ℕ) → List Role → Option WorldText → Source
+source names roles text = record { names = names; roles = roles; world = text }
+
+pub one_source : (cycles : ℕ) (files : List Filed) (word : List ℕ) (a b : Source) → HasSource cycles (Some files) word a → HasSource cycles (Some files) word b → a ≡ b
+one_source cycles files word a b h g =
+    let e = same_project files word h.project g.project h.asked.stands g.asked.stands in
+    let d = subst (λ p. Describe (Some files) p b) (sym e) g.describe in
+    ap (λ ns. source ns a.roles a.world) (h.describe.names ∙ sym d.names)
+    ∙ ap (λ rs. source b.names rs a.world) (same_roles files h.project.agents a.roles b.roles h.describe.roles d.roles)
+    ∙ ap (λ w. source b.names b.roles w) (same_world files h.project.world a.world b.world h.describe.world d.world)
+
+-- ---- files that describe a source are not refused
+
+answer_fault : (said : List Sentence) (fault : TextFault) → Yes said ≡ No fault → ⊥
+answer_fault said fault e = cc
+
+text_fault : (text : WorldText) (fault : WorldFault) → Yes text ≡ No fault → ⊥
+text_fault text fault e = cc
+
+-- bytes with this promise are refused by a reader at no place, for no limit, and run
+pub record Accepted (r : Reader) (bytes : List ℕ) : Type 0 where
+  pub faulty : (place : ℕ) (why : Reason) → r.faulty bytes place why → ⊥
+  pub large : (quantity : What) (number : ℕ) → r.large bytes quantity number → ⊥
+  pub later : (number : ℕ) → r.later bytes number → ⊥
+
+not_lex : (bytes : List ℕ) (said : List Sentence) (why : LexFault) → AreSentences bytes said → IsFirstFault bytes why → ⊥
+not_lex bytes said why a r = answer_fault said (fault.Lex why) (one_answer bytes (Yes said) (No (fault.Lex why)) a r)
+
+agent_faulty : (bytes : List ℕ) (said : List Sentence) → AreSentences bytes said → (place : ℕ) (why : Reason) → agents.faulty bytes place why → ⊥
+agent_faulty bytes said a place reason.Byte r = not_lex bytes said (lex.BadByte place) a r
+agent_faulty bytes said a place reason.String r = not_lex bytes said (lex.OpenString place) a r
+agent_faulty bytes said a place reason.Comment r = not_lex bytes said (lex.OpenComment place) a r
+agent_faulty bytes said a place reason.Number r = not_lex bytes said (lex.NumberRange place) a r
+agent_faulty bytes said a place reason.Clause r =
+    answer_fault said (fault.Clause place r.line r.column) (one_answer bytes (Yes said) (No (fault.Clause place r.line r.column)) a r.refused)
+agent_faulty bytes said a place (reason.Name name) r = absurd r
+agent_faulty bytes said a place (reason.Option word) r = absurd r
+agent_faulty bytes said a place (reason.Unbound name) r = absurd r
+agent_faulty bytes said a place (reason.Artifact name) r = absurd r
+agent_faulty bytes said a place reason.Line r = absurd r
+agent_faulty bytes said a place reason.Illegal r = absurd r
+agent_faulty bytes said a place reason.Unended r = absurd r
+
+agent_large : (bytes : List ℕ) (said : List Sentence) → AreSentences bytes said → (quantity : What) (number : ℕ) → agents.large bytes quantity number → ⊥
+agent_large bytes said a what.File number r = absurd r
+agent_large bytes said a what.Clause number r = answer_fault said (fault.Limit number) (one_answer bytes (Yes said) (No (fault.Limit number)) a r)
+agent_large bytes said a what.Agents number r = absurd r
+agent_large bytes said a what.Cycles number r = absurd r
+
+agent_later : (bytes : List ℕ) (source : AgentText) → Runs bytes source → (number : ℕ) → IsFirstLater bytes number → ⊥
+agent_later bytes source h number r =
+    let same : h.said ≡ r.said = sentences_same h.said r.said (one_answer bytes (Yes h.said) (Yes r.said) h.are r.are) in
+    none_some (sym h.all_run ∙ ap first_later same ∙ r.first)
+
+agent_read : (bytes : List ℕ) (source : AgentText) → Runs bytes source → Accepted agents bytes
+agent_read bytes source h = record {
+  faulty = agent_faulty bytes h.said h.are;
+  large = agent_large bytes h.said h.are;
+  later = agent_later bytes source h;
+}
+
+no_lex : (bytes : List ℕ) (text : WorldText) (why : LexFault) → IsWorld [] bytes text → IsFirstFault bytes why → ⊥
+no_lex bytes text why a r = text_fault text (world.Lex why) (one_world [] bytes (Yes text) (No (world.Lex why)) a r)
+
+world_faulty : (bytes : List ℕ) (text : WorldText) → IsWorld [] bytes text → (place : ℕ) (why : Reason) → worlds.faulty bytes place why → ⊥
+world_faulty bytes text a place reason.Byte r = no_lex bytes text (lex.BadByte place) a r
+world_faulty bytes text a place reason.String r = no_lex bytes text (lex.OpenString place) a r
+world_faulty bytes text a place reason.Comment r = no_lex bytes text (lex.OpenComment place) a r
+world_faulty bytes text a place reason.Number r = no_lex bytes text (lex.NumberRange place) a r
+world_faulty bytes text a place reason.Clause r =
+    text_fault text (world.Clause place r.line r.column) (one_world [] bytes (Yes text) (No (world.Clause place r.line r.column)) a r.refused)
+world_faulty bytes text a place (reason.Name name) r = absurd r
+world_faulty bytes text a place (reason.Option word) r = absurd r
+world_faulty bytes text a place (reason.Unbound name) r = text_fault text (world.Unbound place name) (one_world [] bytes (Yes text) (No (world.Unbound place name)) a r)
+world_faulty bytes text a place (reason.Artifact name) r =
+    text_fault text (world.UnknownArtifact place name) (one_world [] bytes (Yes text) (No (world.UnknownArtifact place name)) a r)
+world_faulty bytes text a place reason.Line r = absurd r
+world_faulty bytes text a place reason.Illegal r = absurd r
+world_faulty bytes text a place reason.Unended r = absurd r
+
+world_large : (bytes : List ℕ) (text : WorldText) → IsWorld [] bytes text → (quantity : What) (number : ℕ) → worlds.large bytes quantity number → ⊥
+world_large bytes text a what.File number r = absurd r
+world_large bytes text a what.Clause number r = text_fault text (world.Limit number) (one_world [] bytes (Yes text) (No (world.Limit number)) a r)
+world_large bytes text a what.Agents number r = absurd r
+world_large bytes text a what.Cycles number r = absurd r
+
+world_read : (bytes : List ℕ) (text : WorldText) → IsWorld [] bytes text → Accepted worlds bytes
+world_read bytes text h = record { faulty = world_faulty bytes text h; large = world_large bytes text h; later = λ number r. r }
+
+project_faulty : (bytes : List ℕ) (p : ProjectText) → IsProject bytes p → (place : ℕ) (why : Reason) → projects.faulty bytes place why → ⊥
+project_faulty bytes p a place reason.Byte r = not_both bytes p (project.Lex (lex.BadByte place)) a r
+project_faulty bytes p a place reason.String r = not_both bytes p (project.Lex (lex.OpenString place)) a r
+project_faulty bytes p a place reason.Comment r = not_both bytes p (project.Lex (lex.OpenComment place)) a r
+project_faulty bytes p a place reason.Number r = not_both bytes p (project.Lex (lex.NumberRange place)) a r
+project_faulty bytes p a place reason.Clause r = not_both bytes p (project.Clause place r.line r.column) a r.refused
+project_faulty bytes p a place (reason.Name name) r = not_both bytes p (project.TwoNames place name) a r
+project_faulty bytes p a place (reason.Option word) r = not_both bytes p (project.Option place word) a r
+project_faulty bytes p a place (reason.Unbound name) r = absurd r
+project_faulty bytes p a place (reason.Artifact name) r = absurd r
+project_faulty bytes p a place reason.Line r = absurd r
+project_faulty bytes p a place reason.Illegal r = absurd r
+project_faulty bytes p a place reason.Unended r = absurd r
+
+project_large : (bytes : List ℕ) (p : ProjectText) → IsProject bytes p → (quantity : What) (number : ℕ) → projects.large bytes quantity number → ⊥
+project_large bytes p a what.File number r = absurd r
+project_large bytes p a what.Clause number r = absurd r
+project_large bytes p a what.Agents number r = not_both bytes p (project.TooMany number) a r
+project_large bytes p a what.Cycles number r = absurd r
+
+project_read : (bytes : List ℕ) (p : ProjectText) → IsProject bytes p → Accepted projects bytes
+project_read bytes p h = record { faulty = project_faulty bytes p h; large = project_large bytes p h; later = λ number r. r }
+
+-- a file that is there and is not refused is so with no status but Memory, where no fault came
+pub not_refused_file : (r : Reader) (files : List Filed) (name : List ℕ) (before after : ℕ) (status : Status) (P : List ℕ → Type 0) →
+    (h : HasFile r.most (Some files) name P) → Accepted r h.bytes → (Rose before after → ⊥) → IsRefusal r name (Some files) before after status → status ≡ Memory
+not_refused_file r files name before after Ok P h n f c = absurd c
+not_refused_file r files name before after Usage P h n f c = absurd c
+not_refused_file r files name before after (Missing lacked) P h n f c = absurd (bytes_lack h.bytes (h.has ∙ sym c.has))
+not_refused_file r files name before after ReadFault P h n f c = absurd (f c)
+not_refused_file r files name before after WriteFault P h n f c = absurd c
+not_refused_file r files name before after (Refused file place why) P h n f c =
+    absurd (n.faulty place why (with_file r.most files name P (λ x. r.faulty x place why) h c.has))
+not_refused_file r files name before after (Limit what.File count) P h n f c = absurd (bytes_long h.bytes (h.has ∙ sym c.has))
+not_refused_file r files name before after (Limit what.Clause count) P h n f c = absurd (n.large what.Clause count (with_file r.most files name P (λ x. r.large x what.Clause count) h c))
+not_refused_file r files name before after (Limit what.Agents count) P h n f c = absurd (n.large what.Agents count (with_file r.most files name P (λ x. r.large x what.Agents count) h c))
+not_refused_file r files name before after (Limit what.Cycles count) P h n f c = absurd (n.large what.Cycles count (with_file r.most files name P (λ x. r.large x what.Cycles count) h c))
+not_refused_file r files name before after Budget P h n f c = absurd c
+not_refused_file r files name before after Memory P h n f c = refl
+not_refused_file r files name before after (Later file number) P h n f c = absurd (n.later number (with_file r.most files name P (λ x. r.later x number) h c.has))
+
+-- ---- each of them
+
+project_not : (b : Bool) (files : List Filed) (word : List ℕ) (p : ProjectText) (before after : ℕ) (status : Status) → ProjectBy b (Some files) word p → b ≡ false →
+    (Rose before after → ⊥) → IsRefusal projects word (Some files) before after status → status ≡ Memory
+project_not true files word p before after status h e f c = absurd (true_false e)
+project_not false files word p before after status h e f c =
+    not_refused_file projects files word before after status _ h (project_read h.bytes h.are.written h.are.is) f c
+
+world_not : (files : List Filed) (name : List ℕ) (named : Option (List ℕ)) (text : Option WorldText) (before after : ℕ) (status : Status) → named ≡ Some name →
+    HasWorld (Some files) named text → (Rose before after → ⊥) → IsRefusal worlds name (Some files) before after status → status ≡ Memory
+world_not files name None text before after status e h f c = absurd (none_some e)
+world_not files name (Some n) None before after status e h f c = absurd h
+world_not files name (Some n) (Some text) before after status e h f c =
+    let g : HasFile most_bytes (Some files) name (λ x. IsWorld [] x text) = subst (λ x. HasFile most_bytes (Some files) x (λ y. IsWorld [] y text)) (some_same e) h in
+    not_refused_file worlds files name before after status (λ x. IsWorld [] x text) g (world_read g.bytes text g.are) f c
+
+-- the role of a line among others
+record RoleOf (files : List Filed) (line : AgentLine) : Type 0 where
+  one : Role
+  has : HasRole (Some files) line one
+
+role_at : (files : List Filed) (front : List AgentLine) (line : AgentLine) (back : List AgentLine) (roles : List Role) →
+    HasRoles (Some files) (front ++ line ∷ back) roles → RoleOf files line
+role_at files [] line back [] h = absurd h
+role_at files [] line back (r ∷ roles) h = record { one = r; has = h.0 }
+role_at files (x ∷ front) line back [] h = absurd h
+role_at files (x ∷ front) line back (r ∷ roles) h = role_at files front line back roles h.1
+
+line_not : (files : List Filed) (lines : List AgentLine) (roles : List Role) (before after : ℕ) (status : Status) → HasRoles (Some files) lines roles →
+    (Rose before after → ⊥) → LineRefused (Some files) lines before after status → status ≡ Memory
+line_not files lines roles before after status h f c =
+    let r = role_at files c.front c.line c.back roles (subst (λ ls. HasRoles (Some files) ls roles) c.lines_are h) in
+    not_refused_file agents files c.line.file before after status (λ x. Runs x r.one.text) r.has.text (agent_read r.has.text.bytes r.one.text r.has.text.are) f c.why
+
+part_not : (files : List Filed) (p : ProjectText) (source : Source) (before after : ℕ) (status : Status) →
+    Describe (Some files) p source → (Rose before after → ⊥) → PartRefused p (Some files) before after status → status ≡ Memory
+part_not files p source before after status d f (inl w) = world_not files w.name p.world source.world before after status w.named_is d.world f w.why
+part_not files p source before after status d f (inr a) = line_not files p.agents source.roles before after status d.roles f a.why
+
+too_many : (n : ℕ) → n ≤ most_cycles → most_cycles < n → ⊥
+too_many n h g = omega arith
+
+first_not : (cycles : ℕ) (files : List Filed) (word : List ℕ) (source : Source) (before after : ℕ) (status : Status) → HasSource cycles (Some files) word source →
+    (Rose before after → ⊥) → FirstRefused cycles (Some files) word before after status → status ≡ Memory
+first_not cycles files word source before after status h f (project_refused r) =
+    project_not (is_agent_file word) files word h.project before after status h.asked.stands r.file f r.why
+first_not cycles files word source before after status h f (cycles_refused r) =
+    let e = same_project files word h.project r.project h.asked.stands r.stands in
+    absurd (too_many (all_cycles r.project cycles) (subst (λ p. all_cycles p cycles ≤ most_cycles) e h.asked.few) r.past)
+first_not cycles files word source before after status h f (part_refused p a r) =
+    let e = same_project files word h.project p h.asked.stands a.stands in
+    part_not files p source before after status (subst (λ q. Describe (Some files) q source) e h.describe) f r
+
+pub not_refused : (cycles : ℕ) (files : List Filed) (word : List ℕ) (source : Source) (before after : ℕ) (status : Status) → HasSource cycles (Some files) word source →
+    (Rose before after → ⊥) → AreRefused cycles (Some files) word before after status → status ≡ Memory
+not_refused cycles files word source before after Ok h f c = first_not cycles files word source before after Ok h f c
+not_refused cycles files word source before after Usage h f c = first_not cycles files word source before after Usage h f c
+not_refused cycles files word source before after (Missing lacked) h f c = first_not cycles files word source before after (Missing lacked) h f c
+not_refused cycles files word source before after ReadFault h f c = first_not cycles files word source before after ReadFault h f c
+not_refused cycles files word source before after WriteFault h f c = first_not cycles files word source before after WriteFault h f c
+not_refused cycles files word source before after (Refused file place why) h f c = first_not cycles files word source before after (Refused file place why) h f c
+not_refused cycles files word source before after (Limit quantity count) h f c = first_not cycles files word source before after (Limit quantity count) h f c
+not_refused cycles files word source before after Budget h f c = first_not cycles files word source before after Budget h f c
+not_refused cycles files word source before after Memory h f c = refl
+not_refused cycles files word source before after (Later file number) h f c = first_not cycles files word source before after (Later file number) h f c

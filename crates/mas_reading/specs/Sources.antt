@@ -1,0 +1,125 @@
+-- What the files of a project describe, and which of them is refused first.
+use Rattle.std.specs.Prelude.{ℕ, ◌≡◌, ◌⊎◌, ◌≤◌, ◌<◌, false, Bool, true, List, [], ◌∷◌, ◌++◌, length, Option, None, Some}
+use Rattle.asl_term.specs.declared.syntax.Filed.{Filed}
+use Rattle.mas_world.specs.declared.acts.WorldText.{WorldText}
+use Rattle.env_file.specs.Worlds.{IsWorld}
+use Rattle.mas_project.specs.declared.syntax.AgentLine.{AgentLine}
+use Rattle.mas_project.specs.declared.syntax.ProjectText.{ProjectText}
+use Rattle.mas_project.specs.Names.{names_in, names_of}
+use Rattle.mas_project.specs.Projects.{IsProject}
+use Rattle.mas_reading.specs.declared.sources.Role.{Role}
+use Rattle.mas_reading.specs.declared.sources.Source.{Source}
+use Rattle.mas_reading.specs.declared.status.Status.{Status}
+use Rattle.mas_reading.specs.declared.status.Status.TheVariants.{Limit, Memory}
+use Rattle.mas_reading.specs.declared.status.What.TheVariants as what
+use Rattle.mas_reading.specs.Later.{Runs}
+use Rattle.mas_reading.specs.Projects.{folder, project_in, is_agent_file, solo_project, most_cycles, all_cycles}
+use Rattle.mas_reading.specs.Files.{most_bytes, HasFile, agents, worlds, projects, IsRefusal}
+
+-- ---- what the files describe
+
+-- the bytes are a project whose files stand in this folder
+pub record IsProjectIn (dir bytes : List ℕ) (p : ProjectText) : Type 0 where
+  pub written : ProjectText
+  pub is : IsProject bytes written
+  pub placed : p ≡ project_in dir written
+
+-- the word stands for this project: it names an agent's file, or not
+abbrev pub ProjectBy : Bool → Option (List Filed) → List ℕ → ProjectText → Type 0
+ProjectBy true held word p = p ≡ solo_project word
+ProjectBy false held word p = HasFile most_bytes held word (λ bytes. IsProjectIn (folder word) bytes p)
+
+abbrev pub HasProject : Option (List Filed) → List ℕ → ProjectText → Type 0
+HasProject held word p = ProjectBy (is_agent_file word) held word p
+
+-- the world of the file of this name, where a file is named (there are no artifacts yet)
+abbrev pub HasWorld : Option (List Filed) → Option (List ℕ) → Option WorldText → Type 0
+HasWorld held None None = Unit {0}
+HasWorld held None (Some text) = ⊥
+HasWorld held (Some name) None = ⊥
+HasWorld held (Some name) (Some text) = HasFile most_bytes held name (λ bytes. IsWorld [] bytes text)
+
+-- a line's file is the source of so many agents, and all its clauses run
+pub record HasRole (held : Option (List Filed)) (line : AgentLine) (role : Role) : Type 0 where
+  pub text : HasFile most_bytes held line.file (λ bytes. Runs bytes role.text)
+  pub count : role.count ≡ length (names_in line)
+
+-- each line's does
+abbrev pub HasRoles : Option (List Filed) → List AgentLine → List Role → Type 0
+HasRoles held [] [] = Unit {0}
+HasRoles held (line ∷ lines) (role ∷ roles) = HasRole held line role × HasRoles held lines roles
+HasRoles held [] (role ∷ roles) = ⊥
+HasRoles held (line ∷ lines) [] = ⊥
+
+-- The word stands for this project, whose agents may make no more cycles together than the limit, where each may make so many.
+pub record IsAsked (cycles : ℕ) (held : Option (List Filed)) (word : List ℕ) (p : ProjectText) : Type 0 where
+  pub stands : HasProject held word p
+  pub few : all_cycles p cycles ≤ most_cycles
+
+-- the files of the project describe this: the agents' names, the source of each line, and the world
+pub record Describe (held : Option (List Filed)) (p : ProjectText) (source : Source) : Type 0 where
+  pub names : source.names ≡ names_of p.agents
+  pub world : HasWorld held p.world source.world
+  pub roles : HasRoles held p.agents source.roles
+
+-- the word stands for a project whose files describe this source
+pub record HasSource (cycles : ℕ) (held : Option (List Filed)) (word : List ℕ) (source : Source) : Type 0 where
+  pub project : ProjectText
+  pub asked : IsAsked cycles held word project
+  pub describe : Describe held project source
+
+-- ---- the first refusal: of the project, of its cycles, of the world, of an agent
+
+pub record ProjectRefused (held : Option (List Filed)) (word : List ℕ) (before after : ℕ) (status : Status) : Type 0 where
+  pub file : is_agent_file word ≡ false
+  pub why : IsRefusal projects word held before after status
+
+-- its agents may make too many cycles together
+pub record CyclesRefused (cycles : ℕ) (held : Option (List Filed)) (word : List ℕ) (status : Status) : Type 0 where
+  pub project : ProjectText
+  pub stands : HasProject held word project
+  pub past : most_cycles < all_cycles project cycles
+  pub status_is : status ≡ Limit what.Cycles (all_cycles project cycles)
+
+-- the file of the world of this name is refused
+pub record WorldRefused (named : Option (List ℕ)) (held : Option (List Filed)) (before after : ℕ) (status : Status) : Type 0 where
+  pub name : List ℕ
+  pub named_is : named ≡ Some name
+  pub why : IsRefusal worlds name held before after status
+
+-- the file of a line is refused, and those of the lines before it are not
+pub record LineRefused (held : Option (List Filed)) (lines : List AgentLine) (before after : ℕ) (status : Status) : Type 0 where
+  pub front : List AgentLine
+  pub roles : List Role
+  pub line : AgentLine
+  pub back : List AgentLine
+  pub lines_are : lines ≡ front ++ line ∷ back
+  pub read : HasRoles held front roles
+  pub why : IsRefusal agents line.file held before after status
+
+-- the world is read, and a line is refused
+pub record AgentRefused (p : ProjectText) (held : Option (List Filed)) (before after : ℕ) (status : Status) : Type 0 where
+  pub world : Option WorldText
+  pub read : HasWorld held p.world world
+  pub why : LineRefused held p.agents before after status
+
+abbrev pub PartRefused : ProjectText → Option (List Filed) → ℕ → ℕ → Status → Type 0
+PartRefused p held before after status = WorldRefused p.world held before after status ⊎ AgentRefused p held before after status
+
+pub data FirstRefused (cycles : ℕ) (held : Option (List Filed)) (word : List ℕ) (before after : ℕ) (status : Status) : Type 0 where
+  project_refused : ProjectRefused held word before after status → FirstRefused cycles held word before after status
+  cycles_refused : CyclesRefused cycles held word status → FirstRefused cycles held word before after status
+  part_refused : (p : ProjectText) → IsAsked cycles held word p → PartRefused p held before after status → FirstRefused cycles held word before after status
+
+-- what is told where memory may lack anywhere
+abbrev pub UnlessMemory : (Status → Type 0) → Status → Type 0
+UnlessMemory Is Memory = Unit {0}
+UnlessMemory Is status = Is status
+
+abbrev pub AreRefused : ℕ → Option (List Filed) → List ℕ → ℕ → ℕ → Status → Type 0
+AreRefused cycles held word before after status = UnlessMemory (FirstRefused cycles held word before after) status
+
+-- whether the agents of a project may make too many cycles together, and its status then
+abbrev pub CyclesTold : ProjectText → ℕ → Option Status → Type 0
+CyclesTold p cycles None = all_cycles p cycles ≤ most_cycles
+CyclesTold p cycles (Some status) = (most_cycles < all_cycles p cycles) × (status ≡ Limit what.Cycles (all_cycles p cycles))

@@ -1,0 +1,15 @@
+//! Laws of what the files of a run describe, as contracts of functions that do nothing.
+
+ghost use Rattle.mas_reading.specs.Laws.{NotRefused, OneSource};
+
+/// Files describe one source at most.
+#[tactic(auto, using(crate::proofs::Single::one_source))]
+pub fn one_source()
+    ensures { OneSource }
+{}
+
+/// Where files describe a source, none of them is refused.
+#[tactic(auto, using(crate::proofs::Single::not_refused))]
+pub fn not_refused()
+    ensures { NotRefused }
+{}

@@ -1,0 +1,4 @@
+pub mod Scanned
+pub mod Numerals
+pub mod Lines
+pub mod Answered

@@ -1,0 +1,15 @@
+//! Laws of schedules.
+
+ghost use Rattle.mas_schedule.specs.Reading.{OneAnswer, SomeAnswer, ReadAgain, PrintedLast};
+
+/// Bytes are the schedule of one list of numbers, or one line of them is the first that is bad.
+pub fn one_answer()
+    ensures one { OneAnswer }
+    ensures some { SomeAnswer }
+{}
+
+/// What `put_schedule` writes of numbers is read as these numbers, by itself and as the end of a text.
+pub fn printed_again()
+    ensures read { ReadAgain }
+    ensures last { PrintedLast }
+{}

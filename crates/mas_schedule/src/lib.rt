@@ -1,0 +1,6 @@
+//! The two lines of a schedule, written and read.
+#![tactic(auto)]
+
+pub mod laws;
+pub mod reading;
+pub mod schedule;

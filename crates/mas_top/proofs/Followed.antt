@@ -1,0 +1,87 @@
+-- A schedule is read in one way, and one that leads to the end is not refused.
+use Rattle.std.proofs.Common.{ℕ, ◌≡◌, ◌+◌, Bool, true, false, ◌&&◌, if◌then◌else◌, List, [], ◌∷◌, Option, None, Some, refl, ap, sym, ◌∙◌}
+use Rattle.std.specs.Prelude.{Result, Ok as Yes, Err as No}
+use Rattle.asl_cycle.specs.Agent.{agent_kind}
+use Rattle.mas_mind.specs.Minds.{Kind}
+use Rattle.mas_board.specs.Boards.{is_gone}
+use Rattle.mas_core.specs.Platform.{Platform, turn, and_run, run, ended, first_here}
+use Rattle.mas_core.specs.Replay.{Stuck, Came, follow_on, follow}
+use Rattle.mas_board.specs.declared.seats.Seat.{Seat}
+use Rattle.mas_schedule.specs.Reading.{IsSchedule}
+use Rattle.mas_schedule.proofs.Answered.{one_answer}
+use Rattle.mas_report.specs.declared.options.Options.{Options}
+use Rattle.mas_reading.specs.declared.sources.Source.{Source}
+use Rattle.mas_reading.specs.declared.status.Reason.{Reason}
+use Rattle.mas_reading.specs.declared.status.Reason.TheVariants as reason
+use Rattle.mas_reading.proofs.Single.{Accepted}
+use Rattle.mas_top.specs.Opening.{opening}
+use Rattle.mas_top.specs.Runs.{IsFollowed, schedules}
+
+abbrev read : List ℕ → Result (List ℕ) ℕ
+read names = Yes names
+
+names_same : (a b : List ℕ) → read a ≡ read b → a ≡ b
+names_same a b e = cc
+
+names_fault : (names : List ℕ) (n : ℕ) → Yes names ≡ No n → ⊥
+names_fault names n e = cc
+
+pub one_schedule : (bytes a b : List ℕ) → IsSchedule bytes a → IsSchedule bytes b → a ≡ b
+one_schedule bytes a b h g = names_same a b (one_answer bytes (Yes a) (Yes b) h g)
+
+some_same : {A : Type 0} {x y : A} → Some x ≡ Some y → x ≡ y
+some_same e = cc
+
+none_some : {A : Type 0} {x : A} → None ≡ Some x → ⊥
+none_some e = cc
+
+came_stuck : {V : Type 0} (p : Platform V) (n : ℕ) → Came p ≡ Stuck n → ⊥
+came_stuck p n e = cc
+
+-- a run that comes to its end is stuck nowhere
+follows_on : {V : Type 0} (k : Kind V) (q : Option (Platform V)) (n : ℕ) (names : List ℕ) (done : Platform V) →
+    ((r : Platform V) → run k r names ≡ Some done → follow k r (n + 1) names ≡ Came done) → and_run (λ r. run k r names) q ≡ Some done →
+    follow_on (λ r. follow k r (n + 1) names) n q ≡ Came done
+follows_on k None n names done f e = absurd (none_some e)
+follows_on k (Some r) n names done f e = f r e
+
+follows : {V : Type 0} (k : Kind V) (p : Platform V) (n : ℕ) (names : List ℕ) (done : Platform V) → run k p names ≡ Some done → follow k p n names ≡ Came done
+follows k p n [] done e = ap Came (some_same e)
+follows k p n (a ∷ names) done e = follows_on k (turn k p a) n names done (λ r. follows k r (n + 1) names done) e
+
+here_by : (b e : Bool) (a : ℕ) (f : Option ℕ) → (b && e) ≡ true → (e ≡ true → f ≡ None) → (if b then f else Some a) ≡ None
+here_by true e a f h k = k h
+here_by false e a f h k = absurd cc
+
+-- where every agent has left there is none that has not
+none_here : (a : ℕ) (seats : List Seat) → ended seats ≡ true → first_here a seats ≡ None
+none_here a [] e = refl
+none_here a (seat ∷ seats) e = here_by (is_gone seat.phase) (ended seats) a (first_here (a + 1) seats) e (none_here (a + 1) seats)
+
+schedule_faulty : (o : Options) (source : Source) (bytes names : List ℕ) → IsFollowed o source bytes names → (place : ℕ) (why : Reason) →
+    (schedules o source).faulty bytes place why → ⊥
+schedule_faulty o source bytes names h place reason.Byte r = absurd r
+schedule_faulty o source bytes names h place reason.String r = absurd r
+schedule_faulty o source bytes names h place reason.Comment r = absurd r
+schedule_faulty o source bytes names h place reason.Number r = absurd r
+schedule_faulty o source bytes names h place reason.Clause r = absurd r
+schedule_faulty o source bytes names h place (reason.Name name) r = absurd r
+schedule_faulty o source bytes names h place (reason.Option word) r = absurd r
+schedule_faulty o source bytes names h place (reason.Unbound name) r = absurd r
+schedule_faulty o source bytes names h place (reason.Artifact name) r = absurd r
+schedule_faulty o source bytes names h place reason.Line r = names_fault names place (one_answer bytes (Yes names) (No place) h.is r)
+schedule_faulty o source bytes names h place reason.Illegal r =
+    let e = one_schedule bytes r.names names r.is h.is in
+    came_stuck h.leads.done place
+    (sym (follows agent_kind (opening o source) 1 names h.leads.done h.leads.ran) ∙ ap (follow agent_kind (opening o source) 1) (sym e) ∙ r.stuck)
+schedule_faulty o source bytes names h place reason.Unended r =
+    let e = one_schedule bytes r.names names r.is h.is in
+    let d = some_same (sym h.leads.ran ∙ ap (run agent_kind (opening o source)) (sym e) ∙ r.stays.ran) in
+    none_some (sym (none_here 1 h.leads.done.board.seats h.leads.ended) ∙ ap (λ p. first_here 1 p.board.seats) d ∙ r.stays.first)
+
+pub followed_accepted : (o : Options) (source : Source) (bytes names : List ℕ) → IsFollowed o source bytes names → Accepted (schedules o source) bytes
+followed_accepted o source bytes names h = record {
+  faulty = schedule_faulty o source bytes names h;
+  large = λ quantity number r. r;
+  later = λ number r. r;
+}

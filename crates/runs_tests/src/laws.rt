@@ -1,0 +1,16 @@
+//! The laws of what is read, each called once.
+
+use asl_grammar::laws::{ground_beliefs, one_answer};
+
+#[test]
+fn laws_are_called() {
+    one_answer();
+    ground_beliefs();
+    mas_project::laws::one_reading();
+    mas_project::laws::one_answer();
+    mas_project::laws::some_agents();
+    mas_schedule::laws::one_answer();
+    mas_schedule::laws::printed_again();
+    mas_reading::laws::one_source();
+    mas_reading::laws::not_refused();
+}
