@@ -1,6 +1,7 @@
 #!/bin/sh
 # Times runs: a search of 98,000 tries over 2,000 facts of which one matches; goals that go 1,000 to 10,000 plans deep;
-# rules that go 1,000 to 10,000 levels deep; and a world of 1,000 facts that each cycle sees unchanged.
+# rules that go 1,000 to 10,000 levels deep; a world of 1,000 facts that each cycle sees unchanged; and 64 to 256 agents
+# of 1,000 cycles each, run and replayed.
 # Usage: bench/running.sh crates/jasonrun/out/jasonrun crates/cases/out/cases
 set -e
 [ $# -eq 2 ] || { echo "usage: bench/running.sh JASONRUN CASES" >&2; exit 2; }
@@ -51,6 +52,14 @@ for n in 1000 2000 5000 9999; do
         echo "| 2 say found"
     } > rules.cases
     timed "rules $n deep" "$cases" rules.cases
+done
+
+echo '!a. +!a <- !a.' > busy.asl
+for n in 64 128 256; do
+    echo "MAS busy { agents: busy #$n; }" > busy.mas2j
+    timed "$n agents of 1,000 cycles" "$jasonrun" run busy.mas2j
+    tail -n 2 out > busy.txt
+    timed "$n agents of 1,000 cycles, replayed" "$jasonrun" replay busy.mas2j busy.txt
 done
 
 facts 1000 > seen.env
