@@ -1,2 +1,9 @@
 pub mod Clears
+pub mod Naming
+pub mod Cycled
+pub mod Moving
+pub mod Lefts
+pub mod Leaving
+pub mod Letters
+pub mod Deeds
 pub mod Ordered

@@ -1,5 +1,5 @@
 -- What an agent is: its configuration, and what it has shown so far.
-use Rattle.std.specs.Prelude.{ℕ, ◌+◌, Bool, false, List, [], ◌++◌, Option, None, Some}
+use Rattle.std.specs.Prelude.{ℕ, ◌+◌, Bool, false, List, [], ◌++◌, length, Option, None, Some}
 use Rattle.asl_term.specs.declared.syntax.AgentText.{AgentText}
 use Rattle.asl_term.specs.declared.syntax.Plan.{Plan}
 use Rattle.asl_term.specs.declared.syntax.Clause.{Clause}
@@ -9,24 +9,25 @@ use Rattle.mas_mind.specs.declared.mind.Input.{Input}
 use Rattle.mas_mind.specs.declared.mind.Level.{Level}
 use Rattle.mas_mind.specs.declared.mind.Feedback.{Feedback}
 use Rattle.mas_mind.specs.Minds.{Cycled, Kind, asks_feedback}
+use Rattle.asl_kqml.specs.declared.peers.Peers.{Peers}
 use Rattle.asl_cycle.specs.Solving.{no_solution}
 use Rattle.asl_cycle.specs.Opening.{opening_parts}
 use Rattle.asl_cycle.specs.Cycle.{Ran, cycle}
 use Rattle.asl_cycle.specs.Trace.{shown}
 
--- an agent: its plans and rules, what its rows change, the feedback that was told and is still to be used, whether it
--- awaits feedback, its number and that of all agents, and the lines that it has shown
+-- an agent: its plans and rules, what its rows change, the number of its next ask, the feedback that was told and is still
+-- to be used, whether it awaits feedback, the names of all agents and its number, and the lines that it has shown
 pub record Mindset : Type 0 where
   pub plans : List Plan
   pub rules : List Clause
   pub parts : Parts
+  pub asks : ℕ
   pub kept : Option Feedback
   pub awaits : Bool
   pub cycles : ℕ
   pub level : Level
   pub budgets : Budgets
-  pub me : ℕ
-  pub agents : ℕ
+  pub peers : Peers
   pub text : List ℕ
 
 -- what none of its rows changes
@@ -38,6 +39,7 @@ abbrev pub after_cycle : Mindset → Ran → Cycled Mindset
 after_cycle m r = record {
   mind = record m {
     parts = r.parts;
+    asks = r.asks;
     kept = None;
     awaits = asks_feedback r.thought;
     cycles = m.cycles + 1;
@@ -47,7 +49,7 @@ after_cycle m r = record {
 }
 
 abbrev pub agent_cycle : Mindset → Input → Cycled Mindset
-agent_cycle m i = after_cycle m (cycle (surroundings m) m.parts m.kept i)
+agent_cycle m i = after_cycle m (cycle (surroundings m) m.peers m.parts m.asks m.kept i)
 
 -- the agent once it was told what became of its action
 abbrev pub told : Mindset → Feedback → Mindset
@@ -60,22 +62,22 @@ agent_kind = record {
   awaits = λ m. m.awaits;
   made = λ m. m.cycles;
   lines = λ m. m.text;
-  me = λ m. m.me;
-  agents = λ m. m.agents;
+  me = λ m. m.peers.me;
+  agents = λ m. length m.peers.names;
 }
 
--- the agent of a source before its first cycle
-abbrev pub opening_mind : ℕ → ℕ → AgentText → Budgets → Level → Mindset
-opening_mind me agents source k level = record {
+-- the agent of a source before its first cycle, with its number and the names of all agents
+abbrev pub opening_mind : ℕ → List (List ℕ) → AgentText → Budgets → Level → Mindset
+opening_mind me names source k level = record {
   plans = source.plans;
   rules = source.rules;
   parts = opening_parts source;
+  asks = 1;
   kept = None;
   awaits = false;
   cycles = 0;
   level = level;
   budgets = k;
-  me = me;
-  agents = agents;
+  peers = record { names = names; me = me };
   text = [];
 }

@@ -12,6 +12,7 @@ use Rattle.mas_mind.specs.declared.mind.Feedback.{Feedback}
 use Rattle.mas_mind.specs.declared.mind.Input.{Input}
 use Rattle.mas_mind.specs.declared.mind.Thought.{Thought}
 use Rattle.mas_mind.specs.declared.mind.Thought.TheVariants as thought
+use Rattle.asl_kqml.specs.declared.peers.Peers.{Peers}
 use Rattle.asl_cycle.specs.declared.rows.Line.{Line}
 use Rattle.asl_cycle.specs.declared.rows.Line.TheVariants as line
 use Rattle.asl_cycle.specs.declared.rows.Sofar.{Sofar}
@@ -23,9 +24,10 @@ use Rattle.asl_cycle.specs.declared.config.After.{After}
 use Rattle.asl_cycle.specs.declared.config.After.TheVariants as after
 use Rattle.asl_cycle.specs.Steps.{Stepped, Onward, written, percept, feed, msg, sel_ev, rel_pl, appl_pl, sel_appl, add_im, sel_int, exec_step, clear_step}
 
--- what a cycle leaves, writes and thinks
+-- what a cycle leaves, the number of the next ask among it, writes and thinks
 pub record Ran : Type 0 where
   pub parts : Parts
+  pub asks : ℕ
   pub lines : List Line
   pub thought : Thought
 
@@ -53,11 +55,11 @@ outs action quiet s = thought.Outs (record { action = action; messages = s.messa
 
 -- the end of a cycle
 abbrev pub ends : Option (LiteralOf Term) → Bool → Parts → Sofar → Ran
-ends action quiet p s = record { parts = p; lines = s.lines; thought = outs action quiet s }
+ends action quiet p s = record { parts = p; asks = s.asks; lines = s.lines; thought = outs action quiet s }
 
 -- the end of a cycle by a spent budget: its outs are dropped
 abbrev pub spends : Parts → Sofar → Ran
-spends p s = record { parts = p; lines = s.lines; thought = thought.Spent }
+spends p s = record { parts = p; asks = s.asks; lines = s.lines; thought = thought.Spent }
 
 -- the row of a step, and then the rest of the cycle
 abbrev pub and_then : {N : Type 0} → Sofar → Stepped N → (Parts → Sofar → N → Ran) → Ran
@@ -82,8 +84,9 @@ module _ (k : Around) where
   abbrev pub clears : Parts → Sofar → List Means → Ran
   clears p s cur = from_clr (suc (length cur)) p s cur
 
+module _ (k : Around) (peers : Peers) where
   abbrev pub from_exec : Parts → Sofar → List Means → Ran
-  from_exec p s cur = and_then s (exec_step k p cur) (goes_on clears)
+  from_exec p s cur = let w = exec_step k peers p s cur in goes_on k (clears k) w.parts w.sofar w.next
 
   -- a cycle that selects no stack ends, and is quiet if all its rows are
   abbrev pub after_sel_int : Parts → Sofar → Option (List Means) → Ran
@@ -121,8 +124,13 @@ module _ (k : Around) where
   abbrev pub from_sel_ev : Parts → Sofar → Ran
   from_sel_ev p s = and_then s (sel_ev p) after_sel_ev
 
+  -- a search that spends its budget for a message ends the cycle
+  abbrev pub after_msg : Parts → Sofar → Bool → Ran
+  after_msg p s true = from_sel_ev p s
+  after_msg p s false = spends p s
+
   abbrev pub from_msg : Parts → Sofar → Option Message → Ran
-  from_msg p s message = and_then s (msg p message) (λ q t _. from_sel_ev q t)
+  from_msg p s message = let w = msg k peers p s message in after_msg w.parts w.sofar w.next
 
   abbrev pub from_feed : Parts → Sofar → Option Feedback → Option Message → Ran
   from_feed p s kept message = and_then s (feed k p kept) (λ q t _. from_msg q t message)
@@ -131,9 +139,9 @@ module _ (k : Around) where
   from_percept p s kept i = and_then s (percept p i.percepts) (λ q t _. from_feed q t kept i.message)
 
 -- a cycle writes nothing and asks for nothing before its first row
-abbrev pub nothing_yet : Sofar
-nothing_yet = record { lines = []; messages = []; stop = false }
+abbrev pub nothing_yet : ℕ → Sofar
+nothing_yet asks = record { lines = []; messages = []; stop = false; asks = asks }
 
--- a cycle, with the feedback that was told since the one before
-abbrev pub cycle : Around → Parts → Option Feedback → Input → Ran
-cycle k p kept i = from_percept k p nothing_yet kept i
+-- a cycle, with the number of the next ask, and the feedback that was told since the one before
+abbrev pub cycle : Around → Peers → Parts → ℕ → Option Feedback → Input → Ran
+cycle k peers p asks kept i = from_percept k peers p (nothing_yet asks) kept i

@@ -1,5 +1,6 @@
 -- The steps of a cycle. Each is a table: its rows are asked from above, and the first whose condition holds applies.
-use Rattle.std.specs.Prelude.{ℕ, ◌≡◌, ◌+◌, ◌-◌, Bool, true, List, [], ◌∷◌, ◌++◌, map, replicate, slice_get, Option, None, Some}
+use Rattle.std.specs.Prelude.{ℕ, ◌≡◌, ◌+◌, ◌-◌, Bool, true, false, List, [], ◌∷◌, ◌++◌, map, replicate, slice_get, Option, None, Some, option_to_list}
+use Rattle.std.specs.List.{flat_map}
 use Rattle.asl_term.specs.declared.syntax.LiteralOf.{LiteralOf}
 use Rattle.asl_term.specs.declared.syntax.Term.{Term}
 use Rattle.asl_term.specs.declared.syntax.Kind.{Kind}
@@ -27,6 +28,7 @@ use Rattle.asl_fail.specs.declared.fail.Fell.{Fell}
 use Rattle.asl_fail.specs.declared.fail.Fell.TheVariants.{Raised, Dropped}
 use Rattle.asl_fail.specs.Fails.{fails}
 use Rattle.asl_exec.specs.declared.rows.Row.{Row}
+use Rattle.asl_exec.specs.declared.rows.Fall.{Fall}
 use Rattle.asl_exec.specs.declared.rows.Row.TheVariants as row
 use Rattle.asl_exec.specs.declared.went.Went.{Went}
 use Rattle.asl_exec.specs.declared.went.Went.TheVariants as went
@@ -36,6 +38,15 @@ use Rattle.asl_exec.specs.Clear.{clear}
 use Rattle.mas_mind.specs.declared.mind.Message.{Message}
 use Rattle.mas_mind.specs.declared.mind.Feedback.{Feedback}
 use Rattle.mas_mind.specs.declared.mind.Feedback.TheVariants as feedback
+use Rattle.asl_kqml.specs.declared.peers.Peers.{Peers}
+use Rattle.asl_kqml.specs.declared.took.Took.{Took}
+use Rattle.asl_kqml.specs.declared.took.Took.TheVariants as took
+use Rattle.asl_kqml.specs.Contents.{agent_name}
+use Rattle.asl_kqml.specs.Receive.{Received, receive}
+use Rattle.asl_goals.specs.declared.acted.Acted.{Acted}
+use Rattle.asl_goals.specs.declared.acted.Acted.TheVariants as acted
+use Rattle.asl_goals.specs.Inside.{Did, act_inside}
+use Rattle.asl_cycle.specs.declared.rows.Mail.{Mail}
 use Rattle.asl_cycle.specs.declared.rows.Line.{Line}
 use Rattle.asl_cycle.specs.declared.rows.Line.TheVariants as line
 use Rattle.asl_cycle.specs.declared.rows.Sofar.{Sofar}
@@ -58,6 +69,29 @@ pub record Stepped (N : Type 0) : Type 0 where
 abbrev pub by : {N : Type 0} → Row → Parts → List Line → N → Stepped N
 by r p lines next = record { row = r; parts = p; lines = lines; next = next }
 
+-- the lines so far, and behind them that of a row's name and its others
+abbrev pub written : {N : Type 0} → Sofar → Stepped N → Sofar
+written s w = record s { lines = s.lines ++ line.Rule w.row ∷ w.lines }
+
+-- what the code of a step leaves and answers
+pub record Wrought {N : Type 0} (w : Stepped N) (p : Parts) (before after : Sofar) (next : N) : Type 0 where
+  pub changed : p ≡ w.parts
+  pub wrote : after ≡ written before w
+  pub goes : next ≡ w.next
+
+-- a step that may send messages: its change, what the cycle has written and asked for with it, and what the next step is given
+pub record Moved (N : Type 0) : Type 0 where
+  pub parts : Parts
+  pub sofar : Sofar
+  pub next : N
+
+abbrev pub moved : {N : Type 0} → Parts → Sofar → N → Moved N
+moved p s next = record { parts = p; sofar = s; next = next }
+
+-- it sends none
+abbrev pub writing : {N : Type 0} → Sofar → Stepped N → Moved N
+writing s w = moved w.parts (written s w) w.next
+
 -- ---- what fails
 
 -- so many rows Fail2
@@ -68,6 +102,10 @@ pops n = replicate n (line.Rule row.Fail2)
 abbrev pub fall_lines : Error → Fell → List Line
 fall_lines e (Raised n) = pops (n - 1) ++ line.Rule row.Fail1 ∷ []
 fall_lines e (Dropped n) = pops n ++ line.Rule row.Fail3 ∷ line.Drops e ∷ []
+
+-- those of several, one after another
+abbrev pub falls_lines : List Fall → List Line
+falls_lines = flat_map (λ f. fall_lines f.error f.fell)
 
 -- the stack of an event, under virtual means: those have the event's trigger, with nothing put into it, and no body
 abbrev pub virtual : Event → List Means
@@ -136,11 +174,33 @@ abbrev pub feed : Around → Parts → Option Feedback → Stepped (Unit {0})
 feed k p None = by row.Feed0 p [] tt
 feed k p (Some f) = feed_on k p f p.agenda.acting
 
--- ---- Msg
+-- ---- Msg: the row of a message, with its line and its reply
 
--- a message is not read yet, whatever it is: the rows of its verb, Reply, ReplyFail and Ignore are to come
-abbrev pub msg : Parts → Option Message → Stepped (Unit {0})
-msg p message = by row.Msg0 p [] tt
+-- a message as a line tells it, with the name of the other agent
+abbrev pub mail : Peers → ℕ → Message → Mail
+mail peers other m = record { who = agent_name peers.names other; verb = m.verb; content = m.content }
+
+abbrev pub sends_line : Peers → Message → Line
+sends_line peers m = line.Sends (mail peers m.to m)
+
+-- (the content is shown as it came)
+abbrev pub took_line : Peers → Message → Line
+took_line peers m = line.Took (mail peers m.from m)
+
+-- whether the cycle goes on: AskSpent ends it
+abbrev pub took_row : Peers → Sofar → Message → Parts → Took → Moved Bool
+took_row peers s m p (took.Row r reply falls) =
+    let lines = map (sends_line peers) (option_to_list reply) ++ falls_lines falls in
+    moved p (record s { lines = s.lines ++ line.Rule r ∷ took_line peers m ∷ lines; messages = s.messages ++ option_to_list reply }) true
+took_row peers s m p (took.Spent b) =
+    moved p (record s { lines = s.lines ++ line.Rule row.AskSpent ∷ took_line peers m ∷ line.Spent b ∷ [] }) false
+
+abbrev pub reads : Peers → Sofar → Message → Received → Moved Bool
+reads peers s m r = took_row peers s m r.parts r.took
+
+abbrev pub msg : Around → Peers → Parts → Sofar → Option Message → Moved Bool
+msg k peers p s None = writing s (by row.Msg0 p [] true)
+msg k peers p s (Some m) = reads peers s m (receive k peers p m)
 
 -- ---- SelEv: the oldest event, where there is one
 
@@ -230,7 +290,7 @@ abbrev pub row_of : Went → Row
 row_of (went.Row r) = r
 row_of (went.Say text) = row.IaOk
 row_of (went.Action l) = row.Action
-row_of (went.Outer c) = row.IaFail
+row_of (went.Outer c) = row.IaOk
 row_of (went.Failed r fall) = r
 row_of (went.Spent r b) = r
 
@@ -274,28 +334,30 @@ onward cur a = record { cur = cur; after = a }
 abbrev pub of_made : Made → Stepped Onward
 of_made x = by (row_of x.went) x.parts (lines_of x.went) (onward x.cur (after_of x.went))
 
--- the internal actions on goals, beliefs and other agents are to come: until then they have no solution
-abbrev pub undone : Around → Made → Went → Made
-undone k x (went.Outer c) = failed k row.IaFail error.IaFailed x.parts x.cur
-undone k x other = x
+-- the row of an internal action on goals, beliefs or other agents, by what it did: IaFail, AskOut, IaGone, IaOk
+abbrev pub of_acted : Around → Peers → Sofar → Did → Acted → Moved Onward
+of_acted k peers s d (acted.Failed e) = writing s (of_made (failed k row.IaFail error.IaFailed d.parts d.cur))
+of_acted k peers s d (acted.Asked m) =
+    let t = record s { lines = s.lines ++ line.Rule row.AskOut ∷ sends_line peers m ∷ []; messages = s.messages ++ m ∷ [] } in
+    moved d.parts t (onward d.cur after.Ends)
+of_acted k peers s d (acted.Gone falls) = writing s (by row.IaGone d.parts (falls_lines falls) (onward d.cur after.Ends))
+of_acted k peers s d (acted.Ok falls) = writing s (by row.IaOk d.parts (falls_lines falls) (onward d.cur after.Clears))
+of_acted k peers s d (acted.Sent messages) =
+    let t = record s { lines = s.lines ++ line.Rule row.IaOk ∷ map (sends_line peers) messages; messages = s.messages ++ messages } in
+    moved d.parts t (onward d.cur after.Clears)
+of_acted k peers s d acted.Stop =
+    let t = record s { lines = s.lines ++ line.Rule row.IaOk ∷ line.Stops ∷ []; stop = true } in
+    moved d.parts t (onward d.cur after.Clears)
 
-abbrev pub exec_on : Around → Made → Stepped Onward
-exec_on k x = of_made (undone k x x.went)
+abbrev pub deed : Around → Peers → Sofar → Did → Moved Onward
+deed k peers s d = of_acted k peers (record s { asks = d.asks }) d d.acted
 
-abbrev pub exec_step : Around → Parts → List Means → Stepped Onward
-exec_step k p cur = exec_on k (exec k p cur)
+abbrev pub exec_by : Around → Peers → Sofar → Made → Went → Moved Onward
+exec_by k peers s x (went.Outer c) = deed k peers s (act_inside k peers s.asks x.parts x.cur c)
+exec_by k peers s x other = writing s (of_made x)
+
+abbrev pub exec_step : Around → Peers → Parts → Sofar → List Means → Moved Onward
+exec_step k peers p s cur = let x = exec k p cur in exec_by k peers s x x.went
 
 abbrev pub clear_step : Around → Parts → List Means → Stepped Onward
 clear_step k p cur = of_made (clear k p cur)
-
--- ---- lines
-
--- the lines so far, and behind them that of a row's name and its others
-abbrev pub written : {N : Type 0} → Sofar → Stepped N → Sofar
-written s w = record s { lines = s.lines ++ line.Rule w.row ∷ w.lines }
-
--- what the code of a step leaves and answers
-pub record Wrought {N : Type 0} (w : Stepped N) (p : Parts) (before after : Sofar) (next : N) : Type 0 where
-  pub changed : p ≡ w.parts
-  pub wrote : after ≡ written before w
-  pub goes : next ≡ w.next

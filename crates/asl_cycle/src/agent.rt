@@ -7,11 +7,12 @@ ghost use Rattle.mas_mind.specs.Minds.{asks_feedback};
 
 use crate::cycle::cycle;
 use crate::inner::NoActions;
-use crate::opening::{add_goals, copy_plans};
+use crate::opening::{add_goals, copy_names, copy_plans};
 use crate::trace::write_lines;
 use asl_beliefs::beliefs::Beliefs;
 use asl_exec::parts::{Around, Parts};
 use asl_intend::opening::agenda;
+use asl_kqml::peers::Peers;
 use asl_plans::library::Library;
 use asl_resolve::answers::Budgets;
 use asl_term::names::Names;
@@ -27,12 +28,12 @@ use std::marker::Model;
 pub struct Agent {
     around: Around<NoActions>,
     parts: Parts<Beliefs>,
+    asks: u64,
     kept: Option<Feedback>,
     awaits: bool,
     cycles: u64,
     level: Level,
-    me: u32,
-    agents: u32,
+    peers: Peers,
     text: Text,
 }
 
@@ -51,17 +52,18 @@ impl Model for Agent {
       plans = a.around.lib.plans;
       rules = a.parts.beliefs.rules;
       parts = record { beliefs = a.parts.beliefs.beliefs; agenda = a.parts.agenda; number = a.parts.number };
+      asks = a.asks;
       kept = a.kept;
       awaits = a.awaits;
       cycles = a.cycles;
       level = a.level;
       budgets = a.around.budgets;
-      me = a.me;
-      agents = a.agents;
+      peers = a.peers;
       text = a.text;
     } };
 
-    ghost invariant = { λ a. (a.parts.number ≤ 1 + 20000001 * a.cycles) × ((a.cycles ≤ 1000000) × (a.around.budgets.tries ≤ 10000000)) };
+    ghost invariant = { λ a. (a.parts.number ≤ 1 + 20000002 * a.cycles)
+        × ((a.asks ≤ 1 + a.cycles) × ((a.cycles ≤ 1000000) × (a.around.budgets.tries ≤ 10000000))) };
 }
 
 /// The agent of a source before its first cycle. It has the place `me` among the names of all agents, from 1. Its
@@ -78,13 +80,14 @@ pub fn open_agent(
     requires named { me ≤ length names.now }
     requires ground { all_ground source.now.beliefs ≡ true }
     requires tries { budgets.tries ≤ 10000000 }
-    ensures { IfOk result (λ a. a ≡ opening_mind me (length names.now) source.now budgets level) }
+    ensures { IfOk result (λ a. a ≡ opening_mind me names.now source.now budgets level) }
 {
     let plans = copy_plans(alloc, source.plans.as_slice())?;
     let mut events = Seq::new(alloc);
     let beliefs = Beliefs::open(alloc, source, &mut events)?;
     add_goals(alloc, source.goals.as_slice(), &mut events)?;
     let agenda = agenda(alloc, events)?;
+    let names = copy_names(alloc, names)?;
     Ok(Agent {
         around: Around {
             lib: Library { plans },
@@ -96,12 +99,12 @@ pub fn open_agent(
             agenda,
             number: 1,
         },
+        asks: 1,
         kept: None,
         awaits: false,
         cycles: 0,
         level,
-        me,
-        agents: names.len(),
+        peers: Peers { names, me },
         text: Seq::new(alloc),
     })
 }
@@ -138,7 +141,16 @@ impl Mind for Agent {
     fn think(&mut self, alloc: Global, input: Input) -> Result<Thought, Starved> {
         self.cycles += 1;
         let kept = self.kept.take();
-        let finished = cycle(alloc, &self.around, &mut self.parts, kept, &input)?;
+        let finished = cycle(
+            alloc,
+            &self.around,
+            &self.peers,
+            &mut self.parts,
+            self.asks,
+            kept,
+            &input,
+        )?;
+        self.asks = finished.asks;
         write_lines(
             alloc,
             &mut self.text,

@@ -8,22 +8,24 @@ ghost use Rattle.asl_cycle.specs.Cycle as spec;
 use crate::config::{After, Applied, Intended, Related};
 use crate::rows::{Line, Lines, Sofar};
 use crate::steps::{
-    add_im, appl_pl, clear_step, exec_step, feed, percept, rel_pl, rule, sel_appl, sel_ev, sel_int,
+    add_im, appl_pl, clear_step, exec_step, feed, msg, percept, rel_pl, sel_appl, sel_ev, sel_int,
 };
 use asl_beliefs::base::BeliefBase;
 use asl_exec::parts::{Around, Parts};
 use asl_exec::rows::Row;
 use asl_intend::agenda::Event;
 use asl_intend::stack::Stack;
+use asl_kqml::peers::Peers;
 use asl_resolve::actions::Actions;
 use asl_term::sequence::{Seq, Starved};
 use asl_term::syntax::Literal;
-use mas_mind::mind::{Feedback, Input, Outs, Thought};
+use mas_mind::mind::{Feedback, Input, Message, Outs, Thought};
 use std::alloc::Global;
 
-/// The lines and the thought of a whole cycle.
+/// The number of the next ask after a whole cycle, its lines and its thought.
 #[derive(Drop)]
 pub struct Finished {
+    pub asks: u64,
     pub lines: Lines,
     pub thought: Thought,
 }
@@ -58,6 +60,7 @@ fn quiet_lines(lines: &[Line]) -> bool
 }
 
 fn ends(sofar: Sofar, action: Option<Literal>, quiet: bool) -> Finished
+    ensures asks { result.asks ≡ sofar.asks }
     ensures lines { result.lines ≡ sofar.lines }
     ensures thought { result.thought ≡ spec.outs action quiet sofar }
 {
@@ -65,8 +68,10 @@ fn ends(sofar: Sofar, action: Option<Literal>, quiet: bool) -> Finished
         lines,
         messages,
         stop,
+        asks,
     } = sofar;
     Finished {
+        asks,
         lines,
         thought: Thought::Outs(Outs {
             action,
@@ -78,6 +83,7 @@ fn ends(sofar: Sofar, action: Option<Literal>, quiet: bool) -> Finished
 }
 
 fn spends(sofar: Sofar) -> Finished
+    ensures asks { result.asks ≡ sofar.asks }
     ensures lines { result.lines ≡ sofar.lines }
     ensures thought { result.thought ≡ Thought.Spent }
 {
@@ -85,8 +91,10 @@ fn spends(sofar: Sofar) -> Finished
         lines,
         messages: _,
         stop: _,
+        asks,
     } = sofar;
     Finished {
+        asks,
         lines,
         thought: Thought::Spent,
     }
@@ -104,9 +112,10 @@ fn from_clr<B: BeliefBase, A: Actions>(
     ensures made { let e = around k.now.lib.plans (B.rules p.old.beliefs) (A.solve k.now.actions) k.now.budgets in
         let old = parts (B.beliefs p.old.beliefs) p.old.agenda p.old.number in
         let new = parts (B.beliefs p.new.beliefs) p.new.agenda p.new.number in
-        IfOk result (λ f. spec.clears e old sofar cur ≡ record { parts = new; lines = f.lines; thought = f.thought }) }
+        IfOk result (λ f. spec.clears e old sofar cur ≡ record { parts = new; asks = f.asks; lines = f.lines; thought = f.thought }) }
     ensures rules { B.rules p.new.beliefs ≡ B.rules p.old.beliefs }
     ensures number { p.new.number ≡ p.old.number }
+    ensures asks { IfOk result (λ f. f.asks ≡ sofar.asks) }
 {
     let mut sofar = sofar;
     let mut cur = cur;
@@ -129,21 +138,24 @@ fn from_clr<B: BeliefBase, A: Actions>(
 fn from_exec<B: BeliefBase, A: Actions>(
     alloc: Global,
     k: &Around<A>,
+    peers: &Peers,
     p: &mut Parts<B>,
     sofar: Sofar,
     cur: Stack,
 ) -> Result<Finished, Starved>
-    requires { p.old.number + k.now.budgets.tries < 2 ^ 64 - 1 }
+    requires room { p.old.number + k.now.budgets.tries < 2 ^ 64 - 1 }
+    requires asks { sofar.asks < 2 ^ 64 - 1 }
     ensures made { let e = around k.now.lib.plans (B.rules p.old.beliefs) (A.solve k.now.actions) k.now.budgets in
         let old = parts (B.beliefs p.old.beliefs) p.old.agenda p.old.number in
         let new = parts (B.beliefs p.new.beliefs) p.new.agenda p.new.number in
-        IfOk result (λ f. spec.from_exec e old sofar cur ≡ record { parts = new; lines = f.lines; thought = f.thought }) }
+        IfOk result (λ f. spec.from_exec e peers.now old sofar cur ≡ record { parts = new; asks = f.asks; lines = f.lines; thought = f.thought }) }
     ensures rules { B.rules p.new.beliefs ≡ B.rules p.old.beliefs }
     ensures number { p.new.number ≤ p.old.number + k.now.budgets.tries }
+    ensures asks { IfOk result (λ f. f.asks ≤ sofar.asks + 1) }
 {
     let mut sofar = sofar;
     let mut cur = cur;
-    match exec_step(alloc, k, p, &mut sofar, &mut cur)? {
+    match exec_step(alloc, k, peers, p, &mut sofar, &mut cur)? {
         After::Clears => from_clr(alloc, k, p, sofar, cur),
         After::Ends => Ok(ends(sofar, None, false)),
         After::Acts(action) => Ok(ends(sofar, Some(action), false)),
@@ -154,20 +166,23 @@ fn from_exec<B: BeliefBase, A: Actions>(
 fn from_sel_int<B: BeliefBase, A: Actions>(
     alloc: Global,
     k: &Around<A>,
+    peers: &Peers,
     p: &mut Parts<B>,
     sofar: Sofar,
 ) -> Result<Finished, Starved>
-    requires { p.old.number + k.now.budgets.tries < 2 ^ 64 - 1 }
+    requires room { p.old.number + k.now.budgets.tries < 2 ^ 64 - 1 }
+    requires asks { sofar.asks < 2 ^ 64 - 1 }
     ensures made { let e = around k.now.lib.plans (B.rules p.old.beliefs) (A.solve k.now.actions) k.now.budgets in
         let old = parts (B.beliefs p.old.beliefs) p.old.agenda p.old.number in
         let new = parts (B.beliefs p.new.beliefs) p.new.agenda p.new.number in
-        IfOk result (λ f. spec.from_sel_int e old sofar ≡ record { parts = new; lines = f.lines; thought = f.thought }) }
+        IfOk result (λ f. spec.from_sel_int e peers.now old sofar ≡ record { parts = new; asks = f.asks; lines = f.lines; thought = f.thought }) }
     ensures rules { B.rules p.new.beliefs ≡ B.rules p.old.beliefs }
     ensures number { p.new.number ≤ p.old.number + k.now.budgets.tries }
+    ensures asks { IfOk result (λ f. f.asks ≤ sofar.asks + 1) }
 {
     let mut sofar = sofar;
     match sel_int(p, &mut sofar)? {
-        Some(cur) => from_exec(alloc, k, p, sofar, cur),
+        Some(cur) => from_exec(alloc, k, peers, p, sofar, cur),
         None => {
             let quiet = quiet_lines(sofar.lines.as_slice());
             Ok(ends(sofar, None, quiet))
@@ -178,43 +193,49 @@ fn from_sel_int<B: BeliefBase, A: Actions>(
 fn from_sel_appl<B: BeliefBase, A: Actions>(
     alloc: Global,
     k: &Around<A>,
+    peers: &Peers,
     p: &mut Parts<B>,
     sofar: Sofar,
     intended: Intended,
 ) -> Result<Finished, Starved>
-    requires { intended.next + k.now.budgets.tries < 2 ^ 64 - 1 }
+    requires room { intended.next + k.now.budgets.tries < 2 ^ 64 - 1 }
+    requires asks { sofar.asks < 2 ^ 64 - 1 }
     ensures made { let e = around k.now.lib.plans (B.rules p.old.beliefs) (A.solve k.now.actions) k.now.budgets in
         let old = parts (B.beliefs p.old.beliefs) p.old.agenda p.old.number in
         let new = parts (B.beliefs p.new.beliefs) p.new.agenda p.new.number in
-        IfOk result (λ f. spec.from_sel_appl e old sofar intended ≡ record { parts = new; lines = f.lines; thought = f.thought }) }
+        IfOk result (λ f. spec.from_sel_appl e peers.now old sofar intended ≡ record { parts = new; asks = f.asks; lines = f.lines; thought = f.thought }) }
     ensures rules { B.rules p.new.beliefs ≡ B.rules p.old.beliefs }
     ensures number { p.new.number ≤ intended.next + k.now.budgets.tries }
+    ensures asks { IfOk result (λ f. f.asks ≤ sofar.asks + 1) }
 {
     let mut sofar = sofar;
     sel_appl(p, &mut sofar, &intended)?;
     add_im(p, &mut sofar, intended)?;
-    from_sel_int(alloc, k, p, sofar)
+    from_sel_int(alloc, k, peers, p, sofar)
 }
 
 fn from_appl_pl<B: BeliefBase, A: Actions>(
     alloc: Global,
     k: &Around<A>,
+    peers: &Peers,
     p: &mut Parts<B>,
     sofar: Sofar,
     related: Related,
 ) -> Result<Finished, Starved>
-    requires { p.old.number + 2 * k.now.budgets.tries < 2 ^ 64 - 1 }
+    requires room { p.old.number + 2 * k.now.budgets.tries < 2 ^ 64 - 1 }
+    requires asks { sofar.asks < 2 ^ 64 - 1 }
     ensures made { let e = around k.now.lib.plans (B.rules p.old.beliefs) (A.solve k.now.actions) k.now.budgets in
         let old = parts (B.beliefs p.old.beliefs) p.old.agenda p.old.number in
         let new = parts (B.beliefs p.new.beliefs) p.new.agenda p.new.number in
-        IfOk result (λ f. spec.from_appl_pl e old sofar related ≡ record { parts = new; lines = f.lines; thought = f.thought }) }
+        IfOk result (λ f. spec.from_appl_pl e peers.now old sofar related ≡ record { parts = new; asks = f.asks; lines = f.lines; thought = f.thought }) }
     ensures rules { B.rules p.new.beliefs ≡ B.rules p.old.beliefs }
     ensures number { p.new.number ≤ p.old.number + 2 * k.now.budgets.tries }
+    ensures asks { IfOk result (λ f. f.asks ≤ sofar.asks + 1) }
 {
     let mut sofar = sofar;
     match appl_pl(alloc, k, p, &mut sofar, related)? {
-        Applied::Plan(intended) => from_sel_appl(alloc, k, p, sofar, intended),
-        Applied::Nothing => from_sel_int(alloc, k, p, sofar),
+        Applied::Plan(intended) => from_sel_appl(alloc, k, peers, p, sofar, intended),
+        Applied::Nothing => from_sel_int(alloc, k, peers, p, sofar),
         Applied::Spent => Ok(spends(sofar)),
     }
 }
@@ -222,74 +243,110 @@ fn from_appl_pl<B: BeliefBase, A: Actions>(
 fn from_rel_pl<B: BeliefBase, A: Actions>(
     alloc: Global,
     k: &Around<A>,
+    peers: &Peers,
     p: &mut Parts<B>,
     sofar: Sofar,
     event: Event,
 ) -> Result<Finished, Starved>
     requires tries { k.now.budgets.tries ≤ 10000000 }
-    requires room { p.old.number < 2 ^ 63 }
+    requires room { p.old.number ≤ 2 ^ 63 }
+    requires asks { sofar.asks < 2 ^ 64 - 1 }
     ensures made { let e = around k.now.lib.plans (B.rules p.old.beliefs) (A.solve k.now.actions) k.now.budgets in
         let old = parts (B.beliefs p.old.beliefs) p.old.agenda p.old.number in
         let new = parts (B.beliefs p.new.beliefs) p.new.agenda p.new.number in
-        IfOk result (λ f. spec.from_rel_pl e old sofar event ≡ record { parts = new; lines = f.lines; thought = f.thought }) }
+        IfOk result (λ f. spec.from_rel_pl e peers.now old sofar event ≡ record { parts = new; asks = f.asks; lines = f.lines; thought = f.thought }) }
     ensures rules { B.rules p.new.beliefs ≡ B.rules p.old.beliefs }
     ensures number { p.new.number ≤ p.old.number + (1 + 2 * k.now.budgets.tries) }
+    ensures asks { IfOk result (λ f. f.asks ≤ sofar.asks + 1) }
 {
     let mut sofar = sofar;
     match rel_pl(alloc, k, p, &mut sofar, event)? {
-        Some(related) => from_appl_pl(alloc, k, p, sofar, related),
-        None => from_sel_int(alloc, k, p, sofar),
+        Some(related) => from_appl_pl(alloc, k, peers, p, sofar, related),
+        None => from_sel_int(alloc, k, peers, p, sofar),
     }
 }
 
 fn from_sel_ev<B: BeliefBase, A: Actions>(
     alloc: Global,
     k: &Around<A>,
+    peers: &Peers,
     p: &mut Parts<B>,
     sofar: Sofar,
 ) -> Result<Finished, Starved>
     requires tries { k.now.budgets.tries ≤ 10000000 }
-    requires room { p.old.number < 2 ^ 63 }
+    requires room { p.old.number ≤ 2 ^ 63 }
+    requires asks { sofar.asks < 2 ^ 64 - 1 }
     ensures made { let e = around k.now.lib.plans (B.rules p.old.beliefs) (A.solve k.now.actions) k.now.budgets in
         let old = parts (B.beliefs p.old.beliefs) p.old.agenda p.old.number in
         let new = parts (B.beliefs p.new.beliefs) p.new.agenda p.new.number in
-        IfOk result (λ f. spec.from_sel_ev e old sofar ≡ record { parts = new; lines = f.lines; thought = f.thought }) }
+        IfOk result (λ f. spec.from_sel_ev e peers.now old sofar ≡ record { parts = new; asks = f.asks; lines = f.lines; thought = f.thought }) }
     ensures rules { B.rules p.new.beliefs ≡ B.rules p.old.beliefs }
     ensures number { p.new.number ≤ p.old.number + (1 + 2 * k.now.budgets.tries) }
+    ensures asks { IfOk result (λ f. f.asks ≤ sofar.asks + 1) }
 {
     let mut sofar = sofar;
     match sel_ev(p, &mut sofar)? {
-        Some(event) => from_rel_pl(alloc, k, p, sofar, event),
-        None => from_sel_int(alloc, k, p, sofar),
+        Some(event) => from_rel_pl(alloc, k, peers, p, sofar, event),
+        None => from_sel_int(alloc, k, peers, p, sofar),
     }
 }
 
-/// A whole cycle, with the feedback that was told since the one before. The counter rises by at most one and twice the
-/// tries.
+fn from_msg<B: BeliefBase, A: Actions>(
+    alloc: Global,
+    k: &Around<A>,
+    peers: &Peers,
+    p: &mut Parts<B>,
+    sofar: Sofar,
+    message: &Option<Message>,
+) -> Result<Finished, Starved>
+    requires tries { k.now.budgets.tries ≤ 10000000 }
+    requires room { p.old.number < 2 ^ 63 }
+    requires asks { sofar.asks < 2 ^ 64 - 1 }
+    ensures made { let e = around k.now.lib.plans (B.rules p.old.beliefs) (A.solve k.now.actions) k.now.budgets in
+        let old = parts (B.beliefs p.old.beliefs) p.old.agenda p.old.number in
+        let new = parts (B.beliefs p.new.beliefs) p.new.agenda p.new.number in
+        IfOk result (λ f. spec.from_msg e peers.now old sofar message.now ≡ record { parts = new; asks = f.asks; lines = f.lines; thought = f.thought }) }
+    ensures rules { B.rules p.new.beliefs ≡ B.rules p.old.beliefs }
+    ensures number { p.new.number ≤ p.old.number + (2 + 2 * k.now.budgets.tries) }
+    ensures asks { IfOk result (λ f. f.asks ≤ sofar.asks + 1) }
+{
+    let mut sofar = sofar;
+    if msg(alloc, k, peers, p, &mut sofar, message)? {
+        return from_sel_ev(alloc, k, peers, p, sofar);
+    }
+    Ok(spends(sofar))
+}
+
+/// A whole cycle, with the number of the next ask, and the feedback that was told since the one before. The counter rises by
+/// at most two and twice the tries, and at most one number of an ask is used.
 pub fn cycle<B: BeliefBase, A: Actions>(
     alloc: Global,
     k: &Around<A>,
+    peers: &Peers,
     p: &mut Parts<B>,
+    asks: u64,
     kept: Option<Feedback>,
     input: &Input,
 ) -> Result<Finished, Starved>
     requires ground { all_ground input.now.percepts ≡ true }
     requires tries { k.now.budgets.tries ≤ 10000000 }
     requires room { p.old.number < 2 ^ 63 }
+    requires asks { asks < 2 ^ 63 }
     ensures made { let e = around k.now.lib.plans (B.rules p.old.beliefs) (A.solve k.now.actions) k.now.budgets in
         let old = parts (B.beliefs p.old.beliefs) p.old.agenda p.old.number in
         let new = parts (B.beliefs p.new.beliefs) p.new.agenda p.new.number in
-        IfOk result (λ f. spec.cycle e old kept input.now ≡ record { parts = new; lines = f.lines; thought = f.thought }) }
+        IfOk result (λ f. spec.cycle e peers.now old asks kept input.now ≡ record { parts = new; asks = f.asks; lines = f.lines; thought = f.thought }) }
     ensures rules { B.rules p.new.beliefs ≡ B.rules p.old.beliefs }
-    ensures number { p.new.number ≤ p.old.number + (1 + 2 * k.now.budgets.tries) }
+    ensures number { p.new.number ≤ p.old.number + (2 + 2 * k.now.budgets.tries) }
+    ensures asks { IfOk result (λ f. f.asks ≤ asks + 1) }
 {
     let mut sofar = Sofar {
         lines: Seq::new(alloc),
         messages: Seq::new(alloc),
         stop: false,
+        asks,
     };
     percept(alloc, p, &mut sofar, &input.percepts)?;
     feed(alloc, k, p, &mut sofar, kept)?;
-    rule(&mut sofar, Row::Msg0)?;
-    from_sel_ev(alloc, k, p, sofar)
+    from_msg(alloc, k, peers, p, sofar, &input.message)
 }

@@ -7,6 +7,7 @@ pub mod config;
 pub mod cycle;
 pub mod inner;
 pub mod laws;
+pub mod lines;
 pub mod opening;
 pub mod rows;
 pub mod steps;

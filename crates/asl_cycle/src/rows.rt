@@ -39,4 +39,6 @@ pub struct Sofar {
     pub lines: Lines,
     pub messages: Messages,
     pub stop: bool,
+    /// The number of the next ask.
+    pub asks: u64,
 }

@@ -3,14 +3,16 @@
 ghost use Rattle.std.specs.Prelude.{◌≡◌, ◌<◌, ◌≤◌, ◌+◌, ◌-◌, ◌*◌, ◌^◌, ◌++◌, [], ◌∷◌, true, IfOk, OnOk};
 ghost use Rattle.asl_beliefs.specs.Bases.{all_ground};
 ghost use Rattle.asl_cycle.specs.declared.rows.Line.TheVariants as line;
-ghost use Rattle.asl_exec.specs.Parts.{around, parts, made};
+ghost use Rattle.asl_exec.specs.Parts.{around, parts};
+ghost use Rattle.asl_goals.specs.Inside.{did, act_inside};
 ghost use Rattle.asl_cycle.specs.Steps as spec;
 ghost use Rattle.asl_cycle.specs.Steps.{Wrought};
 ghost use Rattle.asl_cycle.specs.inner.Choosing.{AppliedAtMost};
 
 use crate::choosing::choose;
 use crate::config::{After, Applied, Chosen, Intended, Related};
-use crate::rows::{Line, Lines, Sofar};
+use crate::lines::{put_fall, put_falling, put_took, rule, send, send_all};
+use crate::rows::{Line, Sofar};
 use asl_beliefs::base::BeliefBase;
 use asl_beliefs::removed::BeliefFault;
 use asl_exec::clear::clear;
@@ -18,51 +20,21 @@ use asl_exec::exec::exec;
 use asl_exec::parts::{Around, Parts, fails_as, tell};
 use asl_exec::rows::Row;
 use asl_exec::went::Went;
-use asl_fail::fail::{Fell, fail};
+use asl_fail::fail::fail;
+use asl_goals::acted::Acted;
+use asl_goals::inside::act_inside;
 use asl_intend::agenda::{Acting, Error, Event};
 use asl_intend::entry::Means;
 use asl_intend::stack::Stack;
+use asl_kqml::peers::Peers;
+use asl_kqml::receive::receive;
 use asl_resolve::actions::Actions;
-use asl_term::copying::{copy_literal, copy_trigger};
+use asl_term::copying::copy_literal;
 use asl_term::sequence::{Seq, Starved};
-use asl_term::syntax::{Kind, Literals, Trigger};
+use asl_term::syntax::{Call, Kind, Literals, Trigger};
 use asl_unify::subst::no_subst;
-use mas_mind::mind::Feedback;
+use mas_mind::mind::{Feedback, Message};
 use std::alloc::Global;
-
-/// Puts the line of a row last.
-pub fn rule(sofar: &mut Sofar, row: Row) -> Result<(), Starved>
-    ensures { OnOk result (sofar.new ≡ record sofar.old { lines = sofar.old.lines ++ line.Rule row ∷ [] }) }
-{
-    sofar.lines.push(Line::Rule(row))
-}
-
-/// Puts so many rows Fail2 last.
-fn put_popped(lines: &mut Lines, n: u64) -> Result<(), Starved>
-    ensures { OnOk result (lines.new ≡ lines.old ++ spec.pops n) }
-{
-    for _ in 0..n {
-        lines.push(Line::Rule(Row::Fail2))?;
-    }
-    Ok(())
-}
-
-/// Puts the rows of a failure last.
-fn put_fall(lines: &mut Lines, e: Error, fell: Fell) -> Result<(), Starved>
-    ensures { OnOk result (lines.new ≡ lines.old ++ spec.fall_lines e fell) }
-{
-    match fell {
-        Fell::Raised(n) => {
-            put_popped(lines, n.saturating_sub(1))?;
-            lines.push(Line::Rule(Row::Fail1))
-        }
-        Fell::Dropped(n) => {
-            put_popped(lines, n)?;
-            lines.push(Line::Rule(Row::Fail3))?;
-            lines.push(Line::Drops(e))
-        }
-    }
-}
 
 fn error_of(own: Option<Error>, other: Error) -> Error
     ensures { result ≡ spec.error_of own other }
@@ -245,6 +217,36 @@ pub fn feed<B: BeliefBase, A: Actions>(
     }
 }
 
+/// The row of a message, where there is one, and whether the cycle goes on. The counter rises by one at most.
+pub fn msg<B: BeliefBase, A: Actions>(
+    alloc: Global,
+    k: &Around<A>,
+    peers: &Peers,
+    p: &mut Parts<B>,
+    sofar: &mut Sofar,
+    message: &Option<Message>,
+) -> Result<bool, Starved>
+    requires { p.old.number + k.now.budgets.tries + 1 < 2 ^ 64 - 1 }
+    ensures made { let e = around k.now.lib.plans (B.rules p.old.beliefs) (A.solve k.now.actions) k.now.budgets in
+        let old = parts (B.beliefs p.old.beliefs) p.old.agenda p.old.number in
+        let new = parts (B.beliefs p.new.beliefs) p.new.agenda p.new.number in
+        IfOk result (λ next. spec.msg e peers.now old sofar.old message.now ≡ spec.moved new sofar.new next) }
+    ensures rules { B.rules p.new.beliefs ≡ B.rules p.old.beliefs }
+    ensures number { p.new.number ≤ p.old.number + 1 }
+    ensures asks { OnOk result (sofar.new.asks ≡ sofar.old.asks) }
+{
+    match message {
+        None => {
+            rule(sofar, Row::Msg0)?;
+            Ok(true)
+        }
+        Some(m) => {
+            let took = receive(alloc, k, peers, p, m)?;
+            put_took(alloc, peers, sofar, m, took)
+        }
+    }
+}
+
 /// The oldest event.
 pub fn sel_ev<B: BeliefBase>(p: &mut Parts<B>, sofar: &mut Sofar) -> Result<Option<Event>, Starved>
     ensures made { let old = parts (B.beliefs p.old.beliefs) p.old.agenda p.old.number in
@@ -282,7 +284,7 @@ pub fn rel_pl<B: BeliefBase, A: Actions>(
     sofar: &mut Sofar,
     event: Event,
 ) -> Result<Option<Related>, Starved>
-    requires { p.old.number < 2 ^ 63 }
+    requires { p.old.number ≤ 2 ^ 63 }
     ensures made { let e = around k.now.lib.plans (B.rules p.old.beliefs) (A.solve k.now.actions) k.now.budgets in
         let old = parts (B.beliefs p.old.beliefs) p.old.agenda p.old.number in
         let new = parts (B.beliefs p.new.beliefs) p.new.agenda p.new.number in
@@ -458,7 +460,7 @@ fn put_went(alloc: Global, sofar: &mut Sofar, went: Went) -> Result<After, Starv
             Ok(After::Acts(action))
         }
         Went::Outer(_) => {
-            rule(sofar, Row::IaFail)?;
+            rule(sofar, Row::IaOk)?;
             Ok(After::Ends)
         }
         Went::Failed { row, fall } => {
@@ -474,46 +476,105 @@ fn put_went(alloc: Global, sofar: &mut Sofar, went: Went) -> Result<After, Starv
     }
 }
 
-/// What a row did, where the internal actions that are to come have no solution.
-fn undone<B: BeliefBase, A: Actions>(
+/// The row of an internal action on goals, beliefs or other agents, by what it did.
+fn of_acted<B: BeliefBase, A: Actions>(
     alloc: Global,
     k: &Around<A>,
+    peers: &Peers,
     p: &mut Parts<B>,
+    sofar: &mut Sofar,
     cur: &mut Stack,
-    went: Went,
-) -> Result<Went, Starved>
+    acted: Acted,
+) -> Result<After, Starved>
     ensures made { let e = around k.now.lib.plans (B.rules p.old.beliefs) (A.solve k.now.actions) k.now.budgets in
         let old = parts (B.beliefs p.old.beliefs) p.old.agenda p.old.number in
         let new = parts (B.beliefs p.new.beliefs) p.new.agenda p.new.number in
-        IfOk result (λ w. spec.undone e (made old cur.old went) went ≡ made new cur.new w) }
+        IfOk result (λ a. spec.of_acted e peers.now sofar.old (did old sofar.old.asks cur.old acted) acted
+        ≡ spec.moved new sofar.new (spec.onward cur.new a)) }
     ensures beliefs { p.new.beliefs ≡ p.old.beliefs }
     ensures number { p.new.number ≡ p.old.number }
+    ensures asks { OnOk result (sofar.new.asks ≡ sofar.old.asks) }
 {
-    match went {
-        Went::Outer(_) => fails_as(alloc, k, p, cur, Row::IaFail, Error::IaFailed),
-        other => Ok(other),
+    match acted {
+        Acted::Failed(_) => {
+            let went = fails_as(alloc, k, p, cur, Row::IaFail, Error::IaFailed)?;
+            put_went(alloc, sofar, went)
+        }
+        Acted::Asked(m) => {
+            rule(sofar, Row::AskOut)?;
+            send(alloc, peers, sofar, m)?;
+            Ok(After::Ends)
+        }
+        Acted::Gone(falls) => {
+            put_falling(sofar, Row::IaGone, falls.as_slice())?;
+            Ok(After::Ends)
+        }
+        Acted::Ok(falls) => {
+            put_falling(sofar, Row::IaOk, falls.as_slice())?;
+            Ok(After::Clears)
+        }
+        Acted::Sent(messages) => {
+            rule(sofar, Row::IaOk)?;
+            send_all(alloc, peers, sofar, messages)?;
+            Ok(After::Clears)
+        }
+        Acted::Stop => {
+            rule(sofar, Row::IaOk)?;
+            sofar.lines.push(Line::Stops)?;
+            sofar.stop = true;
+            Ok(After::Clears)
+        }
     }
 }
 
-/// The row for the first formula of the current stack. The counter rises by `tries` at most.
+/// The internal action on goals, beliefs or other agents that the head of the current stack is.
+fn deed<B: BeliefBase, A: Actions>(
+    alloc: Global,
+    k: &Around<A>,
+    peers: &Peers,
+    p: &mut Parts<B>,
+    sofar: &mut Sofar,
+    cur: &mut Stack,
+    c: &Call,
+) -> Result<After, Starved>
+    requires { sofar.old.asks < 2 ^ 64 - 1 }
+    ensures made { let e = around k.now.lib.plans (B.rules p.old.beliefs) (A.solve k.now.actions) k.now.budgets in
+        let old = parts (B.beliefs p.old.beliefs) p.old.agenda p.old.number in
+        let new = parts (B.beliefs p.new.beliefs) p.new.agenda p.new.number in
+        IfOk result (λ a. spec.deed e peers.now sofar.old (act_inside e peers.now sofar.old.asks old cur.old c.now)
+        ≡ spec.moved new sofar.new (spec.onward cur.new a)) }
+    ensures rules { B.rules p.new.beliefs ≡ B.rules p.old.beliefs }
+    ensures number { p.new.number ≡ p.old.number }
+    ensures asks { OnOk result (sofar.new.asks ≤ sofar.old.asks + 1) }
+{
+    let acted = act_inside(alloc, k, peers, p, &mut sofar.asks, cur, c)?;
+    of_acted(alloc, k, peers, p, sofar, cur, acted)
+}
+
+/// The row for the first formula of the current stack. The counter rises by `tries` at most, and at most one number of an
+/// ask is used.
 pub fn exec_step<B: BeliefBase, A: Actions>(
     alloc: Global,
     k: &Around<A>,
+    peers: &Peers,
     p: &mut Parts<B>,
     sofar: &mut Sofar,
     cur: &mut Stack,
 ) -> Result<After, Starved>
-    requires { p.old.number + k.now.budgets.tries < 2 ^ 64 - 1 }
+    requires room { p.old.number + k.now.budgets.tries < 2 ^ 64 - 1 }
+    requires asks { sofar.old.asks < 2 ^ 64 - 1 }
     ensures made { let e = around k.now.lib.plans (B.rules p.old.beliefs) (A.solve k.now.actions) k.now.budgets in
         let old = parts (B.beliefs p.old.beliefs) p.old.agenda p.old.number in
         let new = parts (B.beliefs p.new.beliefs) p.new.agenda p.new.number in
-        IfOk result (λ a. Wrought (spec.exec_step e old cur.old) new sofar.old sofar.new (spec.onward cur.new a)) }
+        IfOk result (λ a. spec.exec_step e peers.now old sofar.old cur.old ≡ spec.moved new sofar.new (spec.onward cur.new a)) }
     ensures rules { B.rules p.new.beliefs ≡ B.rules p.old.beliefs }
     ensures number { p.new.number ≤ p.old.number + k.now.budgets.tries }
+    ensures asks { OnOk result (sofar.new.asks ≤ sofar.old.asks + 1) }
 {
-    let tried = exec(alloc, k, p, cur)?;
-    let went = undone(alloc, k, p, cur, tried)?;
-    put_went(alloc, sofar, went)
+    match exec(alloc, k, p, cur)? {
+        Went::Outer(c) => deed(alloc, k, peers, p, sofar, cur, &c),
+        other => put_went(alloc, sofar, other),
+    }
 }
 
 /// The row for the current stack after a formula.

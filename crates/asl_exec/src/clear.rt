@@ -110,8 +110,8 @@ fn popped<B: BeliefBase, A: Actions>(
     }
 }
 
-/// The row for a stack with an empty body on top.
-fn emptied<B: BeliefBase, A: Actions>(
+/// The row for a stack whose top is done, whatever of its body is left: ClrInt1, ClrInt2 or ClrLimit.
+pub fn emptied<B: BeliefBase, A: Actions>(
     alloc: Global,
     k: &Around<A>,
     p: &mut Parts<B>,

@@ -1,18 +1,15 @@
--- Which clauses run: not yet those with an internal action other than `.print` and `.fail`, nor with any internal action
--- inside a formula.
-use Rattle.std.specs.Prelude.{ℕ, ◌≡◌, ◌+◌, Bool, true, false, not, ◌&&◌, ◌||◌, if◌then◌else◌, List, [], ◌∷◌, Option, None, Some, codes}
+-- Which clauses run: not yet those with an internal action that is asked for solutions, be it inside a formula or an item of
+-- a body.
+use Rattle.std.specs.Prelude.{ℕ, ◌≡◌, ◌+◌, Bool, true, false, not, ◌&&◌, ◌||◌, if◌then◌else◌, List, [], ◌∷◌, length, Option, None, Some}
 use Rattle.std.specs.List.{list_all}
-use Rattle.std.specs.Str.{bytes_eq}
 use Rattle.asl_term.specs.declared.syntax.AgentText.{AgentText}
-use Rattle.asl_term.specs.declared.syntax.ArgOf.{ArgOf}
-use Rattle.asl_term.specs.declared.syntax.ArgOf.TheVariants.{Plain, Logic}
-use Rattle.asl_term.specs.declared.syntax.CallOf.{CallOf}
 use Rattle.asl_term.specs.declared.syntax.Expr.{Expr}
 use Rattle.asl_term.specs.declared.syntax.Expr.TheOpen.{Expr-F}
 use Rattle.asl_term.specs.declared.syntax.Expr.TheOpen as layer
 use Rattle.asl_term.specs.declared.syntax.Expr.TheFolds.{fold-Expr}
 use Rattle.asl_term.specs.declared.syntax.Formula.{Formula}
 use Rattle.asl_term.specs.declared.syntax.Formula.TheVariants as formula
+use Rattle.asl_meaning.specs.Meanings.{is_deed}
 use Rattle.asl_grammar.specs.declared.sentence.Sentence.{Sentence}
 use Rattle.asl_grammar.specs.declared.sentence.Sentence.TheVariants as sentence
 use Rattle.asl_grammar.specs.Agents.{AreSentences, nothing, all_added}
@@ -28,17 +25,9 @@ inner_step leaf = false
 abbrev pub has_inner : Expr → Bool
 has_inner = fold-Expr Bool inner_step
 
-abbrev pub arg_runs : ArgOf Expr → Bool
-arg_runs (Plain t) = true
-arg_runs (Logic e) = not (has_inner e)
-
--- `.print` or `.fail`, and no internal action inside a formula among its arguments
-abbrev pub call_runs : CallOf Expr → Bool
-call_runs c = (bytes_eq c.name (codes "print") || bytes_eq c.name (codes "fail")) && list_all arg_runs c.args
-
--- an item of a body
+-- an item of a body: its internal action is one that acts
 abbrev pub item_runs : Formula → Bool
-item_runs (formula.Inner c) = call_runs c
+item_runs (formula.Inner c) = is_deed c.name (length c.args)
 item_runs other = true
 
 abbrev pub runs : Sentence → Bool

@@ -5,7 +5,8 @@ ghost use Rattle.std.specs.List.{list_all};
 ghost use Rattle.mas_reading.specs.Later as spec;
 
 use asl_grammar::sentence::Sentence;
-use asl_term::syntax::{Arg, ArgOf, Call, Expr, Formula};
+use asl_meaning::meaning::is_deed;
+use asl_term::syntax::{Expr, Formula};
 
 /// Whether an internal action stands in a formula.
 #[tactic(auto, using(crate::proofs::Inner::inner_of_not, crate::proofs::Inner::inner_of_and, crate::proofs::Inner::inner_of_or))]
@@ -22,40 +23,11 @@ fn has_inner(e: &Expr) -> bool
     }
 }
 
-fn arg_runs(arg: &Arg) -> bool
-    ensures { result ≡ spec.arg_runs arg.now }
-{
-    match arg {
-        ArgOf::Plain(_) => true,
-        ArgOf::Logic(e) => !has_inner(e),
-    }
-}
-
-fn args_run(args: &[Arg]) -> bool
-    ensures { result ≡ list_all spec.arg_runs args.now }
-{
-    let mut rest = args;
-    'each: while let Some((arg, after)) = rest.split_first() {
-        if !arg_runs(arg) {
-            return false;
-        }
-        rest = after;
-    }
-    true
-}
-
-fn call_runs(call: &Call) -> bool
-    ensures { result ≡ spec.call_runs call.now }
-{
-    let name = call.name.as_slice();
-    (name == b"print".as_slice() || name == b"fail".as_slice()) && args_run(call.args.as_slice())
-}
-
 fn item_runs(item: &Formula) -> bool
     ensures { result ≡ spec.item_runs item.now }
 {
     match item {
-        Formula::Inner(call) => call_runs(call),
+        Formula::Inner(call) => is_deed(&call.name, call.args.len()),
         _ => true,
     }
 }

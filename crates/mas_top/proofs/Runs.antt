@@ -91,7 +91,7 @@ fresh n a i =
 
 mind_fits : (o : Options) (source : Source) (a : ℕ) (m : Option Mindset) → (boards.seat_at (opening_board o source) a).cycle ≡ 0 →
     length (opening_board o source).seats ≡ length source.names →
-    IfSome m (λ m. (m.me ≡ a) × ((m.agents ≡ length source.names) × ((m.cycles ≡ 0) × (m.awaits ≡ false)))) →
+    IfSome m (λ m. (m.peers.me ≡ a) × ((length m.peers.names ≡ length source.names) × ((m.cycles ≡ 0) × (m.awaits ≡ false)))) →
     IfSome m (IsMindOf agent_kind (opening_board o source) a)
 mind_fits o source a None c n h = tt
 mind_fits o source a (Some m) c n h =
@@ -103,13 +103,13 @@ the_minds o source c a i =
     let n = length-replicate (length source.names) boards.no_seat in
     let j : IsAgent (length source.names) a = subst (λ x. IsAgent x a) n i in
     mind_fits o source a (slice_get (opening_minds o source) (a - 1)) (ap (λ s. s.cycle) (fresh (length source.names) a j)) n
-    (mind_at o (length source.names) a (texts_of source.roles) j.from_one (subst (λ x. a ≤ x) c.named j.named))
+    (mind_at o source.names a (texts_of source.roles) j.from_one (subst (λ x. a ≤ x) c.named j.named))
 
 starts_here : (o : Options) (source : Source) → CanRun source → Start agent_kind (opens o source) (opening_minds o source)
 starts_here o source c = record {
   unplayed = refl;
   fit = record {
-    number = opened_length o (length source.names) (texts_of source.roles) ∙ sym c.named ∙ sym (length-replicate (length source.names) boards.no_seat);
+    number = opened_length o source.names (texts_of source.roles) ∙ sym c.named ∙ sym (length-replicate (length source.names) boards.no_seat);
     each = the_minds o source c;
   };
 }

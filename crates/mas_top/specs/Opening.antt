@@ -1,5 +1,5 @@
 -- The platform at the start.
-use Rattle.std.specs.Prelude.{ℕ, ◌+◌, List, [], ◌∷◌, length, replicate, Option, None, Some}
+use Rattle.std.specs.Prelude.{ℕ, ◌+◌, List, [], ◌∷◌, replicate, Option, None, Some}
 use Rattle.std.specs.List.{flat_map}
 use Rattle.asl_term.specs.declared.syntax.AgentText.{AgentText}
 use Rattle.asl_resolve.specs.declared.answers.Budgets.{Budgets}
@@ -28,17 +28,17 @@ opening_world (Some text) = opened text []
 abbrev pub texts_of : List Role → List AgentText
 texts_of = flat_map (λ role. replicate role.count role.text)
 
--- an agent of so many, by its number, before its first cycle
-abbrev pub mind_of : Options → ℕ → ℕ → AgentText → Mindset
-mind_of o agents a text = opening_mind a agents text (budgets_of o) o.level
+-- an agent among these names, by its number, before its first cycle
+abbrev pub mind_of : Options → List (List ℕ) → ℕ → AgentText → Mindset
+mind_of o names a text = opening_mind a names text (budgets_of o) o.level
 
--- the agents of these sources, of so many in all, with their numbers from this one on
-abbrev pub minds_from : Options → ℕ → ℕ → List AgentText → List Mindset
-minds_from o agents a [] = []
-minds_from o agents a (text ∷ texts) = mind_of o agents a text ∷ minds_from o agents (a + 1) texts
+-- the agents of these sources, among all these names, with their numbers from this one on
+abbrev pub minds_from : Options → List (List ℕ) → ℕ → List AgentText → List Mindset
+minds_from o names a [] = []
+minds_from o names a (text ∷ texts) = mind_of o names a text ∷ minds_from o names (a + 1) texts
 
 abbrev pub opening_minds : Options → Source → List Mindset
-opening_minds o source = minds_from o (length source.names) 1 (texts_of source.roles)
+opening_minds o source = minds_from o source.names 1 (texts_of source.roles)
 
 abbrev pub opening_board : Options → Source → boards.State
 opening_board o source = boards.opening source.names (opening_world source.world) o.cycles o.lead

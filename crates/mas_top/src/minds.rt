@@ -37,7 +37,7 @@ fn open_one(
     requires from_one { 1 ≤ a }
     requires named { a ≤ length names.now }
     requires ground { list_all is_ground_literal source.now.beliefs ≡ true }
-    ensures { IfOk result (λ m. m ≡ spec.mind_of o.now (length names.now) a source.now) }
+    ensures { IfOk result (λ m. m ≡ spec.mind_of o.now names.now a source.now) }
 {
     open_agent(alloc, a, names, source, budgets_of(o), o.level)
 }
@@ -64,7 +64,7 @@ fn add_agents(
     requires within { IsWithin o.now }
     requires named { length minds.old + role.now.count ≤ length names.now }
     requires ground { is_ground_role role.now ≡ true }
-    ensures { OnOk result (minds.new ≡ minds.old ++ spec.minds_from o.now (length names.now) (length minds.old + 1) (replicate role.now.count role.now.text)) }
+    ensures { OnOk result (minds.new ≡ minds.old ++ spec.minds_from o.now names.now (length minds.old + 1) (replicate role.now.count role.now.text)) }
 {
     let mut left = role.count;
     'agents: while left > 0 {
@@ -87,7 +87,7 @@ pub fn open_minds(
     requires within { IsWithin o.now }
     requires named { length names.now ≡ length (spec.texts_of roles.now) }
     requires ground { list_all is_ground_role roles.now ≡ true }
-    ensures { IfOk result (λ ms. ms ≡ spec.minds_from o.now (length names.now) 1 (spec.texts_of roles.now)) }
+    ensures { IfOk result (λ ms. ms ≡ spec.minds_from o.now names.now 1 (spec.texts_of roles.now)) }
 {
     let mut minds = Seq::new(alloc);
     let mut rest = roles;

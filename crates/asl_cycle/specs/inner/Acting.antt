@@ -31,9 +31,15 @@ use Rattle.asl_exec.specs.Said.{print_text}
 use Rattle.asl_exec.specs.Parts.{Around, Parts, Made, made, failed}
 use Rattle.asl_exec.specs.Exec as spec
 use Rattle.asl_exec.specs.Clear as clearing
+use Rattle.asl_kqml.specs.declared.peers.Peers.{Peers}
+use Rattle.asl_goals.specs.declared.acted.Acted.{Acted}
+use Rattle.asl_goals.specs.declared.acted.Acted.TheVariants as acted
+use Rattle.asl_goals.specs.Inside.{Did, act_inside}
 use Rattle.asl_cycle.specs.declared.config.After.{After}
 use Rattle.asl_cycle.specs.declared.config.After.TheVariants as after
-use Rattle.asl_cycle.specs.Steps.{after_row, after_of, undone, exec_step, clear_step}
+use Rattle.asl_cycle.specs.declared.rows.Sofar.{Sofar}
+use Rattle.asl_cycle.specs.Turns.{dropped_by_call, dropped_by_settled, dropped_by_head}
+use Rattle.asl_cycle.specs.Steps.{after_row, after_of, of_acted, deed, exec_by, exec_step, clear_step}
 
 nothing_behind : {A : Type 0} (xs : List A) → xs ++ [] ≡ xs
 nothing_behind [] = refl
@@ -45,22 +51,22 @@ IsGround after.Clears = Unit {0}
 IsGround after.Ends = Unit {0}
 IsGround after.Spends = Unit {0}
 
--- what a row did, where an action has no variable
-abbrev pub IsSound : Went → Type 0
-IsSound (went.Action l) = is_ground_literal l ≡ true
-IsSound (went.Row r) = IsGround (after_row r)
-IsSound (went.Say text) = Unit {0}
-IsSound (went.Outer c) = Unit {0}
-IsSound (went.Failed r fall) = Unit {0}
-IsSound (went.Spent r b) = Unit {0}
+-- what a row did, where an action has no variable, and a deed is to drop the goal of this literal or none
+abbrev pub IsSound : Option (LiteralOf Term) → Went → Type 0
+IsSound named (went.Action l) = is_ground_literal l ≡ true
+IsSound named (went.Row r) = IsGround (after_row r)
+IsSound named (went.Say text) = Unit {0}
+IsSound named (went.Outer c) = named ≡ dropped_by_call c
+IsSound named (went.Failed r fall) = Unit {0}
+IsSound named (went.Spent r b) = Unit {0}
 
-leads : (w : Went) → IsSound w → IsGround (after_of w)
-leads (went.Row r) h = h
-leads (went.Say text) h = tt
-leads (went.Action l) h = h
-leads (went.Outer c) h = tt
-leads (went.Failed r fall) h = tt
-leads (went.Spent r b) h = tt
+leads : (named : Option (LiteralOf Term)) (w : Went) → IsSound named w → IsGround (after_of w)
+leads named (went.Row r) h = h
+leads named (went.Say text) h = tt
+leads named (went.Action l) h = h
+leads named (went.Outer c) h = tt
+leads named (went.Failed r fall) h = tt
+leads named (went.Spent r b) h = tt
 
 either : {A : Type 0} (P : A → Type 0) (b : Bool) (x y : A) → P x → P y → P (cond b x y)
 either P true x y h g = h
@@ -77,15 +83,19 @@ falls k n e a (m ∷ below) = falls_by (is_raised k.plans n e m.trigger) (has_me
   falls_by false false h = refl
 
 -- a row of the parts p
-record Keeps (p : Parts) (x : Made) : Type 0 where
-  sound : IsSound x.went
+record Keeps (named : Option (LiteralOf Term)) (p : Parts) (x : Made) : Type 0 where
+  sound : IsSound named x.went
   running : x.parts.agenda.running ≡ p.agenda.running
 
 module _ (k : Around) (p : Parts) (cur : List Means) where
-  abbrev Kept : Made → Type 0
-  Kept = Keeps p
+  -- the goal that the head drops or ends
+  abbrev pub Named : Option (LiteralOf Term)
+  Named = dropped_by_head (head cur)
 
-  fallen : (r : Row) (e : Error) → IsSound (went.Row r) → Kept (failed k r e p cur)
+  abbrev Kept : Made → Type 0
+  Kept = Keeps Named p
+
+  fallen : (r : Row) (e : Error) → IsSound Named (went.Row r) → Kept (failed k r e p cur)
   fallen r e h = record { sound = tt; running = falls k p.number e p.agenda cur }
 
   acts_by : (l : LiteralOf Term) (b : Bool) → is_ground_literal l ≡ b
@@ -121,69 +131,62 @@ module _ (k : Around) (p : Parts) (cur : List Means) where
   replaces b = either Kept (is_ground_literal b) (spec.changed row.RepBel p cur (replaced b p.beliefs)) (failed k row.ExecFree error.NotGround p cur)
       (record { sound = tt; running = refl }) (fallen row.ExecFree error.NotGround tt)
 
-  abbrev deed : CallOf Expr → Made
-  deed c = cond (spec.is_deed c.name) (made p cur (went.Outer c)) (spec.searched k p cur c)
+  abbrev deed_or : CallOf Expr → Made
+  deed_or c = cond (spec.is_deed c.name) (made p cur (went.Outer c)) (spec.searched k p cur c)
 
   abbrev fails_first : CallOf Expr → Made
-  fails_first c = cond (bytes_eq c.name (codes "fail")) (failed k row.IaFail error.IaFailed p cur) (deed c)
+  fails_first c = cond (bytes_eq c.name (codes "fail")) (failed k row.IaFail error.IaFailed p cur) (deed_or c)
 
-  deeds : (c : CallOf Expr) → Kept (deed c)
-  deeds c = either Kept (spec.is_deed c.name) (made p cur (went.Outer c)) (spec.searched k p cur c)
-      (record { sound = tt; running = refl }) (answers (spec.sought k p (expr.Inner c)))
+  deeds : (c : CallOf Expr) → Named ≡ dropped_by_call c → Kept (deed_or c)
+  deeds c is = either Kept (spec.is_deed c.name) (made p cur (went.Outer c)) (spec.searched k p cur c)
+      (record { sound = is; running = refl }) (answers (spec.sought k p (expr.Inner c)))
 
-  fails_or : (c : CallOf Expr) → Kept (fails_first c)
-  fails_or c = either Kept (bytes_eq c.name (codes "fail")) (failed k row.IaFail error.IaFailed p cur) (deed c) (fallen row.IaFail error.IaFailed tt) (deeds c)
+  fails_or : (c : CallOf Expr) → Named ≡ dropped_by_call c → Kept (fails_first c)
+  fails_or c is = either Kept (bytes_eq c.name (codes "fail")) (failed k row.IaFail error.IaFailed p cur) (deed_or c)
+      (fallen row.IaFail error.IaFailed tt) (deeds c is)
 
-  inners : (c : CallOf Expr) → Kept (spec.inner k p cur c)
-  inners c = either Kept (bytes_eq c.name (codes "print")) (made p (without_head cur) (went.Say (print_text c.args))) (fails_first c)
-      (record { sound = tt; running = refl }) (fails_or c)
+  inners : (c : CallOf Expr) → Named ≡ dropped_by_call c → Kept (spec.inner k p cur c)
+  inners c is = either Kept (bytes_eq c.name (codes "print")) (made p (without_head cur) (went.Say (print_text c.args))) (fails_first c)
+      (record { sound = tt; running = refl }) (fails_or c is)
 
-  formulas : (f : Formula) → Kept (spec.of_formula k p cur f)
-  formulas (formula.Act l) = acts_by l (is_ground_literal l) refl
-  formulas (formula.Achieve g) = record { sound = tt; running = refl }
-  formulas (formula.Spawn g) = record { sound = tt; running = refl }
-  formulas (formula.Test g) = tests g (spec.sought k p (expr.Holds g))
-  formulas (formula.Add b) = adds (with_source b)
-  formulas (formula.Del b) = record { sound = tt; running = refl }
-  formulas (formula.Replace b) = replaces (with_source b)
-  formulas (formula.Rel r) = relates (holds r [])
-  formulas (formula.Inner c) = inners c
+  formulas : (f : Formula) → Named ≡ dropped_by_settled (Ok f) → Kept (spec.of_formula k p cur f)
+  formulas (formula.Act l) is = acts_by l (is_ground_literal l) refl
+  formulas (formula.Achieve g) is = record { sound = tt; running = refl }
+  formulas (formula.Spawn g) is = record { sound = tt; running = refl }
+  formulas (formula.Test g) is = tests g (spec.sought k p (expr.Holds g))
+  formulas (formula.Add b) is = adds (with_source b)
+  formulas (formula.Del b) is = record { sound = tt; running = refl }
+  formulas (formula.Replace b) is = replaces (with_source b)
+  formulas (formula.Rel r) is = relates (holds r [])
+  formulas (formula.Inner c) is = inners c is
 
-  settles : (s : Settled Formula) → Kept (spec.of_settled k p cur s)
-  settles (Err e) = fallen row.ExecArith error.Arith tt
-  settles (Ok f) = formulas f
+  settles : (s : Settled Formula) → Named ≡ dropped_by_settled s → Kept (spec.of_settled k p cur s)
+  settles (Err e) is = fallen row.ExecArith error.Arith tt
+  settles (Ok f) is = formulas f is
 
-  heads : (o : Option Formula) → Kept (spec.of_head k p cur o)
-  heads None = record { sound = tt; running = refl }
-  heads (Some f) = either Kept (within_formula f) (spec.of_settled k p cur (settle_formula f)) (failed k row.ExecLimit error.TermLimit p cur)
-      (settles (settle_formula f)) (fallen row.ExecLimit error.TermLimit tt)
+  heads : (o : Option Formula) → Named ≡ dropped_by_head o → Kept (spec.of_head k p cur o)
+  heads None is = record { sound = tt; running = refl }
+  heads (Some f) is = either Kept (within_formula f) (spec.of_settled k p cur (settle_formula f)) (failed k row.ExecLimit error.TermLimit p cur)
+      (settles (settle_formula f) is) (fallen row.ExecLimit error.TermLimit tt)
 
   exec_keeps : Kept (spec.exec k p cur)
   unfolding spec.exec
-  exec_keeps = heads (head cur)
+  exec_keeps = heads (head cur) refl
 
-  undone_keeps : (x : Made) (w : Went) → Kept x → Kept (undone k x w)
-  undone_keeps x (went.Outer c) h = record { sound = tt; running = falls k x.parts.number error.IaFailed x.parts.agenda x.cur ∙ h.running }
-  undone_keeps x (went.Row r) h = h
-  undone_keeps x (went.Say text) h = h
-  undone_keeps x (went.Action l) h = h
-  undone_keeps x (went.Failed r fall) h = h
-  undone_keeps x (went.Spent r b) h = h
+  pub exec_running : (spec.exec k p cur).parts.agenda.running ≡ p.agenda.running
+  exec_running = exec_keeps.running
 
-  step_keeps : Kept (undone k (spec.exec k p cur) (spec.exec k p cur).went)
-  step_keeps = undone_keeps (spec.exec k p cur) (spec.exec k p cur).went exec_keeps
+  exec_leads : IsGround (after_of (spec.exec k p cur).went)
+  exec_leads = leads Named (spec.exec k p cur).went exec_keeps.sound
 
-  pub exec_ground : IsGround (exec_step k p cur).next.after
-  exec_ground = leads (undone k (spec.exec k p cur) (spec.exec k p cur).went).went step_keeps.sound
-
-  pub exec_running : (exec_step k p cur).parts.agenda.running ≡ p.agenda.running
-  exec_running = step_keeps.running
+  pub exec_sound : IsSound Named (spec.exec k p cur).went
+  exec_sound = exec_keeps.sound
 
   -- Clr: the stack goes to the back, or the stacks that run stay
   abbrev pub Back : Made → Type 0
-  Back x = IsSound x.went × ((back : List (List Means)) × (x.parts.agenda.running ≡ p.agenda.running ++ back))
+  Back x = IsSound Named x.went × ((back : List (List Means)) × (x.parts.agenda.running ≡ p.agenda.running ++ back))
 
-  stays : (x : Made) → IsSound x.went → x.parts.agenda.running ≡ p.agenda.running → Back x
+  stays : (x : Made) → IsSound Named x.went → x.parts.agenda.running ≡ p.agenda.running → Back x
   stays x h e = (h, ([], e ∙ sym (nothing_behind p.agenda.running)))
 
   fell_back : (below : List Means) → Back (failed k row.ClrLimit error.TermLimit p below)
@@ -204,7 +207,33 @@ module _ (k : Around) (p : Parts) (cur : List Means) where
   clear_keeps = either Back (has_head cur) (clearing.waits p cur) (clearing.emptied k p cur) (tt, (cur ∷ [], refl)) (empties cur)
 
   pub clear_ground : IsGround (clear_step k p cur).next.after
-  clear_ground = leads (clearing.clear k p cur).went clear_keeps.0
+  clear_ground = leads Named (clearing.clear k p cur).went clear_keeps.0
 
   pub clear_back : (back : List (List Means)) × ((clear_step k p cur).parts.agenda.running ≡ p.agenda.running ++ back)
   clear_back = clear_keeps.1
+
+-- ---- the row of Exec
+
+module _ (k : Around) (peers : Peers) (s : Sofar) where
+  acted_ground : (d : Did) (a : Acted) → IsGround (of_acted k peers s d a).next.after
+  acted_ground d (acted.Failed e) = tt
+  acted_ground d (acted.Asked m) = tt
+  acted_ground d (acted.Gone fs) = tt
+  acted_ground d (acted.Ok fs) = tt
+  acted_ground d (acted.Sent messages) = tt
+  acted_ground d acted.Stop = tt
+
+module _ (k : Around) (peers : Peers) (s : Sofar) where
+  deed_ground : (d : Did) → IsGround (deed k peers s d).next.after
+  deed_ground d = acted_ground k peers (record s { asks = d.asks }) d d.acted
+
+  by_ground : (x : Made) (w : Went) → IsGround (after_of x.went) → IsGround (exec_by k peers s x w).next.after
+  by_ground x (went.Outer c) h = deed_ground (act_inside k peers s.asks x.parts x.cur c)
+  by_ground x (went.Row r) h = h
+  by_ground x (went.Say text) h = h
+  by_ground x (went.Action l) h = h
+  by_ground x (went.Failed r fall) h = h
+  by_ground x (went.Spent r b) h = h
+
+  pub exec_ground : (p : Parts) (cur : List Means) → IsGround (exec_step k peers p s cur).next.after
+  exec_ground p cur = let x = spec.exec k p cur in by_ground x x.went (exec_leads k p cur)

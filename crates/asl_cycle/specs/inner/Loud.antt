@@ -1,5 +1,5 @@
 -- A cycle that has made a row that is none of a quiet cycle is not quiet.
-use Rattle.std.specs.Prelude.{◌≡◌, ℕ, zero, suc, Bool, true, false, ◌&&◌, refl, List, [], ◌∷◌, ◌++◌, length, Option, None, Some}
+use Rattle.std.specs.Prelude.{◌≡◌, ℕ, zero, suc, Bool, true, false, ◌&&◌, refl, List, [], ◌∷◌, ◌++◌, length, map, Option, None, Some, option_to_list}
 use Rattle.asl_intend.specs.declared.entry.Means.{Means}
 use Rattle.asl_intend.specs.declared.agenda.Event.{Event}
 use Rattle.asl_exec.specs.Parts.{Around, Parts}
@@ -15,7 +15,13 @@ use Rattle.asl_cycle.specs.declared.config.After.{After}
 use Rattle.asl_cycle.specs.declared.config.After.TheVariants as after
 use Rattle.mas_mind.specs.declared.mind.Message.{Message}
 use Rattle.mas_mind.specs.declared.mind.Feedback.{Feedback}
-use Rattle.asl_cycle.specs.Steps.{written, feed, msg, sel_ev, rel_pl, appl_pl, sel_appl, add_im, sel_int, exec_step, clear_step}
+use Rattle.asl_exec.specs.declared.rows.Row.TheVariants as row
+use Rattle.asl_kqml.specs.declared.peers.Peers.{Peers}
+use Rattle.asl_kqml.specs.declared.took.Took.{Took}
+use Rattle.asl_kqml.specs.declared.took.Took.TheVariants as took
+use Rattle.asl_kqml.specs.Receive.{receive}
+use Rattle.asl_cycle.specs.Steps.{by, written, took_row, took_line, sends_line, falls_lines}
+use Rattle.asl_cycle.specs.Steps.{feed, sel_ev, rel_pl, appl_pl, sel_appl, add_im, sel_int, exec_step, clear_step}
 use Rattle.asl_cycle.specs.Cycle as spec
 
 abbrev pub Loud : spec.Ran → Type 0
@@ -44,6 +50,11 @@ pub is_loud : (ls : List Line) (l : Line) (more : List Line) → spec.quiet_line
 is_loud [] l more h = rw h refl
 is_loud (m ∷ ls) l more h = and_false (spec.quiet_line m) (spec.quiet_lines (ls ++ l ∷ more)) (is_loud ls l more h)
 
+-- the second of some lines behind others
+pub second_is_loud : (ls : List Line) (l m : Line) (more : List Line) → spec.quiet_line m ≡ false → HasLoud (ls ++ l ∷ m ∷ more)
+second_is_loud [] l m more h = and_false (spec.quiet_line l) (spec.quiet_lines (m ∷ more)) (is_loud [] m more h)
+second_is_loud (n ∷ ls) l m more h = and_false (spec.quiet_line n) (spec.quiet_lines (ls ++ l ∷ m ∷ more)) (second_is_loud ls l m more h)
+
 module _ (k : Around) where
   goes : (rest : Parts → Sofar → List Means → spec.Ran) → ((p : Parts) (s : Sofar) (cur : List Means) → Loud (rest p s cur))
       → (p : Parts) (s : Sofar) (cur : List Means) (a : After) → Loud (spec.goes_to k rest p s cur a)
@@ -60,47 +71,63 @@ module _ (k : Around) where
   all_clr : (p : Parts) (s : Sofar) (cur : List Means) → Loud (spec.clears k p s cur)
   all_clr p s cur = clr (suc (length cur)) p s cur
 
-  pub execs : (p : Parts) (s : Sofar) (cur : List Means) → Loud (spec.from_exec k p s cur)
-  execs p s cur = let w = exec_step k p cur in goes (spec.clears k) all_clr w.parts (written s w) w.next.cur w.next.after
+module _ (k : Around) (peers : Peers) where
+  pub execs : (p : Parts) (s : Sofar) (cur : List Means) → Loud (spec.from_exec k peers p s cur)
+  execs p s cur = let w = exec_step k peers p s cur in goes k (spec.clears k) (all_clr k) w.parts w.sofar w.next.cur w.next.after
 
-  after_int : (p : Parts) (s : Sofar) (o : Option (List Means)) → HasLoud s.lines → Loud (spec.after_sel_int k p s o)
+  after_int : (p : Parts) (s : Sofar) (o : Option (List Means)) → HasLoud s.lines → Loud (spec.after_sel_int k peers p s o)
   after_int p s None h = h
   after_int p s (Some cur) h = execs p s cur
 
-  pub int : (p : Parts) (s : Sofar) → HasLoud s.lines → Loud (spec.from_sel_int k p s)
+  pub int : (p : Parts) (s : Sofar) → HasLoud s.lines → Loud (spec.from_sel_int k peers p s)
   int p s h = let w = sel_int p in after_int w.parts (written s w) w.next (stays_loud s.lines (line.Rule w.row ∷ w.lines) h)
 
-  appl : (p : Parts) (s : Sofar) (i : Intended) → HasLoud s.lines → Loud (spec.from_sel_appl k p s i)
+  appl : (p : Parts) (s : Sofar) (i : Intended) → HasLoud s.lines → Loud (spec.from_sel_appl k peers p s i)
   appl p s i h =
       let w = sel_appl p i in
       let v = add_im w.parts i in
       let l = stays_loud s.lines (line.Rule w.row ∷ w.lines) h in
       int v.parts (written (written s w) v) (stays_loud (written s w).lines (line.Rule v.row ∷ v.lines) l)
 
-  after_appl : (p : Parts) (s : Sofar) (a : Applied) → HasLoud s.lines → Loud (spec.after_appl_pl k p s a)
+  after_appl : (p : Parts) (s : Sofar) (a : Applied) → HasLoud s.lines → Loud (spec.after_appl_pl k peers p s a)
   after_appl p s (applied.Plan i) h = appl p s i h
   after_appl p s applied.Nothing h = int p s h
   after_appl p s applied.Spent h = refl
 
-  appl_of : (p : Parts) (s : Sofar) (r : Related) → HasLoud s.lines → Loud (spec.from_appl_pl k p s r)
+  appl_of : (p : Parts) (s : Sofar) (r : Related) → HasLoud s.lines → Loud (spec.from_appl_pl k peers p s r)
   appl_of p s r h = let w = appl_pl k p r in after_appl w.parts (written s w) w.next (stays_loud s.lines (line.Rule w.row ∷ w.lines) h)
 
-  after_rel : (p : Parts) (s : Sofar) (o : Option Related) → HasLoud s.lines → Loud (spec.after_rel_pl k p s o)
+  after_rel : (p : Parts) (s : Sofar) (o : Option Related) → HasLoud s.lines → Loud (spec.after_rel_pl k peers p s o)
   after_rel p s None h = int p s h
   after_rel p s (Some r) h = appl_of p s r h
 
-  pub rel : (p : Parts) (s : Sofar) (v : Event) → HasLoud s.lines → Loud (spec.from_rel_pl k p s v)
+  pub rel : (p : Parts) (s : Sofar) (v : Event) → HasLoud s.lines → Loud (spec.from_rel_pl k peers p s v)
   rel p s v h = let w = rel_pl k p v in after_rel w.parts (written s w) w.next (stays_loud s.lines (line.Rule w.row ∷ w.lines) h)
 
-  after_ev : (p : Parts) (s : Sofar) (o : Option Event) → HasLoud s.lines → Loud (spec.after_sel_ev k p s o)
+  after_ev : (p : Parts) (s : Sofar) (o : Option Event) → HasLoud s.lines → Loud (spec.after_sel_ev k peers p s o)
   after_ev p s None h = int p s h
   after_ev p s (Some v) h = rel p s v h
 
-  ev : (p : Parts) (s : Sofar) → HasLoud s.lines → Loud (spec.from_sel_ev k p s)
+  ev : (p : Parts) (s : Sofar) → HasLoud s.lines → Loud (spec.from_sel_ev k peers p s)
   ev p s h = let w = sel_ev p in after_ev w.parts (written s w) w.next (stays_loud s.lines (line.Rule w.row ∷ w.lines) h)
 
-  pub mail : (p : Parts) (s : Sofar) (m : Option Message) → HasLoud s.lines → Loud (spec.from_msg k p s m)
-  mail p s m h = let w = msg p m in ev w.parts (written s w) (stays_loud s.lines (line.Rule w.row ∷ w.lines) h)
+  taken : (s : Sofar) (m : Message) (q : Parts) (t : Took)
+      → Loud (let w = took_row peers s m q t in spec.after_msg k peers w.parts w.sofar w.next)
+  taken s m q (took.Row r reply fs) =
+      let w = took_row peers s m q (took.Row r reply fs) in
+      ev q w.sofar (second_is_loud s.lines (line.Rule r) (took_line peers m) (map (sends_line peers) (option_to_list reply) ++ falls_lines fs) refl)
+  taken s m q (took.Spent b) = refl
 
-  pub feeds : (p : Parts) (s : Sofar) (kept : Option Feedback) (m : Option Message) → HasLoud s.lines → Loud (spec.from_feed k p s kept m)
+  -- a cycle with a message is not quiet
+  pub reads : (p : Parts) (s : Sofar) (m : Message) → Loud (spec.from_msg k peers p s (Some m))
+  reads p s m = let r = receive k peers p m in taken s m r.parts r.took
+
+  pub mail : (p : Parts) (s : Sofar) (m : Option Message) → HasLoud s.lines → Loud (spec.from_msg k peers p s m)
+  mail p s None h = ev p (written s (by row.Msg0 p [] true)) (stays_loud s.lines (line.Rule row.Msg0 ∷ []) h)
+  mail p s (Some m) h = reads p s m
+
+  pub feeds : (p : Parts) (s : Sofar) (kept : Option Feedback) (m : Option Message) → HasLoud s.lines → Loud (spec.from_feed k peers p s kept m)
   feeds p s kept m h = let w = feed k p kept in mail w.parts (written s w) m (stays_loud s.lines (line.Rule w.row ∷ w.lines) h)
+
+  pub feeds_message : (p : Parts) (s : Sofar) (kept : Option Feedback) (m : Message) → Loud (spec.from_feed k peers p s kept (Some m))
+  feeds_message p s kept m = let w = feed k p kept in reads w.parts (written s w) m

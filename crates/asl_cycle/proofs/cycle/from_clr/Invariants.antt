@@ -11,6 +11,7 @@ invariant-rows g l =
           ≡ spec.clears e (parts (g.B.BeliefBase.beliefs l.fn.p.beliefs) l.fn.p.agenda l.fn.p.number) l.fn.sofar l.fn.cur;
       beliefs : l.p.beliefs ≡ l.fn.p.beliefs;
       number : l.p.number ≡ l.fn.p.number;
+      asks : l.sofar.asks ≡ l.fn.sofar.asks;
     }
 
 abbrev pub decreases-rows : goal.decreases-rows

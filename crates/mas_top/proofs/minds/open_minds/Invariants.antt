@@ -4,7 +4,7 @@ use Rattle.mas_top.proofs.Opened.{RolesLeft}
 use Rattle.mas_top.proofs.minds.open_minds.Given as goal
 
 abbrev pub invariant-roles : goal.invariant-roles
-invariant-roles l = RolesLeft l.o (length l.names) l.rest l.minds (minds_from l.o (length l.names) 1 (texts_of l.roles))
+invariant-roles l = RolesLeft l.o l.names l.rest l.minds (minds_from l.o l.names 1 (texts_of l.roles))
 
 abbrev pub decreases-roles : goal.decreases-roles
 decreases-roles l = length l.rest

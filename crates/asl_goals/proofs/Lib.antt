@@ -1,0 +1,4 @@
+pub mod Cuts
+pub mod Firsts
+pub mod Folds
+pub mod Spread

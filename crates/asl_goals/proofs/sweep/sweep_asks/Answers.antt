@@ -1,0 +1,34 @@
+use Rattle.std.proofs.Common.{◌≡◌, ◌∙◌, rules, List, length, map-id, sym, ap}
+use Rattle.std.proofs.lemmas.Iterator.Adapters.{YieldsList-from_vec}
+use Rattle.std.proofs.lemmas.Iterator.Consumers.{YieldsList-end}
+use Rattle.asl_term.specs.declared.syntax.Clause.{Clause}
+use Rattle.asl_intend.specs.declared.agenda.Ask.{Ask}
+use Rattle.asl_exec.specs.Parts.{Parts, around}
+use Rattle.asl_goals.specs.Goals.{from_lowest, taken_out, with_asks}
+use Rattle.asl_goals.proofs.Folds.{goes_on_as, finished}
+use Rattle.asl_goals.proofs.sweep.sweep_asks.Goals as goal
+
+pub loop-ask-preserved : goal.loop-ask-preserved
+loop-ask-preserved g c =
+    let a = c.args in
+    let l = c.loop-ask in
+    let m = c.in_ok-sweep_ask.ensures in
+    let one = λ (rs : List Clause) (q : Parts) (x : Ask). taken_out (around a.k.now.lib.plans rs (g.A.Actions.solve a.k.now.actions) a.k.now.budgets) a.way a.g.now q x (from_lowest a.g.now x.stack) in
+    record {
+      sofar = goes_on_as one _ _ (ap g.B.BeliefBase.rules l.invariant.beliefs) _ a.falls.now l.yielded c.in-Some.ask _ _ _ _ _ _ l.invariant.sofar
+          m.made.0 m.made.1 m.made.2;
+      beliefs = m.beliefs ∙ l.invariant.beliefs;
+      number = m.number ∙ l.invariant.number;
+    }
+
+pub returns-clause-made : goal.returns-clause-made
+returns-clause-made g c =
+    let a = c.args in
+    let l = c.loop-ask in
+    let all = a.p.now.agenda.asks in
+    let i = c.into_iter-ask-iterator.ensures.into_iter_gives in
+    let n : c.into_iter-ask-iterator.result.rest.len ≡ length c.into_vec-ask-items.result.items = search rules in
+    let items = c.into_vec-ask-items.ensures ∙ c.replace-asks.ensures.value in
+    let e = YieldsList-end (YieldsList-from_vec all (i.0 ∙ items) (n ∙ ap length items)) l.yielded l.ask-iterator l.yielded_by c.next.result c.next.new.self c.in-None.is c.next.ensures.steps in
+    let s = finished _ _ _ _ _ _ _ _ l.invariant.sofar (sym (map-id l.yielded) ∙ e.0) in
+    (λ j. with_asks (s.parts j) (s.left j), s.fell)

@@ -1,0 +1,147 @@
+-- Stacks that have a goal which a literal names: the first of them, and what becomes of each.
+use Rattle.std.specs.Prelude.{Bool, ◌&&◌, cond, List, [], ◌∷◌, ◌++◌, slice_get, Option, None, Some}
+use Rattle.asl_term.specs.declared.syntax.LiteralOf.{LiteralOf}
+use Rattle.asl_term.specs.declared.syntax.Term.{Term}
+use Rattle.asl_term.specs.declared.syntax.Trigger.{Trigger}
+use Rattle.asl_unify.specs.declared.subst.Pair.{Pair}
+use Rattle.asl_unify.specs.Matches.{matches}
+use Rattle.asl_intend.specs.declared.entry.Means.{Means}
+use Rattle.asl_intend.specs.declared.agenda.Event.{Event}
+use Rattle.asl_intend.specs.declared.agenda.Ask.{Ask}
+use Rattle.asl_intend.specs.declared.agenda.Agenda.{Agenda}
+use Rattle.asl_intend.specs.declared.agenda.Error.TheVariants as error
+use Rattle.asl_intend.specs.Entries.{is_achieve}
+use Rattle.asl_intend.specs.Stacks.{names_goal}
+use Rattle.asl_exec.specs.declared.rows.Row.TheVariants as row
+use Rattle.asl_exec.specs.declared.rows.Fall.{Fall}
+use Rattle.asl_exec.specs.declared.went.Went.{Went}
+use Rattle.asl_exec.specs.declared.went.Went.TheVariants as went
+use Rattle.asl_exec.specs.Parts.{Around, Parts, Made, with_agenda, failed}
+use Rattle.asl_exec.specs.Clear.{emptied}
+use Rattle.asl_goals.specs.declared.sweep.Way.{Way}
+use Rattle.asl_goals.specs.declared.sweep.Way.TheVariants as way
+
+-- the first of two that is there
+abbrev pub or_else : {A : Type 0} → Option A → Option A → Option A
+or_else (Some x) y = Some x
+or_else None y = y
+
+-- the first that a list gives
+abbrev pub first_of : {A B : Type 0} → (A → Option B) → List A → Option B
+first_of f [] = None
+first_of f (x ∷ xs) = or_else (f x) (first_of f xs)
+
+-- ---- `.intend` and `.desire`: the first match
+
+-- the first match of g with h, where the trigger is +!h
+abbrev pub goal_match : LiteralOf Term → Trigger → Option (List Pair)
+goal_match g t = cond (t.add && is_achieve t.kind) (slice_get (matches g t.lit []) 0) None
+
+-- that of a stack, from its top
+abbrev pub stack_match : LiteralOf Term → List Means → Option (List Pair)
+stack_match g = first_of (λ m. goal_match g m.trigger)
+
+-- that of an event: of its stack, and for a desire of its own goal before
+abbrev pub event_match : (desired : Bool) → LiteralOf Term → Event → Option (List Pair)
+event_match desired g e = or_else (cond desired (goal_match g e.trigger) None) (stack_match g e.stack)
+
+-- in the order running, events, asks, the current stack
+abbrev pub first_goal : (desired : Bool) → LiteralOf Term → Agenda → List Means → Option (List Pair)
+first_goal desired g a cur =
+    or_else (first_of (stack_match g) a.running)
+    (or_else (first_of (event_match desired g) a.events)
+    (or_else (first_of (λ q. stack_match g q.stack) a.asks)
+    (stack_match g cur)))
+
+-- ---- `.succeed_goal` and `.fail_goal`: one fold over the stacks
+
+-- a stack from its lowest means of a goal that g names, those above it popped; None where it has none
+abbrev pub from_lowest : LiteralOf Term → List Means → Option (List Means)
+from_lowest g [] = None
+from_lowest g (m ∷ below) = or_else (from_lowest g below) (cond (names_goal g m.trigger) (Some (m ∷ below)) None)
+
+-- succeeding makes the row of Clr as if the body of that means were empty; failing makes the stack fail
+abbrev pub treated : Around → Way → Parts → List Means → Made
+treated k way.Succeed p stack = emptied k p stack
+treated k way.Fail p stack = failed k row.IaFail error.IaFailed p stack
+
+abbrev pub falls_of : Went → List Fall
+falls_of (went.Failed r fall) = fall ∷ []
+falls_of other = []
+
+-- what is left of some of a list, and the stacks that failed
+pub record Swept (S : Type 0) : Type 0 where
+  pub parts : Parts
+  pub left : List S
+  pub falls : List Fall
+
+abbrev pub swept : {S : Type 0} → Parts → List S → List Fall → Swept S
+swept p left falls = record { parts = p; left = left; falls = falls }
+
+-- one after another
+abbrev pub sweep : {S : Type 0} → (Parts → S → Swept S) → Parts → List S → Swept S
+sweep one p [] = swept p [] []
+sweep one p (x ∷ more) =
+    let a = one p x in
+    let b = sweep one a.parts more in
+    swept b.parts (a.left ++ b.left) (a.falls ++ b.falls)
+
+abbrev pub untouched : {S : Type 0} → Parts → S → Swept S
+untouched p x = swept p (x ∷ []) []
+
+abbrev pub with_running : Parts → List (List Means) → Parts
+with_running p stacks = with_agenda p (record p.agenda { running = stacks })
+
+abbrev pub with_events : Parts → List Event → Parts
+with_events p events = with_agenda p (record p.agenda { events = events })
+
+abbrev pub with_asks : Parts → List Ask → Parts
+with_asks p asks = with_agenda p (record p.agenda { asks = asks })
+
+-- what is left of a stack, where something is
+abbrev pub what_is_left : List Means → List (List Means)
+what_is_left [] = []
+what_is_left (m ∷ below) = (m ∷ below) ∷ []
+
+-- it goes to the back of those that run
+abbrev pub to_back : Parts → List Means → Parts
+to_back p stack = with_running p (p.agenda.running ++ what_is_left stack)
+
+module _ (k : Around) (w : Way) (g : LiteralOf Term) where
+  -- what is left of a stack that runs keeps its place
+  abbrev pub in_place : Parts → List Means → Option (List Means) → Swept (List Means)
+  in_place p stack None = untouched p stack
+  in_place p stack (Some cut) = let x = treated k w p cut in swept x.parts (what_is_left x.cur) (falls_of x.went)
+
+  -- the event or the ask goes, and what is left of its stack to the back of those that run
+  abbrev pub taken_out : {S : Type 0} → Parts → S → Option (List Means) → Swept S
+  taken_out p x None = untouched p x
+  taken_out p x (Some cut) = let y = treated k w p cut in swept (to_back y.parts y.cur) [] (falls_of y.went)
+
+  -- the stacks that run
+  abbrev pub sweep_running : Parts → Swept (List Means)
+  sweep_running p = sweep (λ q stack. in_place q stack (from_lowest g stack)) (with_running p []) p.agenda.running
+
+  -- those of events. What fails meanwhile is posted behind the events that stay
+  abbrev pub sweep_events : Parts → Swept Event
+  sweep_events p = sweep (λ q e. taken_out q e (from_lowest g e.stack)) (with_events p []) p.agenda.events
+
+  abbrev pub sweep_asks : Parts → Swept Ask
+  sweep_asks p = sweep (λ q a. taken_out q a (from_lowest g a.stack)) (with_asks p []) p.agenda.asks
+
+  -- each group as it stands when its turn comes
+  abbrev pub running_swept : Parts → Parts
+  running_swept p = let s = sweep_running p in with_running s.parts s.left
+
+  abbrev pub events_swept : Parts → Parts
+  events_swept p = let s = sweep_events p in with_events s.parts (s.left ++ s.parts.agenda.events)
+
+  abbrev pub asks_swept : Parts → Parts
+  asks_swept p = let s = sweep_asks p in with_asks s.parts s.left
+
+  -- all stacks but the current one
+  abbrev pub all_swept : Parts → Parts
+  all_swept p = asks_swept (events_swept (running_swept p))
+
+  abbrev pub all_falls : Parts → List Fall
+  all_falls p = (sweep_running p).falls ++ (sweep_events (running_swept p)).falls ++ (sweep_asks (events_swept (running_swept p))).falls

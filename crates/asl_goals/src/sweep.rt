@@ -1,0 +1,353 @@
+//! `.succeed_goal` and `.fail_goal`: one fold over the stacks.
+
+ghost use Rattle.std.specs.Prelude.{◌≡◌, ◌++◌, Some, None, if◌then◌else◌, false, drop, IfOk, OnOk};
+ghost use Rattle.asl_intend.specs.Agendas as agendas;
+ghost use Rattle.asl_intend.specs.Stacks as stacks;
+ghost use Rattle.asl_exec.specs.Parts as parts;
+ghost use Rattle.asl_goals.specs.Goals as goals;
+
+use asl_beliefs::base::BeliefBase;
+use asl_exec::clear::emptied;
+use asl_exec::parts::{Around, Parts, fails_as};
+use asl_exec::rows::Row;
+use asl_exec::went::Went;
+use asl_intend::agenda::{Ask, Asks, Error, Event, Events, Stacks};
+use asl_intend::goal::names_goal;
+use asl_intend::stack::Stack;
+use asl_kqml::took::Falls;
+use asl_resolve::actions::Actions;
+use asl_term::sequence::{Seq, Starved};
+use asl_term::syntax::Literal;
+use std::alloc::Global;
+use std::mem;
+
+/// What becomes of the lowest means of the goal: it ends as if its body were empty, or it fails.
+#[derive(Clone, Copy, Debug, PartialEq, Eq, Drop)]
+pub enum Way {
+    Succeed,
+    Fail,
+}
+
+/// Whether the literal names the goal of the means at a place, that of the top being 0.
+fn named_at(alloc: Global, stack: &Stack, k: u64, g: &Literal) -> Result<bool, Starved>
+    ensures { IfOk result (λ r. r ≡ agendas.passes_at (stacks.names_goal g.now) (stacks.trigger_at stack.now k)) }
+{
+    match stack.trigger(alloc, k)? {
+        None => Ok(false),
+        Some(t) => names_goal(alloc, g, &t),
+    }
+}
+
+/// Takes away so many means from the top.
+fn pop_all(stack: &mut Stack, n: u64)
+    ensures { stack.new ≡ drop n stack.old }
+{
+    for _ in 0..n {
+        stack.pop();
+    }
+}
+
+/// Pops what stands above the lowest means whose goal the literal names. False where there is none, and then nothing
+/// is popped. The triggers are built one by one from below, until one is named, as by `Stack::trigger`.
+pub fn cut_to_goal(alloc: Global, stack: &mut Stack, g: &Literal) -> Result<bool, Starved>
+    ensures has { IfOk result (λ has. goals.from_lowest g.now stack.old ≡ (if has then Some stack.new else None)) }
+    ensures none { IfOk result (λ has. has ≡ false → stack.new ≡ stack.old) }
+{
+    let all = stack.len();
+    for tested in 0..all {
+        let above = all - 1 - tested;
+        let named = named_at(alloc, stack, above, g)?;
+        if named {
+            pop_all(stack, above);
+            return Ok(true);
+        }
+    }
+    Ok(false)
+}
+
+/// The row of Clr for an empty body, or the row in which a stack fails.
+fn ended<B: BeliefBase, A: Actions>(
+    alloc: Global,
+    k: &Around<A>,
+    p: &mut Parts<B>,
+    way: Way,
+    stack: &mut Stack,
+) -> Result<Went, Starved>
+    ensures made { IfOk result (λ w. goals.treated
+        (parts.around k.now.lib.plans (B.rules p.old.beliefs) (A.solve k.now.actions) k.now.budgets) way
+        (parts.parts (B.beliefs p.old.beliefs) p.old.agenda p.old.number) stack.old
+        ≡ parts.made (parts.parts (B.beliefs p.new.beliefs) p.new.agenda p.new.number) stack.new w) }
+    ensures beliefs { p.new.beliefs ≡ p.old.beliefs }
+    ensures number { p.new.number ≡ p.old.number }
+{
+    match way {
+        Way::Succeed => emptied(alloc, k, p, stack),
+        Way::Fail => fails_as(alloc, k, p, stack, Row::IaFail, Error::IaFailed),
+    }
+}
+
+/// Keeps what the row tells of a stack that failed.
+fn note(falls: &mut Falls, went: Went) -> Result<(), Starved>
+    ensures { OnOk result (falls.new ≡ falls.old ++ goals.falls_of went) }
+{
+    match went {
+        Went::Failed { row: _, fall } => falls.push(fall),
+        _ => Ok(()),
+    }
+}
+
+/// Ends the lowest means of the goal, which stands on top of the stack, or makes the stack fail. What failed is put
+/// last.
+pub fn treat<B: BeliefBase, A: Actions>(
+    alloc: Global,
+    k: &Around<A>,
+    p: &mut Parts<B>,
+    way: Way,
+    stack: &mut Stack,
+    falls: &mut Falls,
+) -> Result<(), Starved>
+    ensures made { let x = goals.treated
+        (parts.around k.now.lib.plans (B.rules p.old.beliefs) (A.solve k.now.actions) k.now.budgets) way
+        (parts.parts (B.beliefs p.old.beliefs) p.old.agenda p.old.number) stack.old in
+        OnOk result ((parts.parts (B.beliefs p.new.beliefs) p.new.agenda p.new.number ≡ x.parts) × (stack.new ≡ x.cur)
+        × (falls.new ≡ falls.old ++ goals.falls_of x.went)) }
+    ensures beliefs { p.new.beliefs ≡ p.old.beliefs }
+    ensures number { p.new.number ≡ p.old.number }
+{
+    let went = ended(alloc, k, p, way, stack)?;
+    note(falls, went)
+}
+
+/// Puts what is left of a stack last, where something is.
+fn put_left(list: &mut Stacks, stack: Stack) -> Result<(), Starved>
+    ensures { OnOk result (list.new ≡ list.old ++ goals.what_is_left stack) }
+{
+    if stack.len() == 0 {
+        return Ok(());
+    }
+    list.push(stack)
+}
+
+/// Treats a stack with the goal, and puts what is left of it to the back of those that run.
+fn treat_to_back<B: BeliefBase, A: Actions>(
+    alloc: Global,
+    k: &Around<A>,
+    p: &mut Parts<B>,
+    way: Way,
+    cut: Stack,
+    falls: &mut Falls,
+) -> Result<(), Starved>
+    ensures made { let x = goals.treated
+        (parts.around k.now.lib.plans (B.rules p.old.beliefs) (A.solve k.now.actions) k.now.budgets) way
+        (parts.parts (B.beliefs p.old.beliefs) p.old.agenda p.old.number) cut in
+        OnOk result ((parts.parts (B.beliefs p.new.beliefs) p.new.agenda p.new.number ≡ goals.to_back x.parts x.cur)
+        × (falls.new ≡ falls.old ++ goals.falls_of x.went)) }
+    ensures beliefs { p.new.beliefs ≡ p.old.beliefs }
+    ensures number { p.new.number ≡ p.old.number }
+{
+    let mut stack = cut;
+    treat(alloc, k, p, way, &mut stack, falls)?;
+    put_left(&mut p.agenda.running, stack)
+}
+
+/// One of the stacks that run: what is left of it keeps its place.
+fn sweep_stack<B: BeliefBase, A: Actions>(
+    alloc: Global,
+    k: &Around<A>,
+    p: &mut Parts<B>,
+    way: Way,
+    g: &Literal,
+    stack: Stack,
+    left: &mut Stacks,
+    falls: &mut Falls,
+) -> Result<(), Starved>
+    ensures made { let s = goals.in_place
+        (parts.around k.now.lib.plans (B.rules p.old.beliefs) (A.solve k.now.actions) k.now.budgets) way g.now
+        (parts.parts (B.beliefs p.old.beliefs) p.old.agenda p.old.number) stack (goals.from_lowest g.now stack) in
+        OnOk result ((parts.parts (B.beliefs p.new.beliefs) p.new.agenda p.new.number ≡ s.parts)
+        × (left.new ≡ left.old ++ s.left) × (falls.new ≡ falls.old ++ s.falls)) }
+    ensures beliefs { p.new.beliefs ≡ p.old.beliefs }
+    ensures number { p.new.number ≡ p.old.number }
+{
+    let mut stack = stack;
+    let has = cut_to_goal(alloc, &mut stack, g)?;
+    if !has {
+        return left.push(stack);
+    }
+    treat(alloc, k, p, way, &mut stack, falls)?;
+    put_left(left, stack)
+}
+
+/// One of the events: it stays, or what is left of its stack goes to the back of those that run.
+fn sweep_event<B: BeliefBase, A: Actions>(
+    alloc: Global,
+    k: &Around<A>,
+    p: &mut Parts<B>,
+    way: Way,
+    g: &Literal,
+    e: Event,
+    left: &mut Events,
+    falls: &mut Falls,
+) -> Result<(), Starved>
+    ensures made { let s = goals.taken_out
+        (parts.around k.now.lib.plans (B.rules p.old.beliefs) (A.solve k.now.actions) k.now.budgets) way g.now
+        (parts.parts (B.beliefs p.old.beliefs) p.old.agenda p.old.number) e (goals.from_lowest g.now e.stack) in
+        OnOk result ((parts.parts (B.beliefs p.new.beliefs) p.new.agenda p.new.number ≡ s.parts)
+        × (left.new ≡ left.old ++ s.left) × (falls.new ≡ falls.old ++ s.falls)) }
+    ensures beliefs { p.new.beliefs ≡ p.old.beliefs }
+    ensures number { p.new.number ≡ p.old.number }
+{
+    let Event {
+        trigger,
+        stack,
+        error,
+    } = e;
+    let mut stack = stack;
+    let has = cut_to_goal(alloc, &mut stack, g)?;
+    if has {
+        return treat_to_back(alloc, k, p, way, stack, falls);
+    }
+    left.push(Event {
+        trigger,
+        stack,
+        error,
+    })
+}
+
+/// One of the asks, in the same way.
+fn sweep_ask<B: BeliefBase, A: Actions>(
+    alloc: Global,
+    k: &Around<A>,
+    p: &mut Parts<B>,
+    way: Way,
+    g: &Literal,
+    a: Ask,
+    left: &mut Asks,
+    falls: &mut Falls,
+) -> Result<(), Starved>
+    ensures made { let s = goals.taken_out
+        (parts.around k.now.lib.plans (B.rules p.old.beliefs) (A.solve k.now.actions) k.now.budgets) way g.now
+        (parts.parts (B.beliefs p.old.beliefs) p.old.agenda p.old.number) a (goals.from_lowest g.now a.stack) in
+        OnOk result ((parts.parts (B.beliefs p.new.beliefs) p.new.agenda p.new.number ≡ s.parts)
+        × (left.new ≡ left.old ++ s.left) × (falls.new ≡ falls.old ++ s.falls)) }
+    ensures beliefs { p.new.beliefs ≡ p.old.beliefs }
+    ensures number { p.new.number ≡ p.old.number }
+{
+    let Ask {
+        number,
+        answer,
+        stack,
+    } = a;
+    let mut stack = stack;
+    let has = cut_to_goal(alloc, &mut stack, g)?;
+    if has {
+        return treat_to_back(alloc, k, p, way, stack, falls);
+    }
+    left.push(Ask {
+        number,
+        answer,
+        stack,
+    })
+}
+
+/// The stacks that run.
+fn sweep_running<B: BeliefBase, A: Actions>(
+    alloc: Global,
+    k: &Around<A>,
+    p: &mut Parts<B>,
+    way: Way,
+    g: &Literal,
+    falls: &mut Falls,
+) -> Result<(), Starved>
+    ensures made { let e = parts.around k.now.lib.plans (B.rules p.old.beliefs) (A.solve k.now.actions) k.now.budgets in
+        let old = parts.parts (B.beliefs p.old.beliefs) p.old.agenda p.old.number in
+        OnOk result ((parts.parts (B.beliefs p.new.beliefs) p.new.agenda p.new.number ≡ goals.running_swept e way g.now old)
+        × (falls.new ≡ falls.old ++ (goals.sweep_running e way g.now old).falls)) }
+    ensures beliefs { p.new.beliefs ≡ p.old.beliefs }
+    ensures number { p.new.number ≡ p.old.number }
+{
+    let running = mem::replace(&mut p.agenda.running, Seq::new(alloc));
+    let mut left = Seq::new(alloc);
+    for stack in running.into_vec() {
+        sweep_stack(alloc, k, p, way, g, stack, &mut left, falls)?;
+    }
+    p.agenda.running = left;
+    Ok(())
+}
+
+/// Those of events. What was posted meanwhile goes behind the events that stay.
+fn sweep_events<B: BeliefBase, A: Actions>(
+    alloc: Global,
+    k: &Around<A>,
+    p: &mut Parts<B>,
+    way: Way,
+    g: &Literal,
+    falls: &mut Falls,
+) -> Result<(), Starved>
+    ensures made { let e = parts.around k.now.lib.plans (B.rules p.old.beliefs) (A.solve k.now.actions) k.now.budgets in
+        let old = parts.parts (B.beliefs p.old.beliefs) p.old.agenda p.old.number in
+        OnOk result ((parts.parts (B.beliefs p.new.beliefs) p.new.agenda p.new.number ≡ goals.events_swept e way g.now old)
+        × (falls.new ≡ falls.old ++ (goals.sweep_events e way g.now old).falls)) }
+    ensures beliefs { p.new.beliefs ≡ p.old.beliefs }
+    ensures number { p.new.number ≡ p.old.number }
+{
+    let events = mem::replace(&mut p.agenda.events, Seq::new(alloc));
+    let mut left = Seq::new(alloc);
+    for event in events.into_vec() {
+        sweep_event(alloc, k, p, way, g, event, &mut left, falls)?;
+    }
+    let posted = mem::replace(&mut p.agenda.events, Seq::new(alloc));
+    left.append_all(posted)?;
+    p.agenda.events = left;
+    Ok(())
+}
+
+/// Those that wait for an answer.
+fn sweep_asks<B: BeliefBase, A: Actions>(
+    alloc: Global,
+    k: &Around<A>,
+    p: &mut Parts<B>,
+    way: Way,
+    g: &Literal,
+    falls: &mut Falls,
+) -> Result<(), Starved>
+    ensures made { let e = parts.around k.now.lib.plans (B.rules p.old.beliefs) (A.solve k.now.actions) k.now.budgets in
+        let old = parts.parts (B.beliefs p.old.beliefs) p.old.agenda p.old.number in
+        OnOk result ((parts.parts (B.beliefs p.new.beliefs) p.new.agenda p.new.number ≡ goals.asks_swept e way g.now old)
+        × (falls.new ≡ falls.old ++ (goals.sweep_asks e way g.now old).falls)) }
+    ensures beliefs { p.new.beliefs ≡ p.old.beliefs }
+    ensures number { p.new.number ≡ p.old.number }
+{
+    let asks = mem::replace(&mut p.agenda.asks, Seq::new(alloc));
+    let mut left = Seq::new(alloc);
+    for ask in asks.into_vec() {
+        sweep_ask(alloc, k, p, way, g, ask, &mut left, falls)?;
+    }
+    p.agenda.asks = left;
+    Ok(())
+}
+
+/// All stacks but the current one: those that run, those of events, and those that wait for an answer. The result says
+/// which failed.
+pub fn sweep_all<B: BeliefBase, A: Actions>(
+    alloc: Global,
+    k: &Around<A>,
+    p: &mut Parts<B>,
+    way: Way,
+    g: &Literal,
+) -> Result<Falls, Starved>
+    ensures swept { OnOk result (parts.parts (B.beliefs p.new.beliefs) p.new.agenda p.new.number ≡ goals.all_swept
+        (parts.around k.now.lib.plans (B.rules p.old.beliefs) (A.solve k.now.actions) k.now.budgets) way g.now
+        (parts.parts (B.beliefs p.old.beliefs) p.old.agenda p.old.number)) }
+    ensures falls { IfOk result (λ f. f ≡ goals.all_falls
+        (parts.around k.now.lib.plans (B.rules p.old.beliefs) (A.solve k.now.actions) k.now.budgets) way g.now
+        (parts.parts (B.beliefs p.old.beliefs) p.old.agenda p.old.number)) }
+    ensures beliefs { p.new.beliefs ≡ p.old.beliefs }
+    ensures number { p.new.number ≡ p.old.number }
+{
+    let mut falls = Seq::new(alloc);
+    sweep_running(alloc, k, p, way, g, &mut falls)?;
+    sweep_events(alloc, k, p, way, g, &mut falls)?;
+    sweep_asks(alloc, k, p, way, g, &mut falls)?;
+    Ok(falls)
+}

@@ -1,0 +1,4 @@
+pub mod Found
+pub mod Grounds
+pub mod Unasked
+pub mod Walks

@@ -1,0 +1,6 @@
+use Rattle.std.proofs.Common.{◌≡◌, map}
+use Rattle.asl_kqml.specs.Receive as spec
+use Rattle.asl_kqml.proofs.sourced.all_only_from.Given as goal
+
+abbrev pub invariant-loop-l : goal.invariant-loop-l
+invariant-loop-l l = l.r ≡ map (spec.only_from l.name) l.yielded

@@ -1,0 +1,179 @@
+-- What a message does. The rows are asked in the order of Tell, Untell, Achieve, Unachieve, AskOne, AskAll, AskSpent, Reply,
+-- ReplyFail, Ignore; the first whose condition holds applies.
+use Rattle.std.specs.Prelude.{ℕ, ◌+◌, ◌&&◌, not, cond, eqb, true, List, [], ◌∷◌, ◌++◌, map, filter, Option, None, Some, codes}
+use Rattle.std.specs.List.{list_all}
+use Rattle.asl_term.specs.declared.syntax.LiteralOf.{LiteralOf}
+use Rattle.asl_term.specs.declared.syntax.Term.{Term}
+use Rattle.asl_term.specs.declared.syntax.Term.TheVariants as term
+use Rattle.asl_term.specs.declared.syntax.Kind.TheVariants as kind
+use Rattle.asl_term.specs.declared.syntax.Expr.TheVariants as expr
+use Rattle.asl_unify.specs.declared.subst.Pair.{Pair}
+use Rattle.asl_unify.specs.Applied.{applied_literal, within_literal}
+use Rattle.asl_unify.specs.Compare.{ask}
+use Rattle.asl_unify.specs.Limits.{within}
+use Rattle.asl_unify.specs.Matches.{agreed}
+use Rattle.asl_unify.specs.Puts.{nil}
+use Rattle.asl_unify.specs.Renamed.{renamed}
+use Rattle.asl_unify.specs.Sealed.{sealed}
+use Rattle.asl_unify.specs.Unified.{unified}
+use Rattle.asl_beliefs.specs.Bases.{facts_of}
+use Rattle.asl_beliefs.specs.Changes.{Changed, followed, without_match, removed, all_added}
+use Rattle.asl_beliefs.specs.Sources.{plain, source, is_source, with_annots}
+use Rattle.asl_resolve.specs.declared.answers.Answer.{Answer}
+use Rattle.asl_resolve.specs.declared.answers.Answer.TheVariants as answer
+use Rattle.asl_resolve.specs.declared.answers.Answers.{Answers}
+use Rattle.asl_resolve.specs.declared.answers.Answers.TheVariants as answers
+use Rattle.asl_resolve.specs.Base.{base}
+use Rattle.asl_resolve.specs.Marks.{marks, every}
+use Rattle.asl_intend.specs.declared.entry.Means.{Means}
+use Rattle.asl_intend.specs.declared.agenda.Ask.{Ask}
+use Rattle.asl_intend.specs.declared.agenda.Error.TheVariants as error
+use Rattle.asl_intend.specs.Stacks.{bound, without_head}
+use Rattle.asl_intend.specs.Agendas.{external_event, ask_of, without_ask, without_desires}
+use Rattle.asl_fail.specs.Fails.{fails}
+use Rattle.asl_exec.specs.declared.rows.Row.{Row}
+use Rattle.asl_exec.specs.declared.rows.Row.TheVariants as row
+use Rattle.asl_exec.specs.Parts.{Around, Parts, with_agenda, with_number, post, believing}
+use Rattle.asl_exec.specs.Exec.{sought}
+use Rattle.mas_mind.specs.declared.mind.Message.{Message}
+use Rattle.mas_mind.specs.declared.mind.Verb.{Verb}
+use Rattle.mas_mind.specs.declared.mind.Verb.TheVariants as verb
+use Rattle.asl_kqml.specs.declared.peers.Peers.{Peers}
+use Rattle.asl_kqml.specs.declared.took.Took.{Took}
+use Rattle.asl_kqml.specs.declared.took.Took.TheVariants as took
+use Rattle.asl_kqml.specs.Contents.{agent_name, literal_of, literals_of, ground_literals, is_nothing}
+
+-- what a message leaves, and what it did
+pub record Received : Type 0 where
+  pub parts : Parts
+  pub took : Took
+
+abbrev pub received : Parts → Took → Received
+received p t = record { parts = p; took = t }
+
+-- a row with neither a reply nor a failure
+abbrev pub by : Row → Parts → Received
+by r p = received p (took.Row r None [])
+
+abbrev pub ignored : Parts → Received
+ignored = by row.Ignore
+
+-- ---- Tell and Untell
+
+-- without its sources, and with this one as the last
+abbrev pub sourced : List ℕ → LiteralOf Term → LiteralOf Term
+sourced name l = with_annots l (filter (λ a. not (is_source a)) l.annots ++ source name ∷ [])
+
+-- with no annotation but this source
+abbrev pub only_from : List ℕ → LiteralOf Term → LiteralOf Term
+only_from name l = with_annots l (source name ∷ [])
+
+-- each is removed, one after another
+abbrev pub all_removed : List (LiteralOf Term) → List (LiteralOf Term) → Changed
+all_removed [] bs = record { beliefs = bs; events = [] }
+all_removed (l ∷ more) bs = followed (without_match (removed l [] bs)) (all_removed more)
+
+abbrev pub changed : Row → Parts → Changed → Received
+changed r p c = by r (believing p c.beliefs c.events)
+
+abbrev pub tell : List ℕ → Parts → Option (List (LiteralOf Term)) → Received
+tell name p None = ignored p
+tell name p (Some ls) = changed row.Tell p (all_added (map (sourced name) ls) p.beliefs)
+
+abbrev pub untell : List ℕ → Parts → Option (List (LiteralOf Term)) → Received
+untell name p None = ignored p
+untell name p (Some ls) = changed row.Untell p (all_removed (map (only_from name) ls) p.beliefs)
+
+-- ---- Achieve and Unachieve
+
+abbrev pub achieve : List ℕ → Parts → Option (LiteralOf Term) → Received
+achieve name p None = ignored p
+achieve name p (Some g) = by row.Achieve (post p (external_event (record { add = true; kind = kind.Achieve; lit = sourced name g })))
+
+abbrev pub unachieve : Parts → Option (LiteralOf Term) → Received
+unachieve p None = ignored p
+unachieve p (Some g) = by row.Unachieve (with_agenda p (without_desires g p.agenda))
+
+-- ---- AskOne, AskAll, AskSpent
+
+-- the reply to a message. It carries the number of the ask; to an ask without one it is sent only where it says something
+abbrev pub reply : ℕ → Message → Term → Option Message
+reply me m t = cond (eqb m.ask 0 && is_nothing t) None
+    (Some (record { from = me; to = m.from; verb = verb.Tell; content = sealed t; ask = 0; reply = m.ask }))
+
+abbrev pub replies : Row → Parts → Option Message → Received
+replies r p m = received p (took.Row r m [])
+
+-- `false`
+abbrev pub no : Term
+no = plain (codes "false") []
+
+-- a result past the limits counts as a fault
+abbrev pub one_answer : LiteralOf Term → Answer → Term
+one_answer g (answer.Found s n) = cond (within_literal (applied_literal s g)) (term.Lit (applied_literal s g)) no
+one_answer g other = no
+
+abbrev pub ask_one : ℕ → Message → Parts → LiteralOf Term → Answer → Received
+ask_one me m p g (answer.Spent b) = received p (took.Spent b)
+ask_one me m p g other = replies row.AskOne p (reply me m (one_answer g other))
+
+abbrev pub list : List (LiteralOf Term) → Term
+list ls = term.List (record { items = map term.Lit ls; tail = None })
+
+abbrev pub limited_list : List (LiteralOf Term) → Term
+limited_list ls = cond (list_all within_literal ls && within (list ls)) (list ls) nil
+
+abbrev pub all_answer : LiteralOf Term → Answers → Term
+all_answer g (answers.All found) = limited_list (map (λ s. applied_literal s g) found)
+all_answer g other = nil
+
+abbrev pub ask_all : ℕ → Message → Parts → LiteralOf Term → Answers → Received
+ask_all me m p g (answers.Spent b) = received p (took.Spent b)
+ask_all me m p g other = replies row.AskAll p (reply me m (all_answer g other))
+
+-- what the search for all solutions answers
+abbrev pub sought_all : Around → Parts → LiteralOf Term → Answers
+sought_all k p g = every k.budgets.tries [] (marks (base (facts_of p.beliefs k.rules) k.solve) k.budgets.depth (expr.Holds g) [] p.number)
+
+abbrev pub asks_one : Around → ℕ → Message → Parts → Option (LiteralOf Term) → Received
+asks_one k me m p None = ignored p
+asks_one k me m p (Some g) = ask_one me m p g (sought k p (expr.Holds g))
+
+abbrev pub asks_all : Around → ℕ → Message → Parts → Option (LiteralOf Term) → Received
+asks_all k me m p None = ignored p
+asks_all k me m p (Some g) = ask_all me m p g (sought_all k p g)
+
+-- ---- Reply and ReplyFail
+
+-- the stack goes to the back of those that run
+abbrev pub runs : Parts → List Means → Parts
+runs p stack = with_agenda p (record p.agenda { running = p.agenda.running ++ stack ∷ [] })
+
+abbrev pub answered : Around → Parts → List Means → Option (List Pair) → Received
+answered k p stack (Some s) = by row.Reply (runs p (without_head (bound s stack)))
+answered k p stack None =
+    let f = fails k.plans p.number error.IaFailed p.agenda stack in
+    received (with_agenda p f.agenda) (took.Row row.ReplyFail None (record { error = error.IaFailed; fell = f.fell } ∷ []))
+
+-- the ask is answered: the term that takes the answer is the left one
+abbrev pub answers_ask : Around → Parts → ℕ → Term → Option Ask → Received
+answers_ask k p n content None = ignored p
+answers_ask k p n content (Some a) =
+    answered k (with_agenda p (record p.agenda { asks = without_ask n p.agenda.asks })) a.stack (agreed (unified [] (ask a.answer content ∷ [])))
+
+-- ---- the row of a message
+
+abbrev pub tells : Around → List ℕ → Parts → Message → Term → Received
+tells k name p m content = cond (eqb m.reply 0) (tell name p (ground_literals content)) (answers_ask k p m.reply content (ask_of m.reply p.agenda.asks))
+
+abbrev pub of_verb : Around → ℕ → List ℕ → Parts → Message → Term → Verb → Received
+of_verb k me name p m content verb.Tell = tells k name p m content
+of_verb k me name p m content verb.Untell = untell name p (literals_of content)
+of_verb k me name p m content verb.Achieve = achieve name p (literal_of content)
+of_verb k me name p m content verb.Unachieve = unachieve p (literal_of content)
+of_verb k me name p m content verb.AskOne = asks_one k me m p (literal_of content)
+of_verb k me name p m content verb.AskAll = asks_all k me m p (literal_of content)
+
+-- the content is renamed by the counter, which rises by one (shut, so that proofs above do not look inside)
+unfoldable pub receive : Around → Peers → Parts → Message → Received
+receive k peers p m = of_verb k peers.me (agent_name peers.names m.from) (with_number p (p.number + 1)) m (renamed p.number m.content) m.verb

@@ -1,0 +1,238 @@
+//! The rows AskOne, AskAll and AskSpent.
+
+ghost use Rattle.std.specs.Prelude.{◌≡◌, ◌+◌, ◌<◌, ◌^◌, ◌-◌, cond, map, Some, None, IfOk};
+ghost use Rattle.std.specs.List.{list_all};
+ghost use Rattle.asl_term.specs.declared.syntax.Term.TheVariants as term;
+ghost use Rattle.asl_unify.specs.Applied.{applied_literal, within_literal};
+ghost use Rattle.asl_exec.specs.Parts as parts;
+ghost use Rattle.asl_kqml.specs.Receive as spec;
+
+use crate::content::is_nothing;
+use crate::took::{Took, by};
+use asl_beliefs::base::BeliefBase;
+use asl_exec::goals::sought;
+use asl_exec::parts::{Around, Parts};
+use asl_exec::rows::Row;
+use asl_resolve::actions::Actions;
+use asl_resolve::all::all;
+use asl_resolve::answers::{Answer, Answers};
+use asl_term::copying::{copy_literal, text_of};
+use asl_term::sequence::{Seq, Starved};
+use asl_term::syntax::{Expr, ListingOf, Literal, LiteralOf, Term, Terms};
+use asl_unify::limits::{TermFault, within};
+use asl_unify::seal::seal;
+use asl_unify::subst::{Subst, no_subst};
+use asl_unify::tree::Tree;
+use mas_mind::mind::{Message, Verb};
+use std::alloc::Global;
+
+/// The reply to a message. To an ask that nothing waits for it is sent only where it says something.
+fn reply(alloc: Global, me: u32, m: &Message, t: &Term) -> Result<Option<Message>, Starved>
+    ensures { IfOk result (λ r. r ≡ spec.reply me m.now t.now) }
+{
+    if m.ask == 0 && is_nothing(t) {
+        return Ok(None);
+    }
+    let content = seal(alloc, t)?;
+    Ok(Some(Message {
+        from: me,
+        to: m.from,
+        verb: Verb::Tell,
+        content,
+        ask: 0,
+        reply: m.ask,
+    }))
+}
+
+/// A row with this reply.
+fn replies(alloc: Global, row: Row, me: u32, m: &Message, t: &Term) -> Result<Took, Starved>
+    ensures { IfOk result (λ took. (p : parts.Parts) → spec.replies row p (spec.reply me m.now t.now) ≡ spec.received p took) }
+{
+    let reply = reply(alloc, me, m, t)?;
+    Ok(Took::Row {
+        row,
+        reply,
+        falls: Seq::new(alloc),
+    })
+}
+
+/// `false`
+fn no(alloc: Global) -> Result<Term, Starved>
+    ensures { IfOk result (λ t. t ≡ spec.no) }
+{
+    let functor = text_of(alloc, b"false")?;
+    Ok(Term::Lit(LiteralOf {
+        neg: false,
+        functor,
+        args: Seq::new(alloc),
+        annots: Seq::new(alloc),
+    }))
+}
+
+/// A goal under a solution. A result past the limits counts as a fault.
+fn found_one(alloc: Global, g: &Literal, s: &Subst) -> Result<Term, Starved>
+    ensures { let l = applied_literal s.now g.now in IfOk result (λ t. t ≡ cond (within_literal l) (term.Lit l) spec.no) }
+{
+    match g.apply(alloc, s) {
+        Ok(l) => Ok(Term::Lit(l)),
+        Err(TermFault::TermLimit) => no(alloc),
+        Err(TermFault::Memory) => Err(Starved),
+    }
+}
+
+/// AskOne or AskSpent, by the answer of the search.
+fn ask_one(
+    alloc: Global,
+    me: u32,
+    m: &Message,
+    g: &Literal,
+    answer: &Answer,
+) -> Result<Took, Starved>
+    ensures { IfOk result (λ t. (p : parts.Parts) → spec.ask_one me m.now p g.now answer.now ≡ spec.received p t) }
+{
+    match answer {
+        Answer::Spent(b) => Ok(Took::Spent(*b)),
+        Answer::Found { subst, next: _ } => {
+            let t = found_one(alloc, g, subst)?;
+            replies(alloc, Row::AskOne, me, m, &t)
+        }
+        Answer::Nothing | Answer::Arith | Answer::TermLimit => {
+            let t = no(alloc)?;
+            replies(alloc, Row::AskOne, me, m, &t)
+        }
+    }
+}
+
+/// What each solution makes of a goal. None where some result passes the limits.
+fn each_applied(alloc: Global, g: &Literal, found: &[Subst]) -> Result<Option<Terms>, Starved>
+    ensures { let ls = map (λ s. applied_literal s g.now) found.now in
+        IfOk result (λ r. r ≡ cond (list_all within_literal ls) (Some (map term.Lit ls)) None) }
+{
+    let mut items = Seq::new(alloc);
+    for s in found {
+        match g.apply(alloc, s) {
+            Ok(l) => items.push(Term::Lit(l))?,
+            Err(TermFault::TermLimit) => return Ok(None),
+            Err(TermFault::Memory) => return Err(Starved),
+        }
+    }
+    Ok(Some(items))
+}
+
+/// A list of these items.
+fn list(items: Terms) -> Term
+    ensures { result ≡ term.List (record { items = items; tail = None }) }
+{
+    Term::List(ListingOf { items, tail: None })
+}
+
+/// The results of a goal as a list, which is empty where one of them or the list passes the limits.
+fn found_list(alloc: Global, g: &Literal, found: &[Subst]) -> Result<Term, Starved>
+    ensures { IfOk result (λ t. t ≡ spec.limited_list (map (λ s. applied_literal s g.now) found.now)) }
+{
+    match each_applied(alloc, g, found)? {
+        None => Ok(list(Seq::new(alloc))),
+        Some(items) => {
+            let t = list(items);
+            if within(&t) {
+                Ok(t)
+            } else {
+                Ok(list(Seq::new(alloc)))
+            }
+        }
+    }
+}
+
+/// AskAll or AskSpent, by the answer of the search.
+fn ask_all(
+    alloc: Global,
+    me: u32,
+    m: &Message,
+    g: &Literal,
+    answer: &Answers,
+) -> Result<Took, Starved>
+    ensures { IfOk result (λ t. (p : parts.Parts) → spec.ask_all me m.now p g.now answer.now ≡ spec.received p t) }
+{
+    match answer {
+        Answers::Spent(b) => Ok(Took::Spent(*b)),
+        Answers::All(found) => {
+            let t = found_list(alloc, g, found.as_slice())?;
+            replies(alloc, Row::AskAll, me, m, &t)
+        }
+        Answers::Arith | Answers::TermLimit => {
+            let t = list(Seq::new(alloc));
+            replies(alloc, Row::AskAll, me, m, &t)
+        }
+    }
+}
+
+/// What the search for all solutions of a goal answers.
+fn sought_all<B: BeliefBase, A: Actions>(
+    alloc: Global,
+    k: &Around<A>,
+    p: &Parts<B>,
+    g: &Literal,
+) -> Result<Answers, Starved>
+    requires { p.now.number + k.now.budgets.tries < 2 ^ 64 - 1 }
+    ensures { IfOk result (λ r. r ≡ spec.sought_all
+        (parts.around k.now.lib.plans (B.rules p.now.beliefs) (A.solve k.now.actions) k.now.budgets)
+        (parts.parts (B.beliefs p.now.beliefs) p.now.agenda p.now.number) g.now) }
+{
+    let e = Expr::Holds(copy_literal(alloc, g)?);
+    all(
+        alloc,
+        &p.beliefs,
+        &k.actions,
+        &e,
+        &no_subst(alloc),
+        p.number,
+        &k.budgets,
+    )
+}
+
+/// AskOne or AskSpent, or Ignore where there is no goal.
+pub fn asks_one<B: BeliefBase, A: Actions>(
+    alloc: Global,
+    k: &Around<A>,
+    me: u32,
+    p: &Parts<B>,
+    m: &Message,
+    g: &Option<Literal>,
+) -> Result<Took, Starved>
+    requires { p.now.number + k.now.budgets.tries < 2 ^ 64 - 1 }
+    ensures { let q = parts.parts (B.beliefs p.now.beliefs) p.now.agenda p.now.number in
+        IfOk result (λ t. spec.asks_one (parts.around k.now.lib.plans (B.rules p.now.beliefs) (A.solve k.now.actions) k.now.budgets) me m.now q g.now
+        ≡ spec.received q t) }
+{
+    match g {
+        None => Ok(by(alloc, Row::Ignore)),
+        Some(g) => {
+            let e = Expr::Holds(copy_literal(alloc, g)?);
+            let answer = sought(alloc, k, p, &e)?;
+            ask_one(alloc, me, m, g, &answer)
+        }
+    }
+}
+
+/// AskAll or AskSpent, or Ignore where there is no goal.
+pub fn asks_all<B: BeliefBase, A: Actions>(
+    alloc: Global,
+    k: &Around<A>,
+    me: u32,
+    p: &Parts<B>,
+    m: &Message,
+    g: &Option<Literal>,
+) -> Result<Took, Starved>
+    requires { p.now.number + k.now.budgets.tries < 2 ^ 64 - 1 }
+    ensures { let q = parts.parts (B.beliefs p.now.beliefs) p.now.agenda p.now.number in
+        IfOk result (λ t. spec.asks_all (parts.around k.now.lib.plans (B.rules p.now.beliefs) (A.solve k.now.actions) k.now.budgets) me m.now q g.now
+        ≡ spec.received q t) }
+{
+    match g {
+        None => Ok(by(alloc, Row::Ignore)),
+        Some(g) => {
+            let answer = sought_all(alloc, k, p, g)?;
+            ask_all(alloc, me, m, g, &answer)
+        }
+    }
+}

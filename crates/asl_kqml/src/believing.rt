@@ -1,0 +1,110 @@
+//! The rows Tell and Untell.
+
+ghost use Rattle.std.specs.Prelude.{◌≡◌, true, IfOk, IfSome, OnOk, option_to_list};
+ghost use Rattle.asl_beliefs.specs.Bases.{all_ground};
+ghost use Rattle.asl_beliefs.specs.Changes as changes;
+ghost use Rattle.asl_exec.specs.Parts as parts;
+ghost use Rattle.asl_kqml.specs.Receive as spec;
+
+use crate::sourced::{all_only_from, all_sourced};
+use crate::took::{Took, by};
+use asl_beliefs::base::BeliefBase;
+use asl_beliefs::removed::{BeliefFault, Removed};
+use asl_exec::parts::{Parts, tell_one};
+use asl_exec::rows::Row;
+use asl_term::sequence::Starved;
+use asl_term::syntax::{Literal, Literals, Text, Trigger};
+use asl_unify::subst::no_subst;
+use std::alloc::Global;
+
+/// Adds literals one after another, and posts their events.
+fn add_all<B: BeliefBase>(alloc: Global, p: &mut Parts<B>, ls: &[Literal]) -> Result<(), Starved>
+    requires { all_ground ls.now ≡ true }
+    ensures beliefs { OnOk result (B.beliefs p.new.beliefs ≡ (changes.all_added ls.now (B.beliefs p.old.beliefs)).beliefs) }
+    ensures agenda { OnOk result (p.new.agenda
+        ≡ parts.told p.old.agenda (changes.all_added ls.now (B.beliefs p.old.beliefs)).events) }
+    ensures rules { B.rules p.new.beliefs ≡ B.rules p.old.beliefs }
+    ensures number { p.new.number ≡ p.old.number }
+{
+    for l in ls {
+        match p.beliefs.add(alloc, l) {
+            Ok(event) => tell_one(alloc, &mut p.agenda, event)?,
+            Err(BeliefFault::NotGround) => unreachable!(),
+            Err(BeliefFault::Memory) => return Err(Starved),
+        }
+    }
+    Ok(())
+}
+
+/// The event of what was removed.
+fn event_of(removed: Option<Removed>) -> Option<Trigger>
+    ensures { option_to_list result ≡ changes.removed_events removed }
+{
+    match removed {
+        None => None,
+        Some(r) => {
+            let Removed { event, subst: _ } = r;
+            Some(event)
+        }
+    }
+}
+
+/// Removes literals one after another, and posts their events.
+fn remove_all<B: BeliefBase>(alloc: Global, p: &mut Parts<B>, ls: &[Literal]) -> Result<(), Starved>
+    ensures beliefs { OnOk result (B.beliefs p.new.beliefs ≡ (spec.all_removed ls.now (B.beliefs p.old.beliefs)).beliefs) }
+    ensures agenda { OnOk result (p.new.agenda
+        ≡ parts.told p.old.agenda (spec.all_removed ls.now (B.beliefs p.old.beliefs)).events) }
+    ensures rules { B.rules p.new.beliefs ≡ B.rules p.old.beliefs }
+    ensures number { p.new.number ≡ p.old.number }
+{
+    for l in ls {
+        let removed = p.beliefs.remove(alloc, l, &no_subst(alloc))?;
+        tell_one(alloc, &mut p.agenda, event_of(removed))?;
+    }
+    Ok(())
+}
+
+/// Tell, or Ignore where there are no literals.
+pub fn tell<B: BeliefBase>(
+    alloc: Global,
+    name: &Text,
+    p: &mut Parts<B>,
+    ls: Option<Literals>,
+) -> Result<Took, Starved>
+    requires { IfSome ls (λ held. all_ground held ≡ true) }
+    ensures made { IfOk result (λ t. spec.tell name.now (parts.parts (B.beliefs p.old.beliefs) p.old.agenda p.old.number) ls
+        ≡ spec.received (parts.parts (B.beliefs p.new.beliefs) p.new.agenda p.new.number) t) }
+    ensures rules { B.rules p.new.beliefs ≡ B.rules p.old.beliefs }
+    ensures number { p.new.number ≡ p.old.number }
+{
+    match ls {
+        None => Ok(by(alloc, Row::Ignore)),
+        Some(ls) => {
+            let named = all_sourced(alloc, name, ls)?;
+            add_all(alloc, p, named.as_slice())?;
+            Ok(by(alloc, Row::Tell))
+        }
+    }
+}
+
+/// Untell, or Ignore where there are no literals.
+pub fn untell<B: BeliefBase>(
+    alloc: Global,
+    name: &Text,
+    p: &mut Parts<B>,
+    ls: Option<Literals>,
+) -> Result<Took, Starved>
+    ensures made { IfOk result (λ t. spec.untell name.now (parts.parts (B.beliefs p.old.beliefs) p.old.agenda p.old.number) ls
+        ≡ spec.received (parts.parts (B.beliefs p.new.beliefs) p.new.agenda p.new.number) t) }
+    ensures rules { B.rules p.new.beliefs ≡ B.rules p.old.beliefs }
+    ensures number { p.new.number ≡ p.old.number }
+{
+    match ls {
+        None => Ok(by(alloc, Row::Ignore)),
+        Some(ls) => {
+            let named = all_only_from(alloc, name, ls)?;
+            remove_all(alloc, p, named.as_slice())?;
+            Ok(by(alloc, Row::Untell))
+        }
+    }
+}

@@ -1,0 +1,96 @@
+//! The row of a message.
+
+ghost use Rattle.std.specs.Prelude.{◌≡◌, ◌+◌, ◌<◌, ◌^◌, ◌-◌, IfOk};
+ghost use Rattle.asl_exec.specs.Parts as parts;
+ghost use Rattle.asl_kqml.specs.Receive as spec;
+
+use crate::asks::{asks_all, asks_one};
+use crate::believing::{tell, untell};
+use crate::content::{ground_literals, literal_of, literals_of};
+use crate::goals::{achieve, unachieve};
+use crate::peers::{Peers, agent_name};
+use crate::replies::answers_ask;
+use crate::took::Took;
+use asl_beliefs::base::BeliefBase;
+use asl_exec::parts::{Around, Parts};
+use asl_resolve::actions::Actions;
+use asl_term::sequence::Starved;
+use asl_term::syntax::{Term, Text};
+use asl_unify::rename::rename_term;
+use mas_mind::mind::{Message, Verb};
+use std::alloc::Global;
+
+/// The row of what is told: Tell, Reply, ReplyFail or Ignore.
+fn tells<B: BeliefBase, A: Actions>(
+    alloc: Global,
+    k: &Around<A>,
+    name: &Text,
+    p: &mut Parts<B>,
+    m: &Message,
+    content: &Term,
+) -> Result<Took, Starved>
+    ensures made { IfOk result (λ t. spec.tells
+        (parts.around k.now.lib.plans (B.rules p.old.beliefs) (A.solve k.now.actions) k.now.budgets) name.now
+        (parts.parts (B.beliefs p.old.beliefs) p.old.agenda p.old.number) m.now content.now
+        ≡ spec.received (parts.parts (B.beliefs p.new.beliefs) p.new.agenda p.new.number) t) }
+    ensures rules { B.rules p.new.beliefs ≡ B.rules p.old.beliefs }
+    ensures number { p.new.number ≡ p.old.number }
+{
+    if m.reply == 0 {
+        let ls = ground_literals(alloc, content)?;
+        return tell(alloc, name, p, ls);
+    }
+    answers_ask(alloc, k, p, m.reply, content)
+}
+
+/// The row of a message, by its verb. The content is renamed already.
+fn of_verb<B: BeliefBase, A: Actions>(
+    alloc: Global,
+    k: &Around<A>,
+    me: u32,
+    name: &Text,
+    p: &mut Parts<B>,
+    m: &Message,
+    content: &Term,
+) -> Result<Took, Starved>
+    requires { p.old.number + k.now.budgets.tries < 2 ^ 64 - 1 }
+    ensures made { IfOk result (λ t. spec.of_verb
+        (parts.around k.now.lib.plans (B.rules p.old.beliefs) (A.solve k.now.actions) k.now.budgets) me name.now
+        (parts.parts (B.beliefs p.old.beliefs) p.old.agenda p.old.number) m.now content.now m.now.verb
+        ≡ spec.received (parts.parts (B.beliefs p.new.beliefs) p.new.agenda p.new.number) t) }
+    ensures rules { B.rules p.new.beliefs ≡ B.rules p.old.beliefs }
+    ensures number { p.new.number ≡ p.old.number }
+{
+    match m.verb {
+        Verb::Tell => tells(alloc, k, name, p, m, content),
+        Verb::Untell => untell(alloc, name, p, literals_of(alloc, content)?),
+        Verb::Achieve => achieve(alloc, name, p, literal_of(alloc, content)?),
+        Verb::Unachieve => unachieve(alloc, p, &literal_of(alloc, content)?),
+        Verb::AskOne => asks_one(alloc, k, me, p, m, &literal_of(alloc, content)?),
+        Verb::AskAll => asks_all(alloc, k, me, p, m, &literal_of(alloc, content)?),
+    }
+}
+
+/// The row of a message. The counter rises by one.
+#[tactic(auto, unfolding(crate::specs::Receive::receive))]
+pub fn receive<B: BeliefBase, A: Actions>(
+    alloc: Global,
+    k: &Around<A>,
+    peers: &Peers,
+    p: &mut Parts<B>,
+    m: &Message,
+) -> Result<Took, Starved>
+    requires { p.old.number + k.now.budgets.tries + 1 < 2 ^ 64 - 1 }
+    ensures made { IfOk result (λ t. spec.receive
+        (parts.around k.now.lib.plans (B.rules p.old.beliefs) (A.solve k.now.actions) k.now.budgets) peers.now
+        (parts.parts (B.beliefs p.old.beliefs) p.old.agenda p.old.number) m.now
+        ≡ spec.received (parts.parts (B.beliefs p.new.beliefs) p.new.agenda p.new.number) t) }
+    ensures rules { B.rules p.new.beliefs ≡ B.rules p.old.beliefs }
+    ensures number { p.new.number ≡ p.old.number + 1 }
+{
+    let number = p.number;
+    p.number += 1;
+    let content = rename_term(alloc, &m.content, number)?;
+    let name = agent_name(alloc, &peers.names, m.from)?;
+    of_verb(alloc, k, peers.me, &name, p, m, &content)
+}
