@@ -2,6 +2,8 @@
 #![tactic(auto)]
 
 #[cfg(test)]
+mod artifacts;
+#[cfg(test)]
 mod edge;
 #[cfg(test)]
 mod laws;

@@ -1,0 +1,90 @@
+//! Artifacts, which no run uses yet.
+
+use asl_term::copying::text_of;
+use asl_term::measure::ground_literal;
+use asl_term::printing_expr::write_literal;
+use asl_term::sequence::{Seq, Starved};
+use asl_term::syntax::{Literal, LiteralOf, Term, Text};
+use mas_artifact::slot::Slot;
+use mas_artifact::tally::Tally;
+use mas_mind::mind::Feedback;
+use mas_world::artifact::Artifact;
+use std::alloc::Global;
+
+fn action(alloc: Global, name: &[u8], arg: Option<i64>) -> Result<Literal, Starved> {
+    let mut args = Seq::new(alloc);
+    if let Some(n) = arg {
+        args.push(Term::Num(n))?;
+    }
+    Ok(LiteralOf {
+        neg: false,
+        functor: text_of(alloc, name)?,
+        args,
+        annots: Seq::new(alloc),
+    })
+}
+
+/// Whether the agent's action is done. One with a variable is none.
+fn does<A: Artifact>(
+    alloc: Global,
+    artifact: &mut A,
+    agent: &[u8],
+    name: &[u8],
+    arg: Option<i64>,
+) -> Result<bool, Starved> {
+    let agent = text_of(alloc, agent)?;
+    let action = action(alloc, name, arg)?;
+    if !ground_literal(&action) {
+        return Ok(false);
+    }
+    Ok(artifact.operate(alloc, &agent, &action)? == Feedback::Done)
+}
+
+/// The facts, one behind the other.
+fn shown<A: Artifact>(alloc: Global, artifact: &A) -> Result<Text, Starved> {
+    let mut facts = Seq::new(alloc);
+    artifact.observe(&mut facts)?;
+    let mut out = Seq::new(alloc);
+    for fact in facts.as_slice() {
+        write_literal(alloc, fact, &mut out)?;
+    }
+    Ok(out)
+}
+
+#[test]
+fn a_slot_is_held_by_one(rt: HostRuntime) -> Result<(), Starved> {
+    let alloc = rt.alloc();
+    let mut slot = Slot::new(alloc)?;
+    assert!(rt; slot.name().as_slice() == b"slot".as_slice());
+    assert!(rt; does(alloc, &mut slot, b"a", b"slot_take", None)?);
+    assert!(rt; !does(alloc, &mut slot, b"b", b"slot_take", None)?);
+    assert!(rt; !does(alloc, &mut slot, b"b", b"slot_give", None)?);
+    let held = shown(alloc, &slot)?;
+    assert!(rt; held.as_slice() == b"slot(held(a))".as_slice());
+    assert!(rt; does(alloc, &mut slot, b"a", b"slot_give", None)?);
+    let idle = shown(alloc, &slot)?;
+    assert!(rt; idle.as_slice() == b"slot(idle)".as_slice());
+    Ok(())
+}
+
+#[test]
+fn a_tally_adds(rt: HostRuntime) -> Result<(), Starved> {
+    let alloc = rt.alloc();
+    let mut tally = Tally::new(alloc)?;
+    assert!(rt; tally.name().as_slice() == b"tally".as_slice());
+    assert!(rt; does(alloc, &mut tally, b"a", b"tally_add", Some(5))?);
+    assert!(rt; !does(alloc, &mut tally, b"a", b"tally_add", Some(0))?);
+    assert!(rt;
+        !does(
+            alloc,
+            &mut tally,
+            b"a",
+            b"tally_add",
+            Some(9223372036854775807)
+        )?
+    );
+    assert!(rt; !does(alloc, &mut tally, b"a", b"tally_add", None)?);
+    let told = shown(alloc, &tally)?;
+    assert!(rt; told.as_slice() == b"tally(5)".as_slice());
+    Ok(())
+}
