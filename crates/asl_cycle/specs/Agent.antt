@@ -9,8 +9,9 @@ use Rattle.mas_mind.specs.declared.mind.Input.{Input}
 use Rattle.mas_mind.specs.declared.mind.Level.{Level}
 use Rattle.mas_mind.specs.declared.mind.Feedback.{Feedback}
 use Rattle.mas_mind.specs.Minds.{Cycled, Kind, asks_feedback}
+use Rattle.asl_kqml.specs.Contents.{agent_name}
 use Rattle.asl_kqml.specs.declared.peers.Peers.{Peers}
-use Rattle.asl_cycle.specs.Solving.{no_solution}
+use Rattle.asl_stdlib.specs.Solving.{solve}
 use Rattle.asl_cycle.specs.Opening.{opening_parts}
 use Rattle.asl_cycle.specs.Cycle.{Ran, cycle}
 use Rattle.asl_cycle.specs.Trace.{shown}
@@ -30,9 +31,13 @@ pub record Mindset : Type 0 where
   pub peers : Peers
   pub text : List ℕ
 
--- what none of its rows changes
+-- the agent's own name
+abbrev pub own_name : Peers → List ℕ
+own_name peers = agent_name peers.names peers.me
+
+-- what none of its rows changes: the internal actions of formulas are asked under the agent's own name
 abbrev pub surroundings : Mindset → Around
-surroundings m = around m.plans m.rules no_solution m.budgets
+surroundings m = around m.plans m.rules (solve (own_name m.peers)) m.budgets
 
 -- the agent after a cycle: one cycle more, and those of its lines that the level shows; it awaits feedback for an action
 abbrev pub after_cycle : Mindset → Ran → Cycled Mindset

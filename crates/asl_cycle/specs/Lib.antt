@@ -1,4 +1,3 @@
-pub mod Solving
 pub mod Steps
 pub mod Cycle
 pub mod Trace

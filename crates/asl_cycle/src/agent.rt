@@ -6,15 +6,15 @@ ghost use Rattle.asl_cycle.specs.Agent.{opening_mind};
 ghost use Rattle.mas_mind.specs.Minds.{asks_feedback};
 
 use crate::cycle::cycle;
-use crate::inner::NoActions;
 use crate::opening::{add_goals, copy_names, copy_plans};
 use crate::trace::write_lines;
 use asl_beliefs::beliefs::Beliefs;
 use asl_exec::parts::{Around, Parts};
 use asl_intend::opening::agenda;
-use asl_kqml::peers::Peers;
+use asl_kqml::peers::{Peers, agent_name};
 use asl_plans::library::Library;
 use asl_resolve::answers::Budgets;
+use asl_stdlib::standard::StandardActions;
 use asl_term::names::Names;
 use asl_term::sequence::{Seq, Starved};
 use asl_term::syntax::{AgentText, Text};
@@ -26,7 +26,7 @@ use std::marker::Model;
 /// An agent. It makes at most 1,000,000 cycles.
 #[derive(Drop)]
 pub struct Agent {
-    around: Around<NoActions>,
+    around: Around<StandardActions>,
     parts: Parts<Beliefs>,
     asks: u64,
     kept: Option<Feedback>,
@@ -38,8 +38,8 @@ pub struct Agent {
 }
 
 impl Model for Agent {
-    ghost use Rattle.std.specs.Prelude.{◌≤◌, ◌+◌, ◌*◌};
-    ghost use Rattle.asl_cycle.specs.Agent.{Mindset};
+    ghost use Rattle.std.specs.Prelude.{◌≡◌, ◌≤◌, ◌+◌, ◌*◌};
+    ghost use Rattle.asl_cycle.specs.Agent.{Mindset, own_name};
     ghost use Rattle.asl_term.specs.contracts.syntax.Term as term;
     ghost use Rattle.asl_term.specs.contracts.syntax.Expr as expr;
     ghost use Rattle.std.specs.Coded.{codes};
@@ -63,7 +63,7 @@ impl Model for Agent {
     } };
 
     ghost invariant = { λ a. (a.parts.number ≤ 1 + 20000002 * a.cycles)
-        × ((a.asks ≤ 1 + a.cycles) × ((a.cycles ≤ 1000000) × (a.around.budgets.tries ≤ 10000000))) };
+        × ((a.asks ≤ 1 + a.cycles) × ((a.cycles ≤ 1000000) × ((a.around.budgets.tries ≤ 10000000) × (a.around.actions ≡ own_name a.peers)))) };
 }
 
 /// The agent of a source before its first cycle. It has the place `me` among the names of all agents, from 1. Its
@@ -87,11 +87,12 @@ pub fn open_agent(
     let beliefs = Beliefs::open(alloc, source, &mut events)?;
     add_goals(alloc, source.goals.as_slice(), &mut events)?;
     let agenda = agenda(alloc, events)?;
+    let actions = StandardActions::new(agent_name(alloc, names, me)?);
     let names = copy_names(alloc, names)?;
     Ok(Agent {
         around: Around {
             lib: Library { plans },
-            actions: NoActions,
+            actions,
             budgets,
         },
         parts: Parts {

@@ -5,7 +5,6 @@ pub mod agent;
 pub mod choosing;
 pub mod config;
 pub mod cycle;
-pub mod inner;
 pub mod laws;
 pub mod lines;
 pub mod opening;

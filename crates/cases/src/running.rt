@@ -3,7 +3,7 @@
 ghost use Rattle.std.specs.Prelude.{◌≡◌, ◌≤◌, IfOk, OnOk};
 
 use crate::comparing::{Difference, Got, agent_lines, first_difference, passes};
-use crate::form::{Fault, Given, Mode, Place, Plain, Section, Wanted};
+use crate::form::{Fault, Given, Mode, Permitted, Place, Plain, Section, Wanted};
 use crate::lines::{is_feed, read_lines};
 use crate::reading::{check_file, read_case, read_refused};
 use crate::telling::{put_difference, put_fault, put_place};
@@ -11,9 +11,13 @@ use asl_term::copying::{copy_text, text_of};
 use asl_term::room::Roomy;
 use asl_term::sequence::{Seq, Starved};
 use asl_term::syntax::{Filed, Files, Text};
+use mas_artifact::belt::Belt;
+use mas_artifact::slot::Slot;
+use mas_artifact::tally::Tally;
 use mas_io::memory::{MemoryShelf, MemorySink, memory_shelf, memory_sink};
 use mas_reading::status::{Status, code, fault_line};
 use mas_top::top::{replay_project, run_project, run_words};
+use mas_world::artifact::Artifact;
 use std::alloc::Global;
 use std::sync::Wait;
 use std::thread::Threads;
@@ -52,22 +56,45 @@ fn name_if(name: &Text) -> Option<&Text> {
     if name.len() == 0 { None } else { Some(name) }
 }
 
-fn call<R: Threads + Wait + Sync>(
+/// A call: that of words, or of a project, or of one along a schedule.
+#[derive(Clone, Copy)]
+enum Call<'a> {
+    Words(&'a [String]),
+    Run(&'a Text),
+    Replay(&'a Text, &'a Text),
+}
+
+fn call_of<'a>(plain: &Plain, asked: &'a Asked) -> Call<'a> {
+    if !plain.is_project {
+        return Call::Words(asked.words.as_slice());
+    }
+    match name_if(&asked.schedule) {
+        None => Call::Run(&asked.project),
+        Some(schedule) => Call::Replay(&asked.project, schedule),
+    }
+}
+
+/// Makes the call, with a tally, a slot and a belt.
+fn make<R: Threads + Wait + Sync>(
     rt: &R,
     alloc: Global,
-    plain: &Plain,
-    asked: &Asked,
+    permitted: &Permitted,
+    call: Call<'_>,
     shelf: &mut MemoryShelf,
     sink: &mut MemorySink,
-) -> Status {
-    if !plain.is_project {
-        return run_words(rt, alloc, asked.words.as_slice(), shelf, sink);
-    }
-    let options = &plain.permitted.options;
-    match name_if(&asked.schedule) {
-        None => run_project(rt, alloc, options, &asked.project, shelf, sink),
-        Some(schedule) => replay_project(rt, alloc, options, &asked.project, schedule, shelf, sink),
-    }
+) -> Result<Status, Starved> {
+    let mut all: Vec<Box<dyn Artifact + Send>> = Vec::new(alloc);
+    all.push(Box::new(alloc, Tally::new(alloc)?)?)?;
+    all.push(Box::new(alloc, Slot::new(alloc)?)?)?;
+    all.push(Box::new(alloc, Belt::new(alloc)?)?)?;
+    let o = &permitted.options;
+    Ok(match call {
+        Call::Words(words) => run_words(rt, alloc, words, shelf, sink, all),
+        Call::Run(project) => run_project(rt, alloc, o, project, shelf, sink, all),
+        Call::Replay(project, schedule) => {
+            replay_project(rt, alloc, o, project, schedule, shelf, sink, all)
+        }
+    })
 }
 
 /// What of the output is compared.
@@ -230,8 +257,8 @@ fn replayed<R: Threads + Wait + Sync>(
     let mut room = Roomy::new(alloc);
     room.reserve(done.written.len() as u64)?;
     let mut sink = memory_sink(room, 1_000_000, Seq::new(alloc));
-    let options = &plain.permitted.options;
-    let status = replay_project(rt, alloc, options, project, name, &mut shelf, &mut sink);
+    let call = Call::Replay(project, name);
+    let status = make(rt, alloc, &plain.permitted, call, &mut shelf, &mut sink)?;
     Ok(code(&status) == done.status && sink.written() == done.written)
 }
 
@@ -261,7 +288,8 @@ fn run<R: Threads + Wait + Sync>(
     let again = copy_files(alloc, &files)?;
     let mut shelf = memory_shelf(files, shelf_fails);
     let mut sink = memory_sink(room, plain.short, sink_fails);
-    let status = call(rt, alloc, plain, &asked, &mut shelf, &mut sink);
+    let call = call_of(plain, &asked);
+    let status = make(rt, alloc, &plain.permitted, call, &mut shelf, &mut sink)?;
     let written = sink.written().get(blanks..).unwrap_or(&[]);
     if !judge_end(alloc, plain, wanted, &status, written, reason)? {
         return Ok(false);

@@ -1,5 +1,5 @@
 -- The world of a file can be opened.
-use Rattle.std.proofs.Common.{◌≡◌, ℕ, Bool, true, false, ◌&&◌, ◌||◌, if◌then◌else◌, List, [], ◌∷◌, map, Option, Some, None, Result, Ok, Err, refl, sym, ap, subst, ◌∙◌}
+use Rattle.std.proofs.Common.{◌≡◌, ℕ, Bool, true, false, ◌&&◌, ◌||◌, if◌then◌else◌, List, [], ◌∷◌, ◌++◌, map, Option, Some, None, Result, Ok, Err, refl, sym, ap, subst, ◌∙◌}
 use Rattle.std.specs.List.{list_any, list_all, AllByRecursion, IsDistinct}
 use Rattle.asl_lexer.specs.declared.token.Tok.{Tok}
 use Rattle.asl_term.specs.declared.syntax.LiteralOf.{LiteralOf}
@@ -9,11 +9,11 @@ use Rattle.asl_term.specs.declared.syntax.Term.TheOpen.{Term-F}
 use Rattle.asl_term.specs.declared.syntax.Term.TheOpen as layer
 use Rattle.asl_term.specs.declared.syntax.Term.TheFolds.{fold-Term}
 use Rattle.asl_term.specs.Trees.{all}
+use Rattle.asl_term.specs.Names.{with_name}
 use Rattle.asl_term.proofs.Terms.{map_literal, fold_lit}
 use Rattle.asl_meaning.specs.Plain.{plain_step, is_plain, is_plain_literal}
 use Rattle.mas_world.specs.declared.acts.WorldText.{WorldText}
 use Rattle.mas_world.specs.Facts.{settled_step, is_settled, is_settled_literal, same_fact, AreFacts}
-use Rattle.mas_world.specs.Worlds.{AreNamed}
 use Rattle.env_file.specs.declared.fault.WorldFault.{WorldFault}
 use Rattle.env_file.specs.declared.fault.WorldFault.TheVariants.{Clause, UnknownArtifact}
 use Rattle.env_file.specs.declared.statement.Part.{Part}
@@ -22,7 +22,7 @@ use Rattle.env_file.specs.declared.statement.Statement.{Statement}
 use Rattle.env_file.specs.declared.statement.Statement.TheVariants as statement
 use Rattle.env_file.specs.Guards.{said_parts}
 use Rattle.env_file.specs.Binding.{unbound}
-use Rattle.env_file.specs.Worlds.{same_literal, has_name, use_made, bound_made, made, Answers, all_read, is_read, IsWorld}
+use Rattle.env_file.specs.Worlds.{same_literal, has_name, with_use, bound_made, made, Answers, all_read, is_read, IsWorld}
 use Rattle.env_file.proofs.Ground.{are_once, AreRead, read_facts}
 
 -- ---- without arithmetic
@@ -74,30 +74,51 @@ good_facts artifacts bytes text h =
     let r = read_facts artifacts bytes text h in
     record { grounded = r.ground; settled = all_settled text.facts r.plain; distinct = distinct text.facts r.once }
 
--- ---- no artifacts
+-- ---- artifacts that are there
 
-abbrev UsesNone : Result WorldText WorldFault → Type 0
-UsesNone (Ok v) = v.uses ≡ []
-UsesNone (Err fault) = Unit {0}
+abbrev AreKnown : List (List ℕ) → List (List ℕ) → Type 0
+AreKnown artifacts names = AllByRecursion (λ name. has_name artifacts name ≡ true) names
 
-module _ (w : WorldText) (h : w.uses ≡ []) (k : ℕ) (t : Tok) where
-  bound_none : (a : WrittenAct) (ps : List Part) (o : Option (List ℕ)) → UsesNone (bound_made w k a ps o)
-  bound_none a ps None = h
-  bound_none a ps (Some name) = tt
+abbrev UsesAre : List (List ℕ) → Result WorldText WorldFault → Type 0
+UsesAre artifacts (Ok v) = AreKnown artifacts v.uses
+UsesAre artifacts (Err fault) = Unit {0}
 
-  use_none : (name : List ℕ) (b : Bool) → UsesNone (if b then Err (Clause k t.line t.column) else Err (UnknownArtifact k name))
-  use_none name true = tt
-  use_none name false = tt
+-- a known name behind known names
+one_more : (artifacts names : List (List ℕ)) (name : List ℕ) → AreKnown artifacts names → has_name artifacts name ≡ true → AreKnown artifacts (names ++ name ∷ [])
+one_more artifacts [] name h e = (e, tt)
+one_more artifacts (n ∷ names) name h e = (h.0, one_more artifacts names name h.1 e)
 
-  made_none : (s : Statement) → UsesNone (made [] w k t s)
-  made_none (statement.Fact l) = h
-  made_none (statement.Hide name) = h
-  made_none (statement.Use name) = use_none name (has_name w.uses name)
-  made_none (statement.Act a) = bound_none a (said_parts a.guard) (unbound a (said_parts a.guard))
+put_known : (artifacts names : List (List ℕ)) (name : List ℕ) → AreKnown artifacts names → has_name artifacts name ≡ true → AreKnown artifacts (with_name names name)
+put_known artifacts names name h e = by_there (has_name names name)
+  where
+    by_there : (b : Bool) → AreKnown artifacts (if b then names else names ++ name ∷ [])
+    by_there true = h
+    by_there false = one_more artifacts names name h e
 
-read_none : {k : ℕ} {w : WorldText} {ps : List (List Tok)} {text : WorldText} → Answers [] k w ps (Ok text) → w.uses ≡ [] → text.uses ≡ []
-read_none all_read h = h
-read_none {k} {w} (is_read {t = t} {s = s} d r e m a) h = read_none a (subst UsesNone m (made_none w h k t s))
+module _ (artifacts : List (List ℕ)) (w : WorldText) (h : AreKnown artifacts w.uses) (k : ℕ) (t : Tok) where
+  bound_known : (a : WrittenAct) (ps : List Part) (o : Option (List ℕ)) → UsesAre artifacts (bound_made w k a ps o)
+  bound_known a ps None = h
+  bound_known a ps (Some name) = tt
 
-pub named_uses : (bytes : List ℕ) (text : WorldText) → IsWorld [] bytes text → AreNamed text.uses []
-named_uses bytes text h = subst (λ uses. AreNamed uses []) (sym (read_none h.answers refl)) tt
+  there_known : (name : List ℕ) (b : Bool) → has_name artifacts name ≡ b → UsesAre artifacts (if b then Ok (with_use w name) else Err (UnknownArtifact k name))
+  there_known name true e = put_known artifacts w.uses name h e
+  there_known name false e = tt
+
+  use_known : (name : List ℕ) (b : Bool) →
+      UsesAre artifacts (if b then Err (Clause k t.line t.column) else (if has_name artifacts name then Ok (with_use w name) else Err (UnknownArtifact k name)))
+  use_known name true = tt
+  use_known name false = there_known name (has_name artifacts name) refl
+
+  made_known : (s : Statement) → UsesAre artifacts (made artifacts w k t s)
+  made_known (statement.Fact l) = h
+  made_known (statement.Hide name) = h
+  made_known (statement.Use name) = use_known name (has_name w.uses name)
+  made_known (statement.Act a) = bound_known a (said_parts a.guard) (unbound a (said_parts a.guard))
+
+read_known : {artifacts : List (List ℕ)} {k : ℕ} {w : WorldText} {ps : List (List Tok)} {text : WorldText} → Answers artifacts k w ps (Ok text) →
+    AreKnown artifacts w.uses → AreKnown artifacts text.uses
+read_known all_read h = h
+read_known {artifacts} {k} {w} (is_read {t = t} {s = s} d r e m a) h = read_known a (subst (UsesAre artifacts) m (made_known artifacts w h k t s))
+
+pub uses_known : (artifacts : List (List ℕ)) (bytes : List ℕ) (text : WorldText) → IsWorld artifacts bytes text → AreKnown artifacts text.uses
+uses_known artifacts bytes text h = read_known h.answers tt

@@ -1,5 +1,6 @@
 -- What is true of world files.
-use Rattle.std.specs.Prelude.{◌≡◌, ℕ, List, [], false, Result}
+use Rattle.std.specs.Prelude.{◌≡◌, ℕ, List, true, false, Result}
+use Rattle.std.specs.List.{AllByRecursion}
 use Rattle.asl_meaning.specs.declared.lexeme.Lexeme.{Lexeme}
 use Rattle.asl_meaning.specs.Limits.{too_deep}
 use Rattle.mas_world.specs.declared.acts.WorldText.{WorldText}
@@ -8,8 +9,7 @@ use Rattle.env_file.specs.declared.statement.Statement.{Statement}
 use Rattle.env_file.specs.Statements.{Says}
 use Rattle.env_file.specs.Bare.{IsBare}
 use Rattle.mas_world.specs.Facts.{AreFacts}
-use Rattle.mas_world.specs.Worlds.{AreNamed}
-use Rattle.env_file.specs.Worlds.{IsAnswer, IsWorld}
+use Rattle.env_file.specs.Worlds.{has_name, IsAnswer, IsWorld}
 
 -- a clause says one thing at most
 abbrev pub OneStatement : Type 0
@@ -27,6 +27,8 @@ OneWorld = (artifacts : List (List ℕ)) (bytes : List ℕ) (r s : Result WorldT
 abbrev pub GoodFacts : Type 0
 GoodFacts = (artifacts : List (List ℕ)) (bytes : List ℕ) (text : WorldText) → IsWorld artifacts bytes text → AreFacts text.facts
 
--- where there are no artifacts, it uses none
-abbrev pub NamedUses : Type 0
-NamedUses = (bytes : List ℕ) (text : WorldText) → IsWorld [] bytes text → AreNamed text.uses []
+-- each name that a world file uses is that of an artifact
+abbrev pub UsesKnown : Type 0
+UsesKnown =
+    (artifacts : List (List ℕ)) (bytes : List ℕ) (text : WorldText) → IsWorld artifacts bytes text →
+    AllByRecursion (λ name. has_name artifacts name ≡ true) text.uses

@@ -1,6 +1,6 @@
 //! What is true of world files.
 
-ghost use Rattle.env_file.specs.Laws.{OneStatement, NoAnnotations, OneWorld, GoodFacts, NamedUses};
+ghost use Rattle.env_file.specs.Laws.{OneStatement, NoAnnotations, OneWorld, GoodFacts, UsesKnown};
 
 /// A clause says one thing at most.
 #[tactic(auto, using(crate::proofs::Answered::one_statement))]
@@ -19,9 +19,9 @@ pub fn one_world()
     ensures { OneWorld }
 {}
 
-/// The facts of a world file have no variables and no arithmetic, and none stands twice. Where there are no artifacts
-/// the file uses none.
+/// The facts of a world file have no variables and no arithmetic, and none stands twice. Each name that it uses is
+/// that of an artifact.
 pub fn worlds_open()
     ensures facts { GoodFacts }
-    ensures uses { NamedUses }
+    ensures uses { UsesKnown }
 {}

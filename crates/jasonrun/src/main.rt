@@ -1,10 +1,18 @@
 //! Runs agents written in AgentSpeak and writes the report of their run.
 #![tactic(auto)]
 
+use asl_term::sequence::Starved;
+use mas_artifact::belt::Belt;
+use mas_artifact::slot::Slot;
+use mas_artifact::tally::Tally;
 use mas_io::real::{FileShelf, OutSink};
 use mas_reading::status::{Status, code, fault_line};
 use mas_top::top::run_words;
+use mas_world::artifact::Artifact;
 use std::process::ExitCode;
+use std::rt::Files;
+use std::sync::Wait;
+use std::thread::Threads;
 use std::{env, io};
 
 /// The words of the command line without the program's own name.
@@ -34,13 +42,24 @@ fn tell(rt: &HostRuntime, status: &Status) {
     }
 }
 
+/// Does what the words ask for, over real files and output, with a tally, a slot and a belt.
+fn run<R: Files + Print + AllocGlobal + Threads + Wait + Sync>(
+    rt: &R,
+    words: &[String],
+) -> Result<Status, Starved> {
+    let alloc = rt.alloc();
+    let mut all: Vec<Box<dyn Artifact + Send>> = Vec::new(alloc);
+    all.push(Box::new(alloc, Tally::new(alloc)?)?)?;
+    all.push(Box::new(alloc, Slot::new(alloc)?)?)?;
+    all.push(Box::new(alloc, Belt::new(alloc)?)?)?;
+    let mut shelf = FileShelf::new(rt);
+    let mut sink = OutSink::new(rt);
+    Ok(run_words(rt, alloc, words, &mut shelf, &mut sink, all))
+}
+
 fn main(rt: HostRuntime) -> ExitCode {
     let status = match words_of(&rt) {
-        Ok(words) => {
-            let mut shelf = FileShelf::new(&rt);
-            let mut sink = OutSink::new(&rt);
-            run_words(&rt, rt.alloc(), &words, &mut shelf, &mut sink)
-        }
+        Ok(words) => run(&rt, &words).unwrap_or(Status::Memory),
         Err(error) => unread(&error),
     };
     tell(&rt, &status);

@@ -16,12 +16,13 @@ use Rattle.asl_term.specs.Variables.{any, occurs, occurs_step}
 use Rattle.asl_term.proofs.Terms.{OfTail, by_cases, fold_num, fold_str, fold_lit, fold_list, fold_op, out_made}
 use Rattle.asl_term.proofs.Grounds.{ground_var, ground_lit, ground_list, ground_op}
 use Rattle.asl_unify.specs.Compare.{var_in, var_of}
-use Rattle.asl_unify.specs.Puts.{apply, put, value_of}
+use Rattle.asl_unify.specs.Puts.{apply, as_list, cons, cons_list, ending, merged, put, put_step, value_of}
 use Rattle.asl_unify.specs.inner.Costs.{weight, weight_step, one_at}
 use Rattle.asl_unify.proofs.Costs.{weight-put, weight-linear}
 use Rattle.asl_unify.proofs.Meets.{occurs-met}
 use Rattle.asl_unify.proofs.Agree.{put-agree}
-use Rattle.asl_unify.proofs.Puts.{put-put}
+use Rattle.asl_unify.proofs.General.{put-lit, put-op}
+use Rattle.asl_unify.proofs.Puts.{list_of-made, put-list, put-nil, put-put}
 use Rattle.asl_unify.proofs.Views.{by_layers}
 
 both_true : (a b : Bool) → (a && b) ≡ true → (a ≡ true) × (b ≡ true)
@@ -107,3 +108,64 @@ pub ground_arg : (l : LiteralOf Term) (t : Term) → l.args ≡ t ∷ [] → is_
 ground_arg l t e g =
     let args = (both_true (all (map is_ground l.args)) (all (map is_ground l.annots)) (sym (ground_lit l) ∙ g)).0 in
     (both_true (is_ground t) true (sym (ap (λ ts. all (map is_ground ts)) e) ∙ args)).0
+
+-- ---- no variable comes in
+
+two_true : (a b : Bool) → a ≡ true → b ≡ true → (a && b) ≡ true
+two_true a b e f = ap (λ z. z && b) e ∙ f
+
+cons_ground : (x t : Term) → is_ground x ≡ true → is_ground t ≡ true → is_ground (cons x t) ≡ true
+cons_ground x t g = by_layers (λ t. is_ground t ≡ true → is_ground (cons x t) ≡ true) (λ y h. ap (λ o. is_ground (cons_list x (made y) o)) (list_of-made y) ∙ at y h) t where
+  other : (t : Term) → is_ground t ≡ true → is_ground (term.List (record { items = x ∷ []; tail = Some t })) ≡ true
+  other t h = ground_list (record { items = x ∷ []; tail = Some t }) ∙ (λ i. (g i && true) && h i)
+
+  at : (y : Term-F Term) → is_ground (made y) ≡ true → is_ground (cons_list x (made y) (as_list y)) ≡ true
+  at (layer.List l) h =
+      let parts = both_true (all (map is_ground l.items)) (or_true (option_map is_ground l.tail)) (sym (ground_list l) ∙ h) in
+      ground_list (record { items = x ∷ l.items; tail = l.tail }) ∙ (λ i. (g i && parts.0 i) && parts.1 i)
+  at (layer.Num n) h = other (term.Num n) h
+  at (layer.Str n) h = other (term.Str n) h
+  at (layer.Var n) h = other (term.Var n) h
+  at (layer.Lit n) h = other (term.Lit n) h
+  at (layer.Op n) h = other (term.Op n) h
+
+merged_ground : (xs : List Term) (t : Term) → all (map is_ground xs) ≡ true → is_ground t ≡ true → is_ground (merged xs t) ≡ true
+merged_ground [] t g h = h
+merged_ground (x ∷ xs) t g h =
+    let parts = both_true (is_ground x) (all (map is_ground xs)) g in cons_ground x (merged xs t) parts.0 (merged_ground xs t parts.1 h)
+
+abbrev Ground : Term → Type 0
+Ground t = is_ground t ≡ true → is_ground (put term.Var t) ≡ true
+
+all_ground : (ts : List Term) → AllByRecursion Ground ts → all (map is_ground ts) ≡ true → all (map is_ground (map (put term.Var) ts)) ≡ true
+all_ground [] a e = refl
+all_ground (t ∷ ts) a e =
+    let both = both_true (is_ground t) (all (map is_ground ts)) e in
+    two_true (is_ground (put term.Var t)) (all (map is_ground (map (put term.Var) ts))) (a.0 both.0) (all_ground ts a.1 both.1)
+
+end_ground : (t : Option Term) → OfTail Ground t → or_true (option_map is_ground t) ≡ true → is_ground (put term.Var (ending t)) ≡ true
+end_ground None a e = ap is_ground (put-nil term.Var) ∙ ground_list (record { items = []; tail = None })
+end_ground (Some t) a e = a e
+
+-- a ground term stays one
+pub still_ground : (t : Term) → is_ground t ≡ true → is_ground (put term.Var t) ≡ true
+still_ground = by_cases Ground (record {
+  at_num = λ n e. ap is_ground (fold_num Term (put_step term.Var) n) ∙ e;
+  at_str = λ b e. ap is_ground (fold_str Term (put_step term.Var) b) ∙ e;
+  at_var = λ v e. absurd (false≢true (sym (ground_var v) ∙ e));
+  at_lit = λ l args annots e.
+      let both = both_true (all (map is_ground l.args)) (all (map is_ground l.annots)) (sym (ground_lit l) ∙ e) in
+      ap is_ground (put-lit term.Var l)
+      ∙ ground_lit (record l { args = map (put term.Var) l.args; annots = map (put term.Var) l.annots })
+      ∙ two_true (all (map is_ground (map (put term.Var) l.args))) (all (map is_ground (map (put term.Var) l.annots)))
+      (all_ground l.args args both.0) (all_ground l.annots annots both.1);
+  at_list = λ l items tail e.
+      let both = both_true (all (map is_ground l.items)) (or_true (option_map is_ground l.tail)) (sym (ground_list l) ∙ e) in
+      ap is_ground (put-list term.Var l)
+      ∙ merged_ground (map (put term.Var) l.items) (put term.Var (ending l.tail)) (all_ground l.items items both.0) (end_ground l.tail tail both.1);
+  at_op = λ a left right e.
+      let both = both_true (is_ground a.left) (is_ground a.right) (sym (ground_op a) ∙ e) in
+      ap is_ground (put-op term.Var a)
+      ∙ ground_op (record a { left = put term.Var a.left; right = put term.Var a.right })
+      ∙ two_true (is_ground (put term.Var a.left)) (is_ground (put term.Var a.right)) (left both.0) (right both.1);
+})

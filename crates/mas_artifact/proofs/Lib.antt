@@ -4,3 +4,10 @@ pub mod Exchanges
 pub mod Slots
 pub mod Grounds
 pub mod Tallies
+pub mod Settled
+pub mod Rows
+pub mod Orders
+pub mod Entries
+pub mod Placings
+pub mod Liftings
+pub mod Belts

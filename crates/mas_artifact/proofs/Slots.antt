@@ -64,7 +64,7 @@ module _ (agent : List ℕ) where
       ap (λ ms. option_and_then (λ s. agreed (unified s (ask (variable (codes "A")) (atom agent) ∷ []))) (first_of ms)) (bare_matches f action false e)
 
 -- the first solution of a guard of one literal over one fact
-one_solution : (f : List ℕ) (t u v : Term) (s : List Pair) → bytes_eq f f ≡ true → ready s (literal f (t ∷ [])) ≡ Some (literal f (u ∷ []))
+pub one_solution : (f : List ℕ) (t u v : Term) (s : List Pair) → bytes_eq f f ≡ true → ready s (literal f (t ∷ [])) ≡ Some (literal f (u ∷ []))
     → first_of (solutions (literal f (v ∷ []) ∷ []) (expr.Holds (literal f (t ∷ [])) ∷ []) s) ≡ agreed (unified s (ask u v ∷ []))
 one_solution f t u v s h r =
     ap first_of (guard_held (literal f (v ∷ []) ∷ []) (expr.Holds (literal f (t ∷ []))) [] s (literal f (t ∷ [])) (literal f (u ∷ [])) refl (sym r))

@@ -1,16 +1,22 @@
 -- What the native states of the artifacts stand for, and what an action makes of them.
-use Rattle.std.specs.Option.{option_and_then}
-use Rattle.std.specs.Prelude.{ℤ, int_lt, ℕ, if◌then◌else◌, List, [], ◌∷◌, Option, Some, None, codes}
+use Rattle.std.specs.Option.{option_and_then, option_map}
+use Rattle.std.specs.Prelude.{◌≡◌, ℤ, int_lt, ℕ, ltb, Bool, true, false, ◌&&◌, if◌then◌else◌}
+use Rattle.std.specs.Prelude.{List, [], ◌∷◌, ◌++◌, length, map, remove, Option, Some, None, is_some, Ok, codes}
 use Rattle.std.specs.Str.{bytes_eq}
+use Rattle.asl_term.specs.Same.{all_same, same_tree}
+use Rattle.asl_term.specs.Trees.{all, is_ground}
+use Rattle.asl_term.specs.declared.syntax.ListingOf.{ListingOf}
 use Rattle.asl_term.specs.declared.syntax.LiteralOf.{LiteralOf}
 use Rattle.asl_term.specs.declared.syntax.Term.{Term}
+use Rattle.asl_unify.specs.Applied.{within_literal}
 use Rattle.asl_unify.specs.Compare.{same_frame}
+use Rattle.asl_unify.specs.Puts.{list_of, put}
 use Rattle.mas_mind.specs.declared.mind.Feedback.{Feedback}
 use Rattle.mas_mind.specs.declared.mind.Feedback.TheVariants.{Done, Failed}
 use Rattle.asl_term.specs.declared.syntax.Term.TheVariants as term
-use Rattle.asl_unify.specs.Settling.{number_of}
+use Rattle.asl_unify.specs.Settling.{each, number_of, settle}
 use Rattle.mas_world.specs.Guards.{ready}
-use Rattle.mas_artifact.specs.Tables.{sum, tally, variable, atom, held, idle, literal, slot}
+use Rattle.mas_artifact.specs.Tables.{atom, belt, held, idle, list, list_before, literal, slot, sum, tally, variable}
 
 -- ---- slot
 
@@ -62,3 +68,58 @@ raised n (Some m) = (Done, m)
 
 abbrev pub tally_acted : ℤ → LiteralOf Term → Feedback × ℤ
 tally_acted n action = if same_frame (literal (codes "tally_add") (variable (codes "K") ∷ [])) action then raised n (args_sum n action.args) else (Failed, n)
+
+-- ---- belt
+
+-- terms without variables and operations, with their lists merged, which on a belt are within the limits
+pub record AreKept (items : List Term) : Type 0 where
+  pub ground : all (map is_ground items) ≡ true
+  pub flat : map (put term.Var) items ≡ items
+  pub settled : each (map settle items) ≡ Ok items
+  pub inside : within_literal (belt (list items)) ≡ true
+
+abbrev pub belt_facts : List Term → List (LiteralOf Term)
+belt_facts items = belt (list items) ∷ []
+
+abbrev pub items_of : Option (ListingOf Term) → List Term
+items_of None = []
+items_of (Some l) = l.items
+
+-- the items in belt([..])
+abbrev pub items_in : List Term → List Term
+items_in [] = []
+items_in (t ∷ more) = items_of (list_of t)
+
+-- these items, settled, where belt([..]) is ready
+abbrev pub row : List Term → Option (List Term)
+row items = option_map (λ l. items_in l.args) (ready [] (belt (list items)))
+
+abbrev pub changed : List Term → Option (List Term) → Feedback × List Term
+changed items None = (Failed, items)
+changed items (Some new) = (Done, new)
+
+-- one more item goes last, where fewer than four stand there
+abbrev pub placed : List Term → Term → Feedback × List Term
+placed items t = if ltb (length items) 4 then changed items (row (items ++ t ∷ [])) else (Failed, items)
+
+abbrev pub are_these : List Term → Option (List Term) → Bool
+are_these items None = false
+are_these items (Some found) = all_same (map same_tree found) items
+
+-- whether belt([t|L]) is ready, and the items are the same with t as the first of them
+abbrev pub stands_first : Term → List Term → Bool
+stands_first t [] = false
+stands_first t (x ∷ more) = is_some (ready [] (belt (list_before t (variable (codes "L"))))) && are_these (x ∷ more) (row (t ∷ more))
+
+-- the first item goes, where it is the one that is asked for
+abbrev pub lifted : List Term → Term → Feedback × List Term
+lifted items t = if stands_first t items then (Done, remove items 0) else (Failed, items)
+
+abbrev pub moved : List Term → LiteralOf Term → List Term → Feedback × List Term
+moved items action [] = (Failed, items)
+moved items action (t ∷ more) =
+    if same_frame (literal (codes "belt_put") (variable (codes "X") ∷ [])) action then placed items t
+    else (if same_frame (literal (codes "belt_take") (variable (codes "P") ∷ [])) action then lifted items t else (Failed, items))
+
+abbrev pub belt_acted : List Term → LiteralOf Term → Feedback × List Term
+belt_acted items action = moved items action action.args

@@ -1,5 +1,5 @@
--- The tables of two artifacts.
-use Rattle.std.specs.Prelude.{ℕ, pos, false, List, [], ◌∷◌, codes}
+-- The tables of three artifacts.
+use Rattle.std.specs.Prelude.{ℕ, pos, false, List, [], ◌∷◌, ◌++◌, map, None, Some, codes}
 use Rattle.asl_term.specs.declared.syntax.Expr.{Expr}
 use Rattle.asl_term.specs.declared.syntax.Expr.TheVariants as expr
 use Rattle.asl_term.specs.declared.syntax.LiteralOf.{LiteralOf}
@@ -29,6 +29,14 @@ compound f args = term.Lit (literal f args)
 
 abbrev pub atom : List ℕ → Term
 atom name = compound name []
+
+-- [..]
+abbrev pub list : List Term → Term
+list items = term.List (record { items = items; tail = None })
+
+-- [x|more]
+abbrev pub list_before : Term → Term → Term
+list_before x more = term.List (record { items = x ∷ []; tail = Some more })
 
 abbrev pub sum : Term → Term → Term
 sum a b = term.Op (record { op = Add; left = a; right = b })
@@ -85,3 +93,30 @@ slot_give = act (literal (codes "slot_give") []) (slot (held (variable (codes "A
 
 abbrev pub slot_table : List Act
 slot_table = slot_take ∷ slot_give ∷ []
+
+-- ---- belt: at most four things in a row
+
+-- belt(t)
+abbrev pub belt : Term → LiteralOf Term
+belt t = literal (codes "belt") (t ∷ [])
+
+-- act belt_put(X) by A : belt([..]) -> -belt([..]), +belt([.., X])
+abbrev pub belt_put : List (List ℕ) → Act
+belt_put names =
+    let x = variable (codes "X") in
+    act (literal (codes "belt_put") (x ∷ [])) (belt (list (map variable names))) [] (belt (list (map variable names ++ x ∷ [])))
+
+-- act belt_take(P) by A : belt([P|L]) -> -belt([P|L]), +belt(L)
+abbrev pub belt_take : Act
+belt_take =
+    let p = variable (codes "P") in
+    let l = variable (codes "L") in
+    act (literal (codes "belt_take") (p ∷ [])) (belt (list_before p l)) [] (belt l)
+
+abbrev pub belt_table : List Act
+belt_table =
+    belt_put []
+    ∷ belt_put (codes "P" ∷ [])
+    ∷ belt_put (codes "P" ∷ codes "Q" ∷ [])
+    ∷ belt_put (codes "P" ∷ codes "Q" ∷ codes "R" ∷ [])
+    ∷ belt_take ∷ []

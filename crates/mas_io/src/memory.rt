@@ -68,8 +68,8 @@ pub fn memory_shelf(files: Files, fail: Numbers) -> MemoryShelf
     }
 }
 
-/// What the first file of that name gives.
-fn find(alloc: Global, files: &[Filed], name: &Text, most: u64) -> Result<Fetched, Starved>
+/// What the first file of that name gives: its bytes, where they are no more than `most`.
+pub fn find_file(alloc: Global, files: &[Filed], name: &Text, most: u64) -> Result<Fetched, Starved>
     ensures answer { IfOk result (λ f. f ≡ fetched files.now name.now most) }
     ensures no_failure { IfOk result (λ f. f ≢ Failed) }
     ensures starved { OnErr result (IsCopy (fetched files.now name.now most)) }
@@ -103,7 +103,7 @@ impl Shelf for MemoryShelf {
             self.calls.call(true);
             return Ok(Fetched::Failed);
         }
-        let found = find(alloc, self.files.as_slice(), name, most)?;
+        let found = find_file(alloc, self.files.as_slice(), name, most)?;
         self.calls.call(false);
         Ok(found)
     }

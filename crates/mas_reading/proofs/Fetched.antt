@@ -1,5 +1,5 @@
 -- What the bytes of a file make of it.
-use Rattle.std.proofs.Common.{ℕ, ◌≡◌, ◌≤◌, List, [], Option, sym, subst, refl, rules}
+use Rattle.std.proofs.Common.{ℕ, ◌≡◌, ◌≤◌, List, Option, sym, subst, refl, rules}
 use Rattle.asl_term.specs.declared.syntax.AgentText.{AgentText}
 use Rattle.asl_term.specs.declared.syntax.Filed.{Filed}
 use Rattle.asl_lexer.specs.declared.token.LexFault.{LexFault}
@@ -7,7 +7,7 @@ use Rattle.asl_lexer.specs.declared.token.LexFault.TheVariants as lex
 use Rattle.asl_lexer.specs.Lexing.{IsFirstFault}
 use Rattle.asl_reading.specs.declared.fault.TextFault.{TextFault}
 use Rattle.asl_reading.specs.declared.fault.TextFault.TheVariants as fault
-use Rattle.asl_grammar.specs.Agents.{IsNone}
+use Rattle.asl_grammar.specs.Agents.{IsAgent, IsNone}
 use Rattle.mas_world.specs.declared.acts.WorldText.{WorldText}
 use Rattle.env_file.specs.declared.fault.WorldFault.{WorldFault}
 use Rattle.env_file.specs.declared.fault.WorldFault.TheVariants as world
@@ -18,15 +18,12 @@ use Rattle.mas_project.specs.declared.fault.ProjectFault.TheVariants as project
 use Rattle.mas_project.specs.Projects as projects
 use Rattle.mas_io.specs.Causes.{Rose}
 use Rattle.mas_io.specs.declared.shelf.Fetched.TheVariants.{Bytes}
-use Rattle.mas_reading.specs.Later.{Runs}
 use Rattle.mas_reading.specs.Files as spec
 use Rattle.mas_reading.specs.Files.{Has, HasFile, Reader, IsRefusal, IsUnfetched, most_bytes}
-use Rattle.mas_reading.specs.Faults.{IsUnfit, lex_status, text_status, unfit_status, world_status, project_status}
-use Rattle.mas_reading.specs.declared.source.Unfit.{Unfit}
-use Rattle.mas_reading.specs.declared.source.Unfit.TheVariants as unfit
+use Rattle.mas_reading.specs.Faults.{lex_status, text_status, world_status, project_status}
 use Rattle.mas_reading.specs.declared.status.What.TheVariants as what
 use Rattle.mas_reading.specs.declared.status.Status.{Status}
-use Rattle.mas_reading.specs.declared.status.Status.TheVariants.{Ok, Usage, Missing, ReadFault, WriteFault, Refused, Limit, Budget, Memory, Later}
+use Rattle.mas_reading.specs.declared.status.Status.TheVariants.{Ok, Usage, Missing, ReadFault, WriteFault, Refused, Limit, Budget, Memory}
 
 -- ---- bytes that are not there
 
@@ -44,15 +41,14 @@ unfetched r name held before after (Limit what.Agents count) h = absurd h
 unfetched r name held before after (Limit what.Cycles count) h = absurd h
 unfetched r name held before after Budget h = absurd h
 unfetched r name held before after Memory h = tt
-unfetched r name held before after (Later file place) h = absurd h
 
 pub no_agent : (name : List ℕ) (held : Option (List Filed)) (before after : ℕ) (status : Status) → IsUnfetched 1048576 name held before after status →
     IsRefusal spec.agents name held before after status
 no_agent = unfetched spec.agents
 
-pub no_world : (name : List ℕ) (held : Option (List Filed)) (before after : ℕ) (status : Status) → IsUnfetched 1048576 name held before after status →
-    IsRefusal spec.worlds name held before after status
-no_world = unfetched spec.worlds
+pub no_world : (known : List (List ℕ)) (name : List ℕ) (held : Option (List Filed)) (before after : ℕ) (status : Status) → IsUnfetched 1048576 name held before after status →
+    IsRefusal (spec.worlds known) name held before after status
+no_world known = unfetched (spec.worlds known)
 
 pub no_project : (name : List ℕ) (held : Option (List Filed)) (before after : ℕ) (status : Status) → IsUnfetched 1048576 name held before after status →
     IsRefusal spec.projects name held before after status
@@ -74,12 +70,11 @@ refusal_from r name held first before after (Refused file place why) l h = h
 refusal_from r name held first before after (Limit quantity count) l h = h
 refusal_from r name held first before after Budget l h = absurd h
 refusal_from r name held first before after Memory l h = tt
-refusal_from r name held first before after (Later file place) l h = h
 
 -- ---- the file of an agent
 
-pub agent_file : (held : Option (List Filed)) (name bytes : List ℕ) (text : AgentText) → Has 1048576 held name (Bytes bytes) → Runs bytes text →
-    HasFile most_bytes held name (λ bytes. Runs bytes text)
+pub agent_file : (held : Option (List Filed)) (name bytes : List ℕ) (text : AgentText) → Has 1048576 held name (Bytes bytes) → IsAgent bytes text →
+    HasFile most_bytes held name (λ bytes. IsAgent bytes text)
 agent_file held name bytes text h g = record { bytes = bytes; has = h; are = g }
 
 -- a file whose bytes have no tokens
@@ -91,54 +86,49 @@ lex_agent name held before after bytes (lex.OpenString place) h r = record { sam
 lex_agent name held before after bytes (lex.OpenComment place) h r = record { same = refl; has = record { bytes = bytes; has = h; are = r } }
 lex_agent name held before after bytes (lex.NumberRange place) h r = record { same = refl; has = record { bytes = bytes; has = h; are = r } }
 
-text_file : (name : List ℕ) (held : Option (List Filed)) (before after : ℕ) (bytes : List ℕ) (why : TextFault) → Has 1048576 held name (Bytes bytes) → IsNone bytes why →
+text_by : (name : List ℕ) (held : Option (List Filed)) (before after : ℕ) (bytes : List ℕ) (why : TextFault) → Has 1048576 held name (Bytes bytes) → IsNone bytes why →
     IsRefusal spec.agents name held before after (text_status name why)
-text_file name held before after bytes fault.Memory h r = tt
-text_file name held before after bytes (fault.Lex why) h r = lex_agent name held before after bytes why h r
-text_file name held before after bytes (fault.Clause number line column) h r =
+text_by name held before after bytes fault.Memory h r = tt
+text_by name held before after bytes (fault.Lex why) h r = lex_agent name held before after bytes why h r
+text_by name held before after bytes (fault.Clause number line column) h r =
     record { same = refl; has = record { bytes = bytes; has = h; are = record { line = line; column = column; refused = r } } }
-text_file name held before after bytes (fault.Limit number) h r = record { bytes = bytes; has = h; are = r }
+text_by name held before after bytes (fault.Limit number) h r = record { bytes = bytes; has = h; are = r }
 
-unfit_by : (name : List ℕ) (held : Option (List Filed)) (before after : ℕ) (bytes : List ℕ) (why : Unfit) → Has 1048576 held name (Bytes bytes) → IsUnfit bytes why →
-    IsRefusal spec.agents name held before after (unfit_status name why)
-unfit_by name held before after bytes (unfit.Text why) h r = text_file name held before after bytes why h r
-unfit_by name held before after bytes (unfit.Later number) h r = record { same = refl; has = record { bytes = bytes; has = h; are = r } }
-
--- a file whose bytes are not run
-pub unfit_file : (name : List ℕ) (held : Option (List Filed)) (before after : ℕ) (bytes : List ℕ) (why : Unfit) (status : Status) → Has 1048576 held name (Bytes bytes) →
-    IsUnfit bytes why → status ≡ unfit_status name why → IsRefusal spec.agents name held before after status
-unfit_file name held before after bytes why status h r e =
-    subst (λ s. IsRefusal spec.agents name held before after s) (sym e) (unfit_by name held before after bytes why h r)
+-- a file whose bytes describe no agent
+pub text_file : (name : List ℕ) (held : Option (List Filed)) (before after : ℕ) (bytes : List ℕ) (why : TextFault) (status : Status) → Has 1048576 held name (Bytes bytes) →
+    IsNone bytes why → status ≡ text_status name why → IsRefusal spec.agents name held before after status
+text_file name held before after bytes why status h r e =
+    subst (λ s. IsRefusal spec.agents name held before after s) (sym e) (text_by name held before after bytes why h r)
 
 -- ---- that of a world
 
-pub world_file : (held : Option (List Filed)) (name bytes : List ℕ) (text : WorldText) → Has 1048576 held name (Bytes bytes) → env.IsWorld [] bytes text →
-    HasFile most_bytes held name (λ bytes. env.IsWorld [] bytes text)
-world_file held name bytes text h g = record { bytes = bytes; has = h; are = g }
+pub world_file : (known : List (List ℕ)) (held : Option (List Filed)) (name bytes : List ℕ) (text : WorldText) → Has 1048576 held name (Bytes bytes) → env.IsWorld known bytes text →
+    HasFile most_bytes held name (λ bytes. env.IsWorld known bytes text)
+world_file known held name bytes text h g = record { bytes = bytes; has = h; are = g }
 
-lex_world : (name : List ℕ) (held : Option (List Filed)) (before after : ℕ) (bytes : List ℕ) (why : LexFault) → Has 1048576 held name (Bytes bytes) →
-    IsFirstFault bytes why → IsRefusal spec.worlds name held before after (lex_status name why)
-lex_world name held before after bytes lex.Memory h r = tt
-lex_world name held before after bytes (lex.BadByte place) h r = record { same = refl; has = record { bytes = bytes; has = h; are = r } }
-lex_world name held before after bytes (lex.OpenString place) h r = record { same = refl; has = record { bytes = bytes; has = h; are = r } }
-lex_world name held before after bytes (lex.OpenComment place) h r = record { same = refl; has = record { bytes = bytes; has = h; are = r } }
-lex_world name held before after bytes (lex.NumberRange place) h r = record { same = refl; has = record { bytes = bytes; has = h; are = r } }
+lex_world : (known : List (List ℕ)) (name : List ℕ) (held : Option (List Filed)) (before after : ℕ) (bytes : List ℕ) (why : LexFault) → Has 1048576 held name (Bytes bytes) →
+    IsFirstFault bytes why → IsRefusal (spec.worlds known) name held before after (lex_status name why)
+lex_world known name held before after bytes lex.Memory h r = tt
+lex_world known name held before after bytes (lex.BadByte place) h r = record { same = refl; has = record { bytes = bytes; has = h; are = r } }
+lex_world known name held before after bytes (lex.OpenString place) h r = record { same = refl; has = record { bytes = bytes; has = h; are = r } }
+lex_world known name held before after bytes (lex.OpenComment place) h r = record { same = refl; has = record { bytes = bytes; has = h; are = r } }
+lex_world known name held before after bytes (lex.NumberRange place) h r = record { same = refl; has = record { bytes = bytes; has = h; are = r } }
 
-fault_by : (name : List ℕ) (held : Option (List Filed)) (before after : ℕ) (bytes : List ℕ) (why : WorldFault) → Has 1048576 held name (Bytes bytes) →
-    env.IsNone [] bytes why → IsRefusal spec.worlds name held before after (world_status name why)
-fault_by name held before after bytes world.Memory h r = tt
-fault_by name held before after bytes (world.Lex why) h r = lex_world name held before after bytes why h r
-fault_by name held before after bytes (world.Clause number line column) h r =
+fault_by : (known : List (List ℕ)) (name : List ℕ) (held : Option (List Filed)) (before after : ℕ) (bytes : List ℕ) (why : WorldFault) → Has 1048576 held name (Bytes bytes) →
+    env.IsNone known bytes why → IsRefusal (spec.worlds known) name held before after (world_status name why)
+fault_by known name held before after bytes world.Memory h r = tt
+fault_by known name held before after bytes (world.Lex why) h r = lex_world known name held before after bytes why h r
+fault_by known name held before after bytes (world.Clause number line column) h r =
     record { same = refl; has = record { bytes = bytes; has = h; are = record { line = line; column = column; refused = r } } }
-fault_by name held before after bytes (world.Limit number) h r = record { bytes = bytes; has = h; are = r }
-fault_by name held before after bytes (world.Unbound number variable) h r = record { same = refl; has = record { bytes = bytes; has = h; are = r } }
-fault_by name held before after bytes (world.UnknownArtifact number artifact) h r = record { same = refl; has = record { bytes = bytes; has = h; are = r } }
+fault_by known name held before after bytes (world.Limit number) h r = record { bytes = bytes; has = h; are = r }
+fault_by known name held before after bytes (world.Unbound number variable) h r = record { same = refl; has = record { bytes = bytes; has = h; are = r } }
+fault_by known name held before after bytes (world.UnknownArtifact number artifact) h r = record { same = refl; has = record { bytes = bytes; has = h; are = r } }
 
 -- a file whose bytes describe no world
-pub fault_file : (name : List ℕ) (held : Option (List Filed)) (before after : ℕ) (bytes : List ℕ) (why : WorldFault) (status : Status) →
-    Has 1048576 held name (Bytes bytes) → env.IsNone [] bytes why → status ≡ world_status name why → IsRefusal spec.worlds name held before after status
-fault_file name held before after bytes why status h r e =
-    subst (λ s. IsRefusal spec.worlds name held before after s) (sym e) (fault_by name held before after bytes why h r)
+pub fault_file : (known : List (List ℕ)) (name : List ℕ) (held : Option (List Filed)) (before after : ℕ) (bytes : List ℕ) (why : WorldFault) (status : Status) →
+    Has 1048576 held name (Bytes bytes) → env.IsNone known bytes why → status ≡ world_status name why → IsRefusal (spec.worlds known) name held before after status
+fault_file known name held before after bytes why status h r e =
+    subst (λ s. IsRefusal (spec.worlds known) name held before after s) (sym e) (fault_by known name held before after bytes why h r)
 
 -- ---- that of a project
 

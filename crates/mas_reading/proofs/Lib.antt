@@ -1,6 +1,6 @@
-pub mod Inner
 pub mod Folders
 pub mod Counted
+pub mod Artifacts
 pub mod Unless
 pub mod Fetched
 pub mod Parts

@@ -2,6 +2,7 @@
 use Rattle.std.proofs.Common.{ℕ, ◌≡◌, ◌≤◌, inl, inr, List, [], ◌∷◌, ◌++◌, length, Option, Some, sym, subst, refl, ap, ◌∙◌, append_assoc, append-nil}
 use Rattle.asl_term.specs.declared.syntax.AgentText.{AgentText}
 use Rattle.asl_term.specs.declared.syntax.Filed.{Filed}
+use Rattle.asl_grammar.specs.Agents.{IsAgent}
 use Rattle.mas_world.specs.declared.acts.WorldText.{WorldText}
 use Rattle.env_file.specs.Worlds.{IsWorld}
 use Rattle.mas_project.specs.declared.syntax.AgentLine.{AgentLine}
@@ -9,7 +10,6 @@ use Rattle.mas_project.specs.declared.syntax.ProjectText.{ProjectText}
 use Rattle.mas_project.specs.Names.{names_in}
 use Rattle.mas_reading.specs.declared.sources.Role.{Role}
 use Rattle.mas_reading.specs.declared.status.Status.{Status}
-use Rattle.mas_reading.specs.Later.{Runs}
 use Rattle.mas_reading.specs.Files.{HasFile, most_bytes, agents, worlds, IsRefusal}
 use Rattle.mas_reading.specs.Sources.{HasRole, HasRoles, HasWorld, LineRefused, WorldRefused, PartRefused, UnlessMemory}
 use Rattle.mas_reading.proofs.Fetched.{refusal_from}
@@ -21,7 +21,7 @@ abbrev pub role_of : AgentText → ℕ → Role
 role_of text count = record { text = text; count = count }
 
 pub role : (held : Option (List Filed)) (line : AgentLine) (text : AgentText) (count : ℕ) →
-    HasFile most_bytes held line.file (λ bytes. Runs bytes text) → count ≡ length (names_in line) → HasRole held line (role_of text count)
+    HasFile most_bytes held line.file (λ bytes. IsAgent bytes text) → count ≡ length (names_in line) → HasRole held line (role_of text count)
 role held line text count h e = record { text = h; count = e }
 
 -- so many lines were read, and these are left
@@ -68,19 +68,19 @@ stops held lines rest after roles line first before now status u e l r =
 
 -- ---- the world
 
-pub world_read : (held : Option (List Filed)) (name : List ℕ) (text : WorldText) → HasFile most_bytes held name (λ bytes. IsWorld [] bytes text) →
-    HasWorld held (Some name) (Some text)
-world_read held name text h = h
+pub world_read : (known : List (List ℕ)) (held : Option (List Filed)) (name : List ℕ) (text : WorldText) → HasFile most_bytes held name (λ bytes. IsWorld known bytes text) →
+    HasWorld known held (Some name) (Some text)
+world_read known held name text h = h
 
-pub world_unread : (held : Option (List Filed)) (name : List ℕ) (before after : ℕ) (status : Status) → IsRefusal worlds name held before after status →
-    WorldRefused (Some name) held before after status
-world_unread held name before after status r = record { name = name; named_is = refl; why = r }
+pub world_unread : (known : List (List ℕ)) (held : Option (List Filed)) (name : List ℕ) (before after : ℕ) (status : Status) → IsRefusal (worlds known) name held before after status →
+    WorldRefused known (Some name) held before after status
+world_unread known held name before after status r = record { name = name; named_is = refl; why = r }
 
 -- ---- both
 
-pub world_first : (held : Option (List Filed)) (p : ProjectText) (before after : ℕ) (status : Status) → WorldRefused p.world held before after status →
-    UnlessMemory (PartRefused p held before after) status
-world_first held p before after status w = unless (PartRefused p held before after) status (inl w)
+pub world_first : (known : List (List ℕ)) (held : Option (List Filed)) (p : ProjectText) (before after : ℕ) (status : Status) → WorldRefused known p.world held before after status →
+    UnlessMemory (PartRefused known p held before after) status
+world_first known held p before after status w = unless (PartRefused known p held before after) status (inl w)
 
 pub line_from : (held : Option (List Filed)) (lines : List AgentLine) (first before after : ℕ) (status : Status) → first ≤ before →
     LineRefused held lines before after status → LineRefused held lines first after status
@@ -94,8 +94,8 @@ line_from held lines first before after status l r = record {
   why = refusal_from agents r.line.file held first before after status l r.why;
 }
 
-pub then_agents : (held : Option (List Filed)) (p : ProjectText) (world : Option WorldText) (first before after : ℕ) (status : Status) → first ≤ before →
-    HasWorld held p.world world → UnlessMemory (LineRefused held p.agents before after) status → UnlessMemory (PartRefused p held first after) status
-then_agents held p world first before after status l w r =
-    unless_as (LineRefused held p.agents before after) (PartRefused p held first after)
+pub then_agents : (known : List (List ℕ)) (held : Option (List Filed)) (p : ProjectText) (world : Option WorldText) (first before after : ℕ) (status : Status) → first ≤ before →
+    HasWorld known held p.world world → UnlessMemory (LineRefused held p.agents before after) status → UnlessMemory (PartRefused known p held first after) status
+then_agents known held p world first before after status l w r =
+    unless_as (LineRefused held p.agents before after) (PartRefused known p held first after)
     (λ s h. inr (record { world = world; read = w; why = line_from held p.agents first before after s l h })) status r

@@ -9,8 +9,8 @@ use Rattle.asl_lexer.specs.Lexing.{IsFirstFault}
 use Rattle.asl_reading.specs.declared.fault.TextFault.{TextFault}
 use Rattle.asl_reading.specs.declared.fault.TextFault.TheVariants as fault
 use Rattle.asl_grammar.specs.declared.sentence.Sentence.{Sentence}
-use Rattle.asl_grammar.specs.Agents.{AreSentences, nothing, all_added}
-use Rattle.asl_grammar.proofs.Single.{one_answer}
+use Rattle.asl_grammar.specs.Agents.{AreSentences, IsAgent}
+use Rattle.asl_grammar.proofs.Single.{one_answer, one_agent}
 use Rattle.mas_world.specs.declared.acts.WorldText.{WorldText}
 use Rattle.env_file.specs.declared.fault.WorldFault.{WorldFault}
 use Rattle.env_file.specs.declared.fault.WorldFault.TheVariants as world
@@ -27,12 +27,11 @@ use Rattle.mas_io.specs.declared.shelf.Fetched.TheVariants.{Bytes, Missing as La
 use Rattle.mas_reading.specs.declared.sources.Role.{Role}
 use Rattle.mas_reading.specs.declared.sources.Source.{Source}
 use Rattle.mas_reading.specs.declared.status.Status.{Status}
-use Rattle.mas_reading.specs.declared.status.Status.TheVariants.{Ok, Usage, Missing, ReadFault, WriteFault, Refused, Limit, Budget, Memory, Later}
+use Rattle.mas_reading.specs.declared.status.Status.TheVariants.{Ok, Usage, Missing, ReadFault, WriteFault, Refused, Limit, Budget, Memory}
 use Rattle.mas_reading.specs.declared.status.Reason.{Reason}
 use Rattle.mas_reading.specs.declared.status.Reason.TheVariants as reason
 use Rattle.mas_reading.specs.declared.status.What.{What}
 use Rattle.mas_reading.specs.declared.status.What.TheVariants as what
-use Rattle.mas_reading.specs.Later.{Runs, first_later, IsFirstLater}
 use Rattle.mas_reading.specs.Projects.{folder, project_in, is_agent_file, all_cycles, most_cycles}
 use Rattle.mas_reading.specs.Files.{HasFile, Reader, agents, worlds, projects, IsRefusal, most_bytes}
 use Rattle.mas_reading.specs.Sources.{
@@ -95,24 +94,14 @@ same_file most files name P Q h g = bytes_same h.bytes g.bytes (h.has ∙ sym g.
 pub with_file : (most : ℕ) (files : List Filed) (name : List ℕ) (P Q : List ℕ → Type 0) (h : HasFile most (Some files) name P) (g : HasFile most (Some files) name Q) → Q h.bytes
 with_file most files name P Q h g = subst Q (sym (same_file most files name P Q h g)) g.are
 
-abbrev answered : List Sentence → Result (List Sentence) TextFault
-answered said = Yes said
-
-sentences_same : (a b : List Sentence) → answered a ≡ answered b → a ≡ b
-sentences_same a b e = cc
-
--- one agent of the bytes runs
-one_agent : (bytes : List ℕ) (a b : AgentText) → Runs bytes a → Runs bytes b → a ≡ b
-one_agent bytes a b r s = r.together ∙ ap (all_added nothing) (sentences_same r.said s.said (one_answer bytes (Yes r.said) (Yes s.said) r.are s.are)) ∙ sym s.together
-
 abbrev opened : WorldText → Result WorldText WorldFault
 opened text = Yes text
 
 worlds_same : (a b : WorldText) → opened a ≡ opened b → a ≡ b
 worlds_same a b e = cc
 
-one_text : (bytes : List ℕ) (a b : WorldText) → IsWorld [] bytes a → IsWorld [] bytes b → a ≡ b
-one_text bytes a b h g = worlds_same a b (one_world [] bytes (Yes a) (Yes b) h g)
+one_text : (known : List (List ℕ)) (bytes : List ℕ) (a b : WorldText) → IsWorld known bytes a → IsWorld known bytes b → a ≡ b
+one_text known bytes a b h g = worlds_same a b (one_world known bytes (Yes a) (Yes b) h g)
 
 -- ---- one project, one world, the same agents
 
@@ -126,14 +115,14 @@ project_by false files word p q h g =
 same_project : (files : List Filed) (word : List ℕ) (p q : ProjectText) → HasProject (Some files) word p → HasProject (Some files) word q → p ≡ q
 same_project files word p q h g = project_by (is_agent_file word) files word p q h g
 
-same_world : (files : List Filed) (name : Option (List ℕ)) (a b : Option WorldText) → HasWorld (Some files) name a → HasWorld (Some files) name b → a ≡ b
-same_world files None None None h g = refl
-same_world files None None (Some b) h g = absurd g
-same_world files None (Some a) b h g = absurd h
-same_world files (Some name) None b h g = absurd h
-same_world files (Some name) (Some a) None h g = absurd g
-same_world files (Some name) (Some a) (Some b) h g =
-    ap Some (one_text h.bytes a b h.are (with_file most_bytes files name (λ x. IsWorld [] x a) (λ x. IsWorld [] x b) h g))
+same_world : (known : List (List ℕ)) (files : List Filed) (name : Option (List ℕ)) (a b : Option WorldText) → HasWorld known (Some files) name a → HasWorld known (Some files) name b → a ≡ b
+same_world known files None None None h g = refl
+same_world known files None None (Some b) h g = absurd g
+same_world known files None (Some a) b h g = absurd h
+same_world known files (Some name) None b h g = absurd h
+same_world known files (Some name) (Some a) None h g = absurd g
+same_world known files (Some name) (Some a) (Some b) h g =
+    ap Some (one_text known h.bytes a b h.are (with_file most_bytes files name (λ x. IsWorld known x a) (λ x. IsWorld known x b) h g))
 
 abbrev role : AgentText → ℕ → Role
 role text count = record { text = text; count = count }
@@ -141,7 +130,7 @@ role text count = record { text = text; count = count }
 same_role : (files : List Filed) (line : AgentLine) (a b : Role) → HasRole (Some files) line a → HasRole (Some files) line b → a ≡ b
 same_role files line a b h g =
     ap (λ t. role t a.count) (one_agent h.text.bytes a.text b.text h.text.are
-    (with_file most_bytes files line.file (λ x. Runs x a.text) (λ x. Runs x b.text) h.text g.text))
+    (with_file most_bytes files line.file (λ x. IsAgent x a.text) (λ x. IsAgent x b.text) h.text g.text))
     ∙ ap (role b.text) (h.count ∙ sym g.count)
 
 same_roles : (files : List Filed) (lines : List AgentLine) (a b : List Role) → HasRoles (Some files) lines a → HasRoles (Some files) lines b → a ≡ b
@@ -156,13 +145,13 @@ same_roles files (line ∷ lines) (x ∷ a) (y ∷ b) h g =
 abbrev source : List (List ℕ) → List Role → Option WorldText → Source
 source names roles text = record { names = names; roles = roles; world = text }
 
-pub one_source : (cycles : ℕ) (files : List Filed) (word : List ℕ) (a b : Source) → HasSource cycles (Some files) word a → HasSource cycles (Some files) word b → a ≡ b
-one_source cycles files word a b h g =
+pub one_source : (known : List (List ℕ)) (cycles : ℕ) (files : List Filed) (word : List ℕ) (a b : Source) → HasSource known cycles (Some files) word a → HasSource known cycles (Some files) word b → a ≡ b
+one_source known cycles files word a b h g =
     let e = same_project files word h.project g.project h.asked.stands g.asked.stands in
-    let d = subst (λ p. Describe (Some files) p b) (sym e) g.describe in
+    let d = subst (λ p. Describe known (Some files) p b) (sym e) g.describe in
     ap (λ ns. source ns a.roles a.world) (h.describe.names ∙ sym d.names)
     ∙ ap (λ rs. source b.names rs a.world) (same_roles files h.project.agents a.roles b.roles h.describe.roles d.roles)
-    ∙ ap (λ w. source b.names b.roles w) (same_world files h.project.world a.world b.world h.describe.world d.world)
+    ∙ ap (λ w. source b.names b.roles w) (same_world known files h.project.world a.world b.world h.describe.world d.world)
 
 -- ---- files that describe a source are not refused
 
@@ -172,11 +161,10 @@ answer_fault said fault e = cc
 text_fault : (text : WorldText) (fault : WorldFault) → Yes text ≡ No fault → ⊥
 text_fault text fault e = cc
 
--- bytes with this promise are refused by a reader at no place, for no limit, and run
+-- bytes with this promise are refused by a reader at no place and for no limit
 pub record Accepted (r : Reader) (bytes : List ℕ) : Type 0 where
   pub faulty : (place : ℕ) (why : Reason) → r.faulty bytes place why → ⊥
   pub large : (quantity : What) (number : ℕ) → r.large bytes quantity number → ⊥
-  pub later : (number : ℕ) → r.later bytes number → ⊥
 
 not_lex : (bytes : List ℕ) (said : List Sentence) (why : LexFault) → AreSentences bytes said → IsFirstFault bytes why → ⊥
 not_lex bytes said why a r = answer_fault said (fault.Lex why) (one_answer bytes (Yes said) (No (fault.Lex why)) a r)
@@ -202,45 +190,36 @@ agent_large bytes said a what.Clause number r = answer_fault said (fault.Limit n
 agent_large bytes said a what.Agents number r = absurd r
 agent_large bytes said a what.Cycles number r = absurd r
 
-agent_later : (bytes : List ℕ) (source : AgentText) → Runs bytes source → (number : ℕ) → IsFirstLater bytes number → ⊥
-agent_later bytes source h number r =
-    let same : h.said ≡ r.said = sentences_same h.said r.said (one_answer bytes (Yes h.said) (Yes r.said) h.are r.are) in
-    none_some (sym h.all_run ∙ ap first_later same ∙ r.first)
+agent_read : (bytes : List ℕ) (source : AgentText) → IsAgent bytes source → Accepted agents bytes
+agent_read bytes source h = record { faulty = agent_faulty bytes h.sentences h.said; large = agent_large bytes h.sentences h.said }
 
-agent_read : (bytes : List ℕ) (source : AgentText) → Runs bytes source → Accepted agents bytes
-agent_read bytes source h = record {
-  faulty = agent_faulty bytes h.said h.are;
-  large = agent_large bytes h.said h.are;
-  later = agent_later bytes source h;
-}
+no_lex : (known : List (List ℕ)) (bytes : List ℕ) (text : WorldText) (why : LexFault) → IsWorld known bytes text → IsFirstFault bytes why → ⊥
+no_lex known bytes text why a r = text_fault text (world.Lex why) (one_world known bytes (Yes text) (No (world.Lex why)) a r)
 
-no_lex : (bytes : List ℕ) (text : WorldText) (why : LexFault) → IsWorld [] bytes text → IsFirstFault bytes why → ⊥
-no_lex bytes text why a r = text_fault text (world.Lex why) (one_world [] bytes (Yes text) (No (world.Lex why)) a r)
+world_faulty : (known : List (List ℕ)) (bytes : List ℕ) (text : WorldText) → IsWorld known bytes text → (place : ℕ) (why : Reason) → (worlds known).faulty bytes place why → ⊥
+world_faulty known bytes text a place reason.Byte r = no_lex known bytes text (lex.BadByte place) a r
+world_faulty known bytes text a place reason.String r = no_lex known bytes text (lex.OpenString place) a r
+world_faulty known bytes text a place reason.Comment r = no_lex known bytes text (lex.OpenComment place) a r
+world_faulty known bytes text a place reason.Number r = no_lex known bytes text (lex.NumberRange place) a r
+world_faulty known bytes text a place reason.Clause r =
+    text_fault text (world.Clause place r.line r.column) (one_world known bytes (Yes text) (No (world.Clause place r.line r.column)) a r.refused)
+world_faulty known bytes text a place (reason.Name name) r = absurd r
+world_faulty known bytes text a place (reason.Option word) r = absurd r
+world_faulty known bytes text a place (reason.Unbound name) r = text_fault text (world.Unbound place name) (one_world known bytes (Yes text) (No (world.Unbound place name)) a r)
+world_faulty known bytes text a place (reason.Artifact name) r =
+    text_fault text (world.UnknownArtifact place name) (one_world known bytes (Yes text) (No (world.UnknownArtifact place name)) a r)
+world_faulty known bytes text a place reason.Line r = absurd r
+world_faulty known bytes text a place reason.Illegal r = absurd r
+world_faulty known bytes text a place reason.Unended r = absurd r
 
-world_faulty : (bytes : List ℕ) (text : WorldText) → IsWorld [] bytes text → (place : ℕ) (why : Reason) → worlds.faulty bytes place why → ⊥
-world_faulty bytes text a place reason.Byte r = no_lex bytes text (lex.BadByte place) a r
-world_faulty bytes text a place reason.String r = no_lex bytes text (lex.OpenString place) a r
-world_faulty bytes text a place reason.Comment r = no_lex bytes text (lex.OpenComment place) a r
-world_faulty bytes text a place reason.Number r = no_lex bytes text (lex.NumberRange place) a r
-world_faulty bytes text a place reason.Clause r =
-    text_fault text (world.Clause place r.line r.column) (one_world [] bytes (Yes text) (No (world.Clause place r.line r.column)) a r.refused)
-world_faulty bytes text a place (reason.Name name) r = absurd r
-world_faulty bytes text a place (reason.Option word) r = absurd r
-world_faulty bytes text a place (reason.Unbound name) r = text_fault text (world.Unbound place name) (one_world [] bytes (Yes text) (No (world.Unbound place name)) a r)
-world_faulty bytes text a place (reason.Artifact name) r =
-    text_fault text (world.UnknownArtifact place name) (one_world [] bytes (Yes text) (No (world.UnknownArtifact place name)) a r)
-world_faulty bytes text a place reason.Line r = absurd r
-world_faulty bytes text a place reason.Illegal r = absurd r
-world_faulty bytes text a place reason.Unended r = absurd r
+world_large : (known : List (List ℕ)) (bytes : List ℕ) (text : WorldText) → IsWorld known bytes text → (quantity : What) (number : ℕ) → (worlds known).large bytes quantity number → ⊥
+world_large known bytes text a what.File number r = absurd r
+world_large known bytes text a what.Clause number r = text_fault text (world.Limit number) (one_world known bytes (Yes text) (No (world.Limit number)) a r)
+world_large known bytes text a what.Agents number r = absurd r
+world_large known bytes text a what.Cycles number r = absurd r
 
-world_large : (bytes : List ℕ) (text : WorldText) → IsWorld [] bytes text → (quantity : What) (number : ℕ) → worlds.large bytes quantity number → ⊥
-world_large bytes text a what.File number r = absurd r
-world_large bytes text a what.Clause number r = text_fault text (world.Limit number) (one_world [] bytes (Yes text) (No (world.Limit number)) a r)
-world_large bytes text a what.Agents number r = absurd r
-world_large bytes text a what.Cycles number r = absurd r
-
-world_read : (bytes : List ℕ) (text : WorldText) → IsWorld [] bytes text → Accepted worlds bytes
-world_read bytes text h = record { faulty = world_faulty bytes text h; large = world_large bytes text h; later = λ number r. r }
+world_read : (known : List (List ℕ)) (bytes : List ℕ) (text : WorldText) → IsWorld known bytes text → Accepted (worlds known) bytes
+world_read known bytes text h = record { faulty = world_faulty known bytes text h; large = world_large known bytes text h }
 
 project_faulty : (bytes : List ℕ) (p : ProjectText) → IsProject bytes p → (place : ℕ) (why : Reason) → projects.faulty bytes place why → ⊥
 project_faulty bytes p a place reason.Byte r = not_both bytes p (project.Lex (lex.BadByte place)) a r
@@ -263,7 +242,7 @@ project_large bytes p a what.Agents number r = not_both bytes p (project.TooMany
 project_large bytes p a what.Cycles number r = absurd r
 
 project_read : (bytes : List ℕ) (p : ProjectText) → IsProject bytes p → Accepted projects bytes
-project_read bytes p h = record { faulty = project_faulty bytes p h; large = project_large bytes p h; later = λ number r. r }
+project_read bytes p h = record { faulty = project_faulty bytes p h; large = project_large bytes p h }
 
 -- a file that is there and is not refused is so with no status but Memory, where no fault came
 pub not_refused_file : (r : Reader) (files : List Filed) (name : List ℕ) (before after : ℕ) (status : Status) (P : List ℕ → Type 0) →
@@ -281,7 +260,6 @@ not_refused_file r files name before after (Limit what.Agents count) P h n f c =
 not_refused_file r files name before after (Limit what.Cycles count) P h n f c = absurd (n.large what.Cycles count (with_file r.most files name P (λ x. r.large x what.Cycles count) h c))
 not_refused_file r files name before after Budget P h n f c = absurd c
 not_refused_file r files name before after Memory P h n f c = refl
-not_refused_file r files name before after (Later file number) P h n f c = absurd (n.later number (with_file r.most files name P (λ x. r.later x number) h c.has))
 
 -- ---- each of them
 
@@ -291,13 +269,13 @@ project_not true files word p before after status h e f c = absurd (true_false e
 project_not false files word p before after status h e f c =
     not_refused_file projects files word before after status _ h (project_read h.bytes h.are.written h.are.is) f c
 
-world_not : (files : List Filed) (name : List ℕ) (named : Option (List ℕ)) (text : Option WorldText) (before after : ℕ) (status : Status) → named ≡ Some name →
-    HasWorld (Some files) named text → (Rose before after → ⊥) → IsRefusal worlds name (Some files) before after status → status ≡ Memory
-world_not files name None text before after status e h f c = absurd (none_some e)
-world_not files name (Some n) None before after status e h f c = absurd h
-world_not files name (Some n) (Some text) before after status e h f c =
-    let g : HasFile most_bytes (Some files) name (λ x. IsWorld [] x text) = subst (λ x. HasFile most_bytes (Some files) x (λ y. IsWorld [] y text)) (some_same e) h in
-    not_refused_file worlds files name before after status (λ x. IsWorld [] x text) g (world_read g.bytes text g.are) f c
+world_not : (known : List (List ℕ)) (files : List Filed) (name : List ℕ) (named : Option (List ℕ)) (text : Option WorldText) (before after : ℕ) (status : Status) → named ≡ Some name →
+    HasWorld known (Some files) named text → (Rose before after → ⊥) → IsRefusal (worlds known) name (Some files) before after status → status ≡ Memory
+world_not known files name None text before after status e h f c = absurd (none_some e)
+world_not known files name (Some n) None before after status e h f c = absurd h
+world_not known files name (Some n) (Some text) before after status e h f c =
+    let g : HasFile most_bytes (Some files) name (λ x. IsWorld known x text) = subst (λ x. HasFile most_bytes (Some files) x (λ y. IsWorld known y text)) (some_same e) h in
+    not_refused_file (worlds known) files name before after status (λ x. IsWorld known x text) g (world_read known g.bytes text g.are) f c
 
 -- the role of a line among others
 record RoleOf (files : List Filed) (line : AgentLine) : Type 0 where
@@ -315,36 +293,35 @@ line_not : (files : List Filed) (lines : List AgentLine) (roles : List Role) (be
     (Rose before after → ⊥) → LineRefused (Some files) lines before after status → status ≡ Memory
 line_not files lines roles before after status h f c =
     let r = role_at files c.front c.line c.back roles (subst (λ ls. HasRoles (Some files) ls roles) c.lines_are h) in
-    not_refused_file agents files c.line.file before after status (λ x. Runs x r.one.text) r.has.text (agent_read r.has.text.bytes r.one.text r.has.text.are) f c.why
+    not_refused_file agents files c.line.file before after status (λ x. IsAgent x r.one.text) r.has.text (agent_read r.has.text.bytes r.one.text r.has.text.are) f c.why
 
-part_not : (files : List Filed) (p : ProjectText) (source : Source) (before after : ℕ) (status : Status) →
-    Describe (Some files) p source → (Rose before after → ⊥) → PartRefused p (Some files) before after status → status ≡ Memory
-part_not files p source before after status d f (inl w) = world_not files w.name p.world source.world before after status w.named_is d.world f w.why
-part_not files p source before after status d f (inr a) = line_not files p.agents source.roles before after status d.roles f a.why
+part_not : (known : List (List ℕ)) (files : List Filed) (p : ProjectText) (source : Source) (before after : ℕ) (status : Status) →
+    Describe known (Some files) p source → (Rose before after → ⊥) → PartRefused known p (Some files) before after status → status ≡ Memory
+part_not known files p source before after status d f (inl w) = world_not known files w.name p.world source.world before after status w.named_is d.world f w.why
+part_not known files p source before after status d f (inr a) = line_not files p.agents source.roles before after status d.roles f a.why
 
 too_many : (n : ℕ) → n ≤ most_cycles → most_cycles < n → ⊥
 too_many n h g = omega arith
 
-first_not : (cycles : ℕ) (files : List Filed) (word : List ℕ) (source : Source) (before after : ℕ) (status : Status) → HasSource cycles (Some files) word source →
-    (Rose before after → ⊥) → FirstRefused cycles (Some files) word before after status → status ≡ Memory
-first_not cycles files word source before after status h f (project_refused r) =
+first_not : (known : List (List ℕ)) (cycles : ℕ) (files : List Filed) (word : List ℕ) (source : Source) (before after : ℕ) (status : Status) → HasSource known cycles (Some files) word source →
+    (Rose before after → ⊥) → FirstRefused known cycles (Some files) word before after status → status ≡ Memory
+first_not known cycles files word source before after status h f (project_refused r) =
     project_not (is_agent_file word) files word h.project before after status h.asked.stands r.file f r.why
-first_not cycles files word source before after status h f (cycles_refused r) =
+first_not known cycles files word source before after status h f (cycles_refused r) =
     let e = same_project files word h.project r.project h.asked.stands r.stands in
     absurd (too_many (all_cycles r.project cycles) (subst (λ p. all_cycles p cycles ≤ most_cycles) e h.asked.few) r.past)
-first_not cycles files word source before after status h f (part_refused p a r) =
+first_not known cycles files word source before after status h f (part_refused p a r) =
     let e = same_project files word h.project p h.asked.stands a.stands in
-    part_not files p source before after status (subst (λ q. Describe (Some files) q source) e h.describe) f r
+    part_not known files p source before after status (subst (λ q. Describe known (Some files) q source) e h.describe) f r
 
-pub not_refused : (cycles : ℕ) (files : List Filed) (word : List ℕ) (source : Source) (before after : ℕ) (status : Status) → HasSource cycles (Some files) word source →
-    (Rose before after → ⊥) → AreRefused cycles (Some files) word before after status → status ≡ Memory
-not_refused cycles files word source before after Ok h f c = first_not cycles files word source before after Ok h f c
-not_refused cycles files word source before after Usage h f c = first_not cycles files word source before after Usage h f c
-not_refused cycles files word source before after (Missing lacked) h f c = first_not cycles files word source before after (Missing lacked) h f c
-not_refused cycles files word source before after ReadFault h f c = first_not cycles files word source before after ReadFault h f c
-not_refused cycles files word source before after WriteFault h f c = first_not cycles files word source before after WriteFault h f c
-not_refused cycles files word source before after (Refused file place why) h f c = first_not cycles files word source before after (Refused file place why) h f c
-not_refused cycles files word source before after (Limit quantity count) h f c = first_not cycles files word source before after (Limit quantity count) h f c
-not_refused cycles files word source before after Budget h f c = first_not cycles files word source before after Budget h f c
-not_refused cycles files word source before after Memory h f c = refl
-not_refused cycles files word source before after (Later file number) h f c = first_not cycles files word source before after (Later file number) h f c
+pub not_refused : (known : List (List ℕ)) (cycles : ℕ) (files : List Filed) (word : List ℕ) (source : Source) (before after : ℕ) (status : Status) → HasSource known cycles (Some files) word source →
+    (Rose before after → ⊥) → AreRefused known cycles (Some files) word before after status → status ≡ Memory
+not_refused known cycles files word source before after Ok h f c = first_not known cycles files word source before after Ok h f c
+not_refused known cycles files word source before after Usage h f c = first_not known cycles files word source before after Usage h f c
+not_refused known cycles files word source before after (Missing lacked) h f c = first_not known cycles files word source before after (Missing lacked) h f c
+not_refused known cycles files word source before after ReadFault h f c = first_not known cycles files word source before after ReadFault h f c
+not_refused known cycles files word source before after WriteFault h f c = first_not known cycles files word source before after WriteFault h f c
+not_refused known cycles files word source before after (Refused file place why) h f c = first_not known cycles files word source before after (Refused file place why) h f c
+not_refused known cycles files word source before after (Limit quantity count) h f c = first_not known cycles files word source before after (Limit quantity count) h f c
+not_refused known cycles files word source before after Budget h f c = first_not known cycles files word source before after Budget h f c
+not_refused known cycles files word source before after Memory h f c = refl

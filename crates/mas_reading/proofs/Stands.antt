@@ -28,32 +28,32 @@ of_no_file held word before after status e r = unless (ProjectRefused held word 
 
 -- ---- which refusal comes first
 
-refused_from : (held : Option (List Filed)) (p : ProjectText) (first before after : ℕ) (status : Status) → first ≤ before → PartRefused p held before after status →
-    PartRefused p held first after status
-refused_from held p first before after status l (inl w) =
-    inl (record { name = w.name; named_is = w.named_is; why = refusal_from worlds w.name held first before after status l w.why })
-refused_from held p first before after status l (inr a) =
+refused_from : (known : List (List ℕ)) (held : Option (List Filed)) (p : ProjectText) (first before after : ℕ) (status : Status) → first ≤ before → PartRefused known p held before after status →
+    PartRefused known p held first after status
+refused_from known held p first before after status l (inl w) =
+    inl (record { name = w.name; named_is = w.named_is; why = refusal_from (worlds known) w.name held first before after status l w.why })
+refused_from known held p first before after status l (inr a) =
     inr (record { world = a.world; read = a.read; why = line_from held p.agents first before after status l a.why })
 
-pub first_project : (cycles : ℕ) (held : Option (List Filed)) (word : List ℕ) (before after : ℕ) (status : Status) →
-    UnlessMemory (ProjectRefused held word before after) status → AreRefused cycles held word before after status
-first_project cycles held word before after status r =
-    unless_as (ProjectRefused held word before after) (FirstRefused cycles held word before after) (λ s h. project_refused h) status r
+pub first_project : (known : List (List ℕ)) (cycles : ℕ) (held : Option (List Filed)) (word : List ℕ) (before after : ℕ) (status : Status) →
+    UnlessMemory (ProjectRefused held word before after) status → AreRefused known cycles held word before after status
+first_project known cycles held word before after status r =
+    unless_as (ProjectRefused held word before after) (FirstRefused known cycles held word before after) (λ s h. project_refused h) status r
 
-pub first_cycles : (cycles : ℕ) (held : Option (List Filed)) (word : List ℕ) (p : ProjectText) (before after : ℕ) (status : Status) → HasProject held word p →
-    CyclesTold p cycles (Some status) → AreRefused cycles held word before after status
-first_cycles cycles held word p before after status h c =
-    unless (FirstRefused cycles held word before after) status (cycles_refused (record { project = p; stands = h; past = c.0; status_is = c.1 }))
+pub first_cycles : (known : List (List ℕ)) (cycles : ℕ) (held : Option (List Filed)) (word : List ℕ) (p : ProjectText) (before after : ℕ) (status : Status) → HasProject held word p →
+    CyclesTold p cycles (Some status) → AreRefused known cycles held word before after status
+first_cycles known cycles held word p before after status h c =
+    unless (FirstRefused known cycles held word before after) status (cycles_refused (record { project = p; stands = h; past = c.0; status_is = c.1 }))
 
-pub first_part : (cycles : ℕ) (held : Option (List Filed)) (word : List ℕ) (p : ProjectText) (first before after : ℕ) (status : Status) → HasProject held word p →
-    CyclesTold p cycles None → first ≤ before → UnlessMemory (PartRefused p held before after) status → AreRefused cycles held word first after status
-first_part cycles held word p first before after status h c l r =
-    unless_as (PartRefused p held before after) (FirstRefused cycles held word first after)
-    (λ s x. part_refused p (record { stands = h; few = c }) (refused_from held p first before after s l x)) status r
+pub first_part : (known : List (List ℕ)) (cycles : ℕ) (held : Option (List Filed)) (word : List ℕ) (p : ProjectText) (first before after : ℕ) (status : Status) → HasProject held word p →
+    CyclesTold p cycles None → first ≤ before → UnlessMemory (PartRefused known p held before after) status → AreRefused known cycles held word first after status
+first_part known cycles held word p first before after status h c l r =
+    unless_as (PartRefused known p held before after) (FirstRefused known cycles held word first after)
+    (λ s x. part_refused p (record { stands = h; few = c }) (refused_from known held p first before after s l x)) status r
 
-pub source_whole : (cycles : ℕ) (held : Option (List Filed)) (word : List ℕ) (p : ProjectText) (source : Source) → HasProject held word p →
-    CyclesTold p cycles None → Describe held p source → HasSource cycles held word source
-source_whole cycles held word p source h c d = record { project = p; asked = record { stands = h; few = c }; describe = d }
+pub source_whole : (known : List (List ℕ)) (cycles : ℕ) (held : Option (List Filed)) (word : List ℕ) (p : ProjectText) (source : Source) → HasProject held word p →
+    CyclesTold p cycles None → Describe known held p source → HasSource known cycles held word source
+source_whole known cycles held word p source h c d = record { project = p; asked = record { stands = h; few = c }; describe = d }
 
 -- what comes first
 pub ruleset in_order = (first_project, first_cycles, first_part, source_whole)

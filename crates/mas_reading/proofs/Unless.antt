@@ -1,6 +1,6 @@
 -- What is told where memory may lack.
 use Rattle.mas_reading.specs.declared.status.Status.{Status}
-use Rattle.mas_reading.specs.declared.status.Status.TheVariants.{Ok, Usage, Missing, ReadFault, WriteFault, Refused, Limit, Budget, Memory, Later}
+use Rattle.mas_reading.specs.declared.status.Status.TheVariants.{Ok, Usage, Missing, ReadFault, WriteFault, Refused, Limit, Budget, Memory}
 use Rattle.mas_reading.specs.Sources.{UnlessMemory}
 
 pub unless : (Is : Status → Type 0) (s : Status) → Is s → UnlessMemory Is s
@@ -13,7 +13,6 @@ unless Is (Refused file place why) h = h
 unless Is (Limit quantity count) h = h
 unless Is Budget h = h
 unless Is Memory h = tt
-unless Is (Later file place) h = h
 
 pub unless_as : (Is Js : Status → Type 0) → ((s : Status) → Is s → Js s) → (s : Status) → UnlessMemory Is s → UnlessMemory Js s
 unless_as Is Js f Ok h = f Ok h
@@ -25,4 +24,3 @@ unless_as Is Js f (Refused file place why) h = f (Refused file place why) h
 unless_as Is Js f (Limit quantity count) h = f (Limit quantity count) h
 unless_as Is Js f Budget h = f Budget h
 unless_as Is Js f Memory h = tt
-unless_as Is Js f (Later file place) h = f (Later file place) h

@@ -4,23 +4,14 @@ use Rattle.asl_lexer.specs.declared.token.LexFault.{LexFault}
 use Rattle.asl_lexer.specs.declared.token.LexFault.TheVariants as lex
 use Rattle.asl_reading.specs.declared.fault.TextFault.{TextFault}
 use Rattle.asl_reading.specs.declared.fault.TextFault.TheVariants as fault
-use Rattle.asl_grammar.specs.Agents.{IsNone}
 use Rattle.env_file.specs.declared.fault.WorldFault.{WorldFault}
 use Rattle.env_file.specs.declared.fault.WorldFault.TheVariants as world
 use Rattle.mas_project.specs.declared.fault.ProjectFault.{ProjectFault}
 use Rattle.mas_project.specs.declared.fault.ProjectFault.TheVariants as project
-use Rattle.mas_reading.specs.declared.source.Unfit.{Unfit}
-use Rattle.mas_reading.specs.declared.source.Unfit.TheVariants as unfit
 use Rattle.mas_reading.specs.declared.status.Reason.TheVariants as reason
 use Rattle.mas_reading.specs.declared.status.What.TheVariants as what
 use Rattle.mas_reading.specs.declared.status.Status.{Status}
-use Rattle.mas_reading.specs.declared.status.Status.TheVariants.{Refused, Limit, Memory, Later}
-use Rattle.mas_reading.specs.Later.{IsFirstLater}
-
--- why the bytes of an agent are not run
-abbrev pub IsUnfit : List ℕ → Unfit → Type 0
-IsUnfit bytes (unfit.Text why) = IsNone bytes why
-IsUnfit bytes (unfit.Later number) = IsFirstLater bytes number
+use Rattle.mas_reading.specs.declared.status.Status.TheVariants.{Refused, Limit, Memory}
 
 abbrev pub lex_status : List ℕ → LexFault → Status
 lex_status name lex.Memory = Memory
@@ -29,16 +20,12 @@ lex_status name (lex.OpenString place) = Refused name place reason.String
 lex_status name (lex.OpenComment place) = Refused name place reason.Comment
 lex_status name (lex.NumberRange place) = Refused name place reason.Number
 
+-- the status for the file of an agent
 abbrev pub text_status : List ℕ → TextFault → Status
 text_status name fault.Memory = Memory
 text_status name (fault.Lex why) = lex_status name why
 text_status name (fault.Clause number line column) = Refused name number reason.Clause
 text_status name (fault.Limit number) = Limit what.Clause number
-
--- the status for the file of an agent
-abbrev pub unfit_status : List ℕ → Unfit → Status
-unfit_status name (unfit.Text why) = text_status name why
-unfit_status name (unfit.Later number) = Later name number
 
 -- the status for the file of a world
 abbrev pub world_status : List ℕ → WorldFault → Status

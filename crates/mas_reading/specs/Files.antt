@@ -1,5 +1,5 @@
 -- What a single file gives: what its bytes describe, or a refusal.
-use Rattle.std.specs.Prelude.{ℕ, ◌≡◌, List, [], Option, IfSome, Err}
+use Rattle.std.specs.Prelude.{ℕ, ◌≡◌, List, Option, IfSome, Err}
 use Rattle.asl_term.specs.declared.syntax.Filed.{Filed}
 use Rattle.asl_lexer.specs.declared.token.LexFault.TheVariants.{BadByte, OpenString, OpenComment, NumberRange}
 use Rattle.asl_lexer.specs.Lexing.{IsFirstFault}
@@ -18,8 +18,7 @@ use Rattle.mas_reading.specs.declared.status.Reason.TheVariants as reason
 use Rattle.mas_reading.specs.declared.status.What.{What}
 use Rattle.mas_reading.specs.declared.status.What.TheVariants as what
 use Rattle.mas_reading.specs.declared.status.Status.{Status}
-use Rattle.mas_reading.specs.declared.status.Status.TheVariants.{Ok, Usage, Missing, ReadFault, WriteFault, Refused, Limit, Budget, Memory, Later}
-use Rattle.mas_reading.specs.Later.{IsFirstLater}
+use Rattle.mas_reading.specs.declared.status.Status.TheVariants.{Ok, Usage, Missing, ReadFault, WriteFault, Refused, Limit, Budget, Memory}
 
 -- the most bytes of the file of a project, a world or an agent
 abbrev pub most_bytes : ℕ
@@ -37,13 +36,11 @@ pub record HasFile (most : ℕ) (held : Option (List Filed)) (name : List ℕ) (
 
 -- ---- what the reader of a file refuses
 
--- The most bytes of a file, and of its bytes: what is refused at a place, for a reason; what passes a limit, and its count;
--- and the clause that does not run yet.
+-- The most bytes of a file, and of its bytes: what is refused at a place, for a reason, and what passes a limit, and its count.
 pub record Reader : Type 1 where
   pub most : ℕ
   pub faulty : List ℕ → ℕ → Reason → Type 0
   pub large : List ℕ → What → ℕ → Type 0
-  pub later : List ℕ → ℕ → Type 0
 
 -- the first fault of the tokens, by its reason; the other reasons are those of clauses
 abbrev pub IsFaulty : (List ℕ → ℕ → Reason → Type 0) → List ℕ → ℕ → Reason → Type 0
@@ -70,22 +67,23 @@ AgentLarge bytes what.Clause number = IsRefusedAgent bytes (Large number)
 AgentLarge bytes other count = ⊥
 
 abbrev pub agents : Reader
-agents = record { most = most_bytes; faulty = IsFaulty AgentClause; large = AgentLarge; later = IsFirstLater }
+agents = record { most = most_bytes; faulty = IsFaulty AgentClause; large = AgentLarge }
 
 -- ---- that of a world
 
-abbrev pub WorldClause : List ℕ → ℕ → Reason → Type 0
-WorldClause bytes number reason.Clause = IsUnread (λ line column. HasAnswer [] bytes (Err (world.Clause number line column)))
-WorldClause bytes number (reason.Unbound name) = HasAnswer [] bytes (Err (world.Unbound number name))
-WorldClause bytes number (reason.Artifact name) = HasAnswer [] bytes (Err (world.UnknownArtifact number name))
-WorldClause bytes number other = ⊥
+-- what is refused where there are artifacts of these names
+abbrev pub WorldClause : List (List ℕ) → List ℕ → ℕ → Reason → Type 0
+WorldClause known bytes number reason.Clause = IsUnread (λ line column. HasAnswer known bytes (Err (world.Clause number line column)))
+WorldClause known bytes number (reason.Unbound name) = HasAnswer known bytes (Err (world.Unbound number name))
+WorldClause known bytes number (reason.Artifact name) = HasAnswer known bytes (Err (world.UnknownArtifact number name))
+WorldClause known bytes number other = ⊥
 
-abbrev pub WorldLarge : List ℕ → What → ℕ → Type 0
-WorldLarge bytes what.Clause number = HasAnswer [] bytes (Err (world.Limit number))
-WorldLarge bytes other count = ⊥
+abbrev pub WorldLarge : List (List ℕ) → List ℕ → What → ℕ → Type 0
+WorldLarge known bytes what.Clause number = HasAnswer known bytes (Err (world.Limit number))
+WorldLarge known bytes other count = ⊥
 
-abbrev pub worlds : Reader
-worlds = record { most = most_bytes; faulty = IsFaulty WorldClause; large = WorldLarge; later = λ bytes number. ⊥ }
+abbrev pub worlds : List (List ℕ) → Reader
+worlds known = record { most = most_bytes; faulty = IsFaulty (WorldClause known); large = WorldLarge known }
 
 -- ---- that of a project
 
@@ -104,7 +102,7 @@ ProjectLarge bytes what.Agents count = IsRefusedProject bytes (project.TooMany c
 ProjectLarge bytes other count = ⊥
 
 abbrev pub projects : Reader
-projects = record { most = most_bytes; faulty = ProjectFaulty; large = ProjectLarge; later = λ bytes number. ⊥ }
+projects = record { most = most_bytes; faulty = ProjectFaulty; large = ProjectLarge }
 
 -- ---- why a file is refused
 
@@ -120,10 +118,6 @@ pub record IsTooLong (most : ℕ) (held : Option (List Filed)) (name : List ℕ)
 pub record IsRefusedAt (r : Reader) (held : Option (List Filed)) (name file : List ℕ) (place : ℕ) (why : Reason) : Type 0 where
   pub same : file ≡ name
   pub has : HasFile r.most held name (λ bytes. r.faulty bytes place why)
-
-pub record IsLater (r : Reader) (held : Option (List Filed)) (name file : List ℕ) (number : ℕ) : Type 0 where
-  pub same : file ≡ name
-  pub has : HasFile r.most held name (λ bytes. r.later bytes number)
 
 -- the bytes of the file are too many, or what they describe is
 abbrev pub IsPast : Reader → Option (List Filed) → List ℕ → What → ℕ → Type 0
@@ -142,7 +136,6 @@ IsRefusal r name held before after (Refused file place why) = IsRefusedAt r held
 IsRefusal r name held before after (Limit quantity count) = IsPast r held name quantity count
 IsRefusal r name held before after Budget = ⊥
 IsRefusal r name held before after Memory = Unit {0}
-IsRefusal r name held before after (Later file number) = IsLater r held name file number
 
 -- why its bytes are not there
 abbrev pub IsUnfetched : ℕ → List ℕ → Option (List Filed) → ℕ → ℕ → Status → Type 0

@@ -1,19 +1,33 @@
 -- What is true of what the files of a run describe.
-use Rattle.std.specs.Prelude.{ℕ, ◌≡◌, List, Some}
+use Rattle.std.specs.Prelude.{ℕ, ◌≡◌, true, List, Some}
+use Rattle.std.specs.Option.{IsSome}
 use Rattle.asl_term.specs.declared.syntax.Filed.{Filed}
+use Rattle.mas_world.specs.declared.acts.WorldText.{WorldText}
+use Rattle.mas_world.specs.Worlds.{Used, named, AreNamed}
+use Rattle.env_file.specs.Worlds.{has_name, IsWorld}
 use Rattle.mas_io.specs.Causes.{Rose}
 use Rattle.mas_reading.specs.declared.sources.Source.{Source}
 use Rattle.mas_reading.specs.declared.status.Status.{Status}
 use Rattle.mas_reading.specs.declared.status.Status.TheVariants.{Memory}
+use Rattle.mas_reading.specs.Known as artifacts
 use Rattle.mas_reading.specs.Sources.{HasSource, AreRefused}
 
 -- files describe one source at most
 abbrev pub OneSource : Type 0
 OneSource =
-    (cycles : ℕ) (files : List Filed) (word : List ℕ) (a b : Source) → HasSource cycles (Some files) word a → HasSource cycles (Some files) word b → a ≡ b
+    (known : List (List ℕ)) (cycles : ℕ) (files : List Filed) (word : List ℕ) (a b : Source) → HasSource known cycles (Some files) word a →
+    HasSource known cycles (Some files) word b → a ≡ b
 
 -- where files describe a source, none of them is refused, unless the count of faults rose or memory lacked
 abbrev pub NotRefused : Type 0
 NotRefused =
-    (cycles : ℕ) (files : List Filed) (word : List ℕ) (source : Source) (before after : ℕ) (status : Status) → HasSource cycles (Some files) word source →
-    (Rose before after → ⊥) → AreRefused cycles (Some files) word before after status → status ≡ Memory
+    (known : List (List ℕ)) (cycles : ℕ) (files : List Filed) (word : List ℕ) (source : Source) (before after : ℕ) (status : Status) →
+    HasSource known cycles (Some files) word source → (Rose before after → ⊥) → AreRefused known cycles (Some files) word before after status → status ≡ Memory
+
+-- a known name is that of an artifact
+abbrev pub KnownNamed : Type 0
+KnownNamed = (objects : List Used) (name : List ℕ) → has_name (artifacts.known objects) name ≡ true → IsSome (named objects name)
+
+-- so a world that may use the names of the artifacts uses artifacts that are there
+abbrev pub KnownUses : Type 0
+KnownUses = (objects : List Used) (bytes : List ℕ) (text : WorldText) → IsWorld (artifacts.known objects) bytes text → AreNamed text.uses objects

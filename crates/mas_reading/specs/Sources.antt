@@ -1,6 +1,7 @@
 -- What the files of a project describe, and which of them is refused first.
 use Rattle.std.specs.Prelude.{ℕ, ◌≡◌, ◌⊎◌, ◌≤◌, ◌<◌, false, Bool, true, List, [], ◌∷◌, ◌++◌, length, Option, None, Some}
 use Rattle.asl_term.specs.declared.syntax.Filed.{Filed}
+use Rattle.asl_grammar.specs.Agents.{IsAgent}
 use Rattle.mas_world.specs.declared.acts.WorldText.{WorldText}
 use Rattle.env_file.specs.Worlds.{IsWorld}
 use Rattle.mas_project.specs.declared.syntax.AgentLine.{AgentLine}
@@ -12,7 +13,6 @@ use Rattle.mas_reading.specs.declared.sources.Source.{Source}
 use Rattle.mas_reading.specs.declared.status.Status.{Status}
 use Rattle.mas_reading.specs.declared.status.Status.TheVariants.{Limit, Memory}
 use Rattle.mas_reading.specs.declared.status.What.TheVariants as what
-use Rattle.mas_reading.specs.Later.{Runs}
 use Rattle.mas_reading.specs.Projects.{folder, project_in, is_agent_file, solo_project, most_cycles, all_cycles}
 use Rattle.mas_reading.specs.Files.{most_bytes, HasFile, agents, worlds, projects, IsRefusal}
 
@@ -32,19 +32,19 @@ ProjectBy false held word p = HasFile most_bytes held word (λ bytes. IsProjectI
 abbrev pub HasProject : Option (List Filed) → List ℕ → ProjectText → Type 0
 HasProject held word p = ProjectBy (is_agent_file word) held word p
 
--- the world of the file of this name, where a file is named (there are no artifacts yet)
-abbrev pub HasWorld : Option (List Filed) → Option (List ℕ) → Option WorldText → Type 0
-HasWorld held None None = Unit {0}
-HasWorld held None (Some text) = ⊥
-HasWorld held (Some name) None = ⊥
-HasWorld held (Some name) (Some text) = HasFile most_bytes held name (λ bytes. IsWorld [] bytes text)
+-- the world of the file of this name, where a file is named and there are artifacts of these names
+abbrev pub HasWorld : List (List ℕ) → Option (List Filed) → Option (List ℕ) → Option WorldText → Type 0
+HasWorld known held None None = Unit {0}
+HasWorld known held None (Some text) = ⊥
+HasWorld known held (Some name) None = ⊥
+HasWorld known held (Some name) (Some text) = HasFile most_bytes held name (λ bytes. IsWorld known bytes text)
 
--- a line's file is the source of so many agents, and all its clauses run
+-- a line's file is the source of so many agents
 pub record HasRole (held : Option (List Filed)) (line : AgentLine) (role : Role) : Type 0 where
-  pub text : HasFile most_bytes held line.file (λ bytes. Runs bytes role.text)
+  pub text : HasFile most_bytes held line.file (λ bytes. IsAgent bytes role.text)
   pub count : role.count ≡ length (names_in line)
 
--- each line's does
+-- each line's is
 abbrev pub HasRoles : Option (List Filed) → List AgentLine → List Role → Type 0
 HasRoles held [] [] = Unit {0}
 HasRoles held (line ∷ lines) (role ∷ roles) = HasRole held line role × HasRoles held lines roles
@@ -57,16 +57,16 @@ pub record IsAsked (cycles : ℕ) (held : Option (List Filed)) (word : List ℕ)
   pub few : all_cycles p cycles ≤ most_cycles
 
 -- the files of the project describe this: the agents' names, the source of each line, and the world
-pub record Describe (held : Option (List Filed)) (p : ProjectText) (source : Source) : Type 0 where
+pub record Describe (known : List (List ℕ)) (held : Option (List Filed)) (p : ProjectText) (source : Source) : Type 0 where
   pub names : source.names ≡ names_of p.agents
-  pub world : HasWorld held p.world source.world
+  pub world : HasWorld known held p.world source.world
   pub roles : HasRoles held p.agents source.roles
 
 -- the word stands for a project whose files describe this source
-pub record HasSource (cycles : ℕ) (held : Option (List Filed)) (word : List ℕ) (source : Source) : Type 0 where
+pub record HasSource (known : List (List ℕ)) (cycles : ℕ) (held : Option (List Filed)) (word : List ℕ) (source : Source) : Type 0 where
   pub project : ProjectText
   pub asked : IsAsked cycles held word project
-  pub describe : Describe held project source
+  pub describe : Describe known held project source
 
 -- ---- the first refusal: of the project, of its cycles, of the world, of an agent
 
@@ -82,10 +82,10 @@ pub record CyclesRefused (cycles : ℕ) (held : Option (List Filed)) (word : Lis
   pub status_is : status ≡ Limit what.Cycles (all_cycles project cycles)
 
 -- the file of the world of this name is refused
-pub record WorldRefused (named : Option (List ℕ)) (held : Option (List Filed)) (before after : ℕ) (status : Status) : Type 0 where
+pub record WorldRefused (known : List (List ℕ)) (named : Option (List ℕ)) (held : Option (List Filed)) (before after : ℕ) (status : Status) : Type 0 where
   pub name : List ℕ
   pub named_is : named ≡ Some name
-  pub why : IsRefusal worlds name held before after status
+  pub why : IsRefusal (worlds known) name held before after status
 
 -- the file of a line is refused, and those of the lines before it are not
 pub record LineRefused (held : Option (List Filed)) (lines : List AgentLine) (before after : ℕ) (status : Status) : Type 0 where
@@ -98,26 +98,28 @@ pub record LineRefused (held : Option (List Filed)) (lines : List AgentLine) (be
   pub why : IsRefusal agents line.file held before after status
 
 -- the world is read, and a line is refused
-pub record AgentRefused (p : ProjectText) (held : Option (List Filed)) (before after : ℕ) (status : Status) : Type 0 where
+pub record AgentRefused (known : List (List ℕ)) (p : ProjectText) (held : Option (List Filed)) (before after : ℕ) (status : Status) : Type 0 where
   pub world : Option WorldText
-  pub read : HasWorld held p.world world
+  pub read : HasWorld known held p.world world
   pub why : LineRefused held p.agents before after status
 
-abbrev pub PartRefused : ProjectText → Option (List Filed) → ℕ → ℕ → Status → Type 0
-PartRefused p held before after status = WorldRefused p.world held before after status ⊎ AgentRefused p held before after status
+abbrev pub PartRefused : List (List ℕ) → ProjectText → Option (List Filed) → ℕ → ℕ → Status → Type 0
+PartRefused known p held before after status = WorldRefused known p.world held before after status ⊎ AgentRefused known p held before after status
 
-pub data FirstRefused (cycles : ℕ) (held : Option (List Filed)) (word : List ℕ) (before after : ℕ) (status : Status) : Type 0 where
-  project_refused : ProjectRefused held word before after status → FirstRefused cycles held word before after status
-  cycles_refused : CyclesRefused cycles held word status → FirstRefused cycles held word before after status
-  part_refused : (p : ProjectText) → IsAsked cycles held word p → PartRefused p held before after status → FirstRefused cycles held word before after status
+-- where there are artifacts of these names
+pub data FirstRefused (known : List (List ℕ)) (cycles : ℕ) (held : Option (List Filed)) (word : List ℕ) (before after : ℕ) (status : Status) : Type 0 where
+  project_refused : ProjectRefused held word before after status → FirstRefused known cycles held word before after status
+  cycles_refused : CyclesRefused cycles held word status → FirstRefused known cycles held word before after status
+  part_refused : (p : ProjectText) → IsAsked cycles held word p → PartRefused known p held before after status
+      → FirstRefused known cycles held word before after status
 
 -- what is told where memory may lack anywhere
 abbrev pub UnlessMemory : (Status → Type 0) → Status → Type 0
 UnlessMemory Is Memory = Unit {0}
 UnlessMemory Is status = Is status
 
-abbrev pub AreRefused : ℕ → Option (List Filed) → List ℕ → ℕ → ℕ → Status → Type 0
-AreRefused cycles held word before after status = UnlessMemory (FirstRefused cycles held word before after) status
+abbrev pub AreRefused : List (List ℕ) → ℕ → Option (List Filed) → List ℕ → ℕ → ℕ → Status → Type 0
+AreRefused known cycles held word before after status = UnlessMemory (FirstRefused known cycles held word before after) status
 
 -- whether the agents of a project may make too many cycles together, and its status then
 abbrev pub CyclesTold : ProjectText → ℕ → Option Status → Type 0

@@ -17,7 +17,6 @@ status_code (status.Refused file place why) = 6
 status_code (status.Limit quantity count) = 7
 status_code status.Budget = 8
 status_code status.Memory = 9
-status_code (status.Later file place) = 10
 
 -- where the report was written whole: whether an end in it is `budget`
 abbrev pub whole : Bool → Status
@@ -51,7 +50,7 @@ what_word what.Cycles = codes "cycles"
 -- nothing where the report was written whole and no end in it is `budget`, else one line
 abbrev pub fault_text : Status → List ℕ
 fault_text status.Ok = []
-fault_text status.Usage = line (codes "usage: jasonrun run PROJECT | replay PROJECT SCHEDULE")
+fault_text status.Usage = line (codes "usage: jasonrun run PROJECT | replay PROJECT SCHEDULE | demo K")
 fault_text (status.Missing name) = line (codes "missing " ++ name)
 fault_text status.ReadFault = line (codes "read fault")
 fault_text status.WriteFault = line (codes "write fault")
@@ -59,4 +58,3 @@ fault_text (status.Refused file place why) = line (codes "refused " ++ file ++ c
 fault_text (status.Limit quantity count) = line (codes "limit " ++ what_word quantity ++ codes " " ++ decimal count)
 fault_text status.Budget = line (codes "budget")
 fault_text status.Memory = line (codes "memory")
-fault_text (status.Later file place) = line (codes "later " ++ file ++ codes " " ++ decimal place)

@@ -3,7 +3,6 @@
 ghost use Rattle.std.specs.Prelude.{◌≡◌, IfOk};
 ghost use Rattle.mas_reading.specs.Faults as spec;
 
-use crate::source::Unfit;
 use crate::status::{Reason, Status, What};
 use asl_lexer::token::LexFault;
 use asl_reading::fault::TextFault;
@@ -39,24 +38,15 @@ fn past(what: What, count: u64) -> Status
     Status::Limit { what, count }
 }
 
-/// The status for the file of an agent, whose bytes are not run.
-pub fn unfit_status(alloc: Global, name: &Text, why: Unfit) -> Result<Status, Starved>
-    ensures { IfOk result (λ s. s ≡ spec.unfit_status name.now why) }
+/// The status for the file of an agent, whose bytes describe none.
+pub fn text_status(alloc: Global, name: &Text, why: TextFault) -> Result<Status, Starved>
+    ensures { IfOk result (λ s. s ≡ spec.text_status name.now why) }
 {
     match why {
-        Unfit::Text(TextFault::Memory) => Ok(Status::Memory),
-        Unfit::Text(TextFault::Lex(why)) => lex_status(alloc, name, why),
-        Unfit::Text(TextFault::Clause { number, .. }) => refused(
-            alloc,
-            name,
-            number,
-            Reason::Clause,
-        ),
-        Unfit::Text(TextFault::Limit { number }) => Ok(past(What::Clause, number)),
-        Unfit::Later(place) => Ok(Status::Later {
-            file: copy_text(alloc, name)?,
-            place,
-        }),
+        TextFault::Memory => Ok(Status::Memory),
+        TextFault::Lex(why) => lex_status(alloc, name, why),
+        TextFault::Clause { number, .. } => refused(alloc, name, number, Reason::Clause),
+        TextFault::Limit { number } => Ok(past(What::Clause, number)),
     }
 }
 

@@ -1,20 +1,18 @@
 //! What a single file gives.
 
-ghost use Rattle.std.specs.Prelude.{◌≡◌, ◌≤◌, [], MatchResult};
+ghost use Rattle.std.specs.Prelude.{◌≡◌, ◌≤◌, MatchResult};
+ghost use Rattle.asl_grammar.specs.Agents.{IsAgent};
 ghost use Rattle.env_file.specs.Worlds.{IsWorld};
-ghost use Rattle.env_file.specs.Worlds as env;
 ghost use Rattle.mas_io.specs.declared.shelf.Fetched.TheVariants.{Bytes};
 ghost use Rattle.mas_project.specs.Projects.{IsProject};
 ghost use Rattle.mas_reading.specs.Files as spec;
-ghost use Rattle.mas_reading.specs.Later.{Runs};
 
-use crate::faults::{project_status, unfit_status, world_status};
-use crate::source::source_of;
+use crate::faults::{project_status, text_status, world_status};
 use crate::status::{Status, What};
+use asl_grammar::agent::agent;
 use asl_term::copying::copy_text;
 use asl_term::names::Names;
 use asl_term::syntax::{AgentText, Text};
-use env_file::fault::WorldFault;
 use env_file::world::world;
 use mas_io::shelf::{Fetched, Shelf};
 use mas_project::project::project;
@@ -50,46 +48,43 @@ pub fn bytes_of<S: Shelf>(
     }
 }
 
-/// The agent that the file of this name describes, or why it is not run.
-#[tactic(auto, using(crate::proofs::Fetched::agent_file, crate::proofs::Fetched::unfit_file, crate::proofs::Fetched::no_agent))]
+/// The agent that the file of this name describes, or why it describes none.
+#[tactic(auto, using(crate::proofs::Fetched::agent_file, crate::proofs::Fetched::text_file, crate::proofs::Fetched::no_agent))]
 pub fn agent_of<S: Shelf>(alloc: Global, name: &Text, shelf: &mut S) -> Result<AgentText, Status>
     ensures same { S.holds shelf.new ≡ S.holds shelf.old }
     ensures later { S.faults shelf.old ≤ S.faults shelf.new }
     ensures answer { let held = S.holds shelf.old in
         MatchResult result
-        (λ text. spec.HasFile spec.most_bytes held name.now (λ bytes. Runs bytes text))
+        (λ text. spec.HasFile spec.most_bytes held name.now (λ bytes. IsAgent bytes text))
         (spec.IsRefusal spec.agents name.now held (S.faults shelf.old) (S.faults shelf.new)) }
 {
     match bytes_of(alloc, name, MOST_BYTES, shelf) {
         Err(status) => Err(status),
-        Ok(bytes) => match source_of(alloc, bytes.as_slice()) {
-            Ok(agent) => Ok(agent),
-            Err(why) => Err(unfit_status(alloc, name, why)?),
+        Ok(bytes) => match agent(alloc, bytes.as_slice()) {
+            Ok(text) => Ok(text),
+            Err(why) => Err(text_status(alloc, name, why)?),
         },
     }
 }
 
-/// The world of a file without artifacts, or why it describes none.
-fn read_world(alloc: Global, bytes: &[u8]) -> Result<WorldText, WorldFault>
-    ensures { MatchResult result (IsWorld [] bytes.now) (env.IsNone [] bytes.now) }
-{
-    let artifacts = Names::new(alloc)?;
-    world(alloc, bytes, &artifacts)
-}
-
-/// The world that the file of this name describes, or why it describes none.
+/// The world that the file of this name describes, where there are artifacts of these names, or why it describes none.
 #[tactic(auto, using(crate::proofs::Fetched::world_file, crate::proofs::Fetched::fault_file, crate::proofs::Fetched::no_world))]
-pub fn world_of<S: Shelf>(alloc: Global, name: &Text, shelf: &mut S) -> Result<WorldText, Status>
+pub fn world_of<S: Shelf>(
+    alloc: Global,
+    known: &Names,
+    name: &Text,
+    shelf: &mut S,
+) -> Result<WorldText, Status>
     ensures same { S.holds shelf.new ≡ S.holds shelf.old }
     ensures later { S.faults shelf.old ≤ S.faults shelf.new }
     ensures answer { let held = S.holds shelf.old in
         MatchResult result
-        (λ text. spec.HasFile spec.most_bytes held name.now (λ bytes. IsWorld [] bytes text))
-        (spec.IsRefusal spec.worlds name.now held (S.faults shelf.old) (S.faults shelf.new)) }
+        (λ text. spec.HasFile spec.most_bytes held name.now (λ bytes. IsWorld known.now bytes text))
+        (spec.IsRefusal (spec.worlds known.now) name.now held (S.faults shelf.old) (S.faults shelf.new)) }
 {
     match bytes_of(alloc, name, MOST_BYTES, shelf) {
         Err(status) => Err(status),
-        Ok(bytes) => match read_world(alloc, bytes.as_slice()) {
+        Ok(bytes) => match world(alloc, bytes.as_slice(), known) {
             Ok(text) => Ok(text),
             Err(why) => Err(world_status(alloc, name, why)?),
         },

@@ -1,6 +1,6 @@
 //! Laws of what the files of a run describe, as contracts of functions that do nothing.
 
-ghost use Rattle.mas_reading.specs.Laws.{NotRefused, OneSource};
+ghost use Rattle.mas_reading.specs.Laws.{KnownNamed, KnownUses, NotRefused, OneSource};
 
 /// Files describe one source at most.
 #[tactic(auto, using(crate::proofs::Single::one_source))]
@@ -12,4 +12,11 @@ pub fn one_source()
 #[tactic(auto, using(crate::proofs::Single::not_refused))]
 pub fn not_refused()
     ensures { NotRefused }
+{}
+
+/// The names that `known_names` gives are those of artifacts. So a world that was read with them uses artifacts that are
+/// there.
+pub fn known_there()
+    ensures named { KnownNamed }
+    ensures uses { KnownUses }
 {}

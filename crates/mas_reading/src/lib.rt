@@ -4,9 +4,8 @@
 pub mod faults;
 pub mod files;
 pub mod folder;
-pub mod later;
+pub mod known;
 pub mod laws;
 pub mod project;
-pub mod source;
 pub mod sources;
 pub mod status;

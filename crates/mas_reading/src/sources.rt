@@ -85,10 +85,11 @@ fn roles_of<S: Shelf>(
     Ok(roles)
 }
 
-/// The world that a project names, where it names one.
+/// The world that a project names, where it names one and there are artifacts of these names.
 #[tactic(auto, using(crate::proofs::Parts::world_read, crate::proofs::Parts::world_unread))]
 fn world_if<S: Shelf>(
     alloc: Global,
+    known: &Names,
     name: Option<&Text>,
     shelf: &mut S,
 ) -> Result<Option<WorldText>, Status>
@@ -96,22 +97,24 @@ fn world_if<S: Shelf>(
     ensures later { S.faults shelf.old ≤ S.faults shelf.new }
     ensures answer { let held = S.holds shelf.old in
         MatchResult result
-        (spec.HasWorld held (option_copied name.entry))
-        (spec.WorldRefused (option_copied name.entry) held (S.faults shelf.old) (S.faults shelf.new)) }
+        (spec.HasWorld known.now held (option_copied name.entry))
+        (spec.WorldRefused known.now (option_copied name.entry) held (S.faults shelf.old) (S.faults shelf.new)) }
 {
     match name {
         None => Ok(None),
-        Some(name) => match world_of(alloc, name, shelf) {
+        Some(name) => match world_of(alloc, known, name, shelf) {
             Ok(text) => Ok(Some(text)),
             Err(status) => Err(status),
         },
     }
 }
 
-/// What the files of a project describe, its agents having these names; that of the world is read first.
+/// What the files of a project describe, its agents having these names, where there are artifacts of the known names;
+/// that of the world is read first.
 #[tactic(auto, using(crate::proofs::Parts::world_first, crate::proofs::Parts::then_agents))]
 fn described<S: Shelf>(
     alloc: Global,
+    known: &Names,
     p: &ProjectText,
     names: Names,
     shelf: &mut S,
@@ -121,10 +124,10 @@ fn described<S: Shelf>(
     ensures later { S.faults shelf.old ≤ S.faults shelf.new }
     ensures answer { let held = S.holds shelf.old in
         MatchResult result
-        (spec.Describe held p.now)
-        (spec.UnlessMemory (spec.PartRefused p.now held (S.faults shelf.old) (S.faults shelf.new))) }
+        (spec.Describe known.now held p.now)
+        (spec.UnlessMemory (spec.PartRefused known.now p.now held (S.faults shelf.old) (S.faults shelf.new))) }
 {
-    let world = world_if(alloc, p.world.as_ref(), shelf)?;
+    let world = world_if(alloc, known, p.world.as_ref(), shelf)?;
     match roles_of(alloc, p.agents.as_slice(), shelf) {
         Ok(roles) => Ok(Source {
             names,
@@ -152,10 +155,12 @@ fn too_many(p: &ProjectText, agents: u32, cycles: u64) -> Option<Status>
     None
 }
 
-/// What the files describe that the word asks for, where each agent may make so many cycles, or why one of them is refused.
+/// What the files describe that the word asks for, where there are artifacts of these names and each agent may make so
+/// many cycles, or why one of the files is refused.
 #[tactic(auto, using(crate::proofs::Within::within, crate::proofs::Stands::in_order))]
 pub fn sources<S: Shelf>(
     alloc: Global,
+    known: &Names,
     cycles: u64,
     word: &Text,
     shelf: &mut S,
@@ -165,15 +170,15 @@ pub fn sources<S: Shelf>(
     ensures later { S.faults shelf.old ≤ S.faults shelf.new }
     ensures answer { let held = S.holds shelf.old in
         MatchResult result
-        (spec.HasSource cycles held word.now)
-        (spec.AreRefused cycles held word.now (S.faults shelf.old) (S.faults shelf.new)) }
+        (spec.HasSource known.now cycles held word.now)
+        (spec.AreRefused known.now cycles held word.now (S.faults shelf.old) (S.faults shelf.new)) }
 {
     let p = project_of(alloc, word, shelf)?;
     let names = agent_names(alloc, &p)?;
     if let Some(status) = too_many(&p, names.len(), cycles) {
         return Err(status);
     }
-    match described(alloc, &p, names, shelf) {
+    match described(alloc, known, &p, names, shelf) {
         Ok(source) => Ok(source),
         Err(status) => Err(status),
     }

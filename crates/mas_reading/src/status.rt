@@ -52,7 +52,6 @@ pub enum What {
 /// How a call of the program ended. The place of `Refused` is that of a byte, from 0, for the first four reasons, and for
 /// the others the number, from 1, of the clause, of the piece of a project, of the agent, of the line of a schedule or of the turn.
 /// The count of `Limit` is the allowed bytes of a file, the number of the clause, of the agents, or of their cycles together.
-/// `Later` is a source whose clause of that number, from 1, is the first with a form that does not run yet.
 #[derive(Drop)]
 pub enum Status {
     Ok,
@@ -64,7 +63,6 @@ pub enum Status {
     Limit { what: What, count: u64 },
     Budget,
     Memory,
-    Later { file: Text, place: u64 },
 }
 
 impl From<Starved> for Status {
@@ -91,7 +89,6 @@ pub fn code(s: &Status) -> u8
         Status::Limit { .. } => 7,
         Status::Budget => 8,
         Status::Memory => 9,
-        Status::Later { .. } => 10,
     }
 }
 
@@ -166,17 +163,6 @@ fn limit_line(alloc: Global, what: What, count: u64) -> Result<Text, Starved>
     Ok(text)
 }
 
-fn later_line(alloc: Global, file: &Text, place: u64) -> Result<Text, Starved>
-    ensures { IfOk result (λ t. t ≡ fault_text (Status.Later file.now place)) }
-{
-    let mut text = text_of(alloc, b"later ")?;
-    text.append(file.as_slice())?;
-    text.push(b' ')?;
-    write_number(alloc, place, &mut text)?;
-    text.push(b'\n')?;
-    Ok(text)
-}
-
 /// The status of a report that was written whole.
 pub fn whole(spent: bool) -> Status
     ensures { result ≡ spec.whole spent }
@@ -193,7 +179,7 @@ pub fn fault_line(alloc: Global, s: &Status) -> Result<Text, Starved>
         Status::Ok => Ok(Seq::new(alloc)),
         Status::Usage => text_of(
             alloc,
-            b"usage: jasonrun run PROJECT | replay PROJECT SCHEDULE\n",
+            b"usage: jasonrun run PROJECT | replay PROJECT SCHEDULE | demo K\n",
         ),
         Status::Missing(name) => missing_line(alloc, name),
         Status::ReadFault => text_of(alloc, b"read fault\n"),
@@ -202,6 +188,5 @@ pub fn fault_line(alloc: Global, s: &Status) -> Result<Text, Starved>
         Status::Limit { what, count } => limit_line(alloc, *what, *count),
         Status::Budget => text_of(alloc, b"budget\n"),
         Status::Memory => text_of(alloc, b"memory\n"),
-        Status::Later { file, place } => later_line(alloc, file, *place),
     }
 }

@@ -9,12 +9,11 @@ use Rattle.mas_core.specs.Replay.{Stuck, Came, follow_on, follow}
 use Rattle.mas_board.specs.declared.seats.Seat.{Seat}
 use Rattle.mas_schedule.specs.Reading.{IsSchedule}
 use Rattle.mas_schedule.proofs.Answered.{one_answer}
-use Rattle.mas_report.specs.declared.options.Options.{Options}
 use Rattle.mas_reading.specs.declared.sources.Source.{Source}
 use Rattle.mas_reading.specs.declared.status.Reason.{Reason}
 use Rattle.mas_reading.specs.declared.status.Reason.TheVariants as reason
 use Rattle.mas_reading.proofs.Single.{Accepted}
-use Rattle.mas_top.specs.Opening.{opening}
+use Rattle.mas_top.specs.Opening.{Setup, opening}
 use Rattle.mas_top.specs.Runs.{IsFollowed, schedules}
 
 abbrev read : List ℕ → Result (List ℕ) ℕ
@@ -58,30 +57,29 @@ none_here : (a : ℕ) (seats : List Seat) → ended seats ≡ true → first_her
 none_here a [] e = refl
 none_here a (seat ∷ seats) e = here_by (is_gone seat.phase) (ended seats) a (first_here (a + 1) seats) e (none_here (a + 1) seats)
 
-schedule_faulty : (o : Options) (source : Source) (bytes names : List ℕ) → IsFollowed o source bytes names → (place : ℕ) (why : Reason) →
-    (schedules o source).faulty bytes place why → ⊥
-schedule_faulty o source bytes names h place reason.Byte r = absurd r
-schedule_faulty o source bytes names h place reason.String r = absurd r
-schedule_faulty o source bytes names h place reason.Comment r = absurd r
-schedule_faulty o source bytes names h place reason.Number r = absurd r
-schedule_faulty o source bytes names h place reason.Clause r = absurd r
-schedule_faulty o source bytes names h place (reason.Name name) r = absurd r
-schedule_faulty o source bytes names h place (reason.Option word) r = absurd r
-schedule_faulty o source bytes names h place (reason.Unbound name) r = absurd r
-schedule_faulty o source bytes names h place (reason.Artifact name) r = absurd r
-schedule_faulty o source bytes names h place reason.Line r = names_fault names place (one_answer bytes (Yes names) (No place) h.is r)
-schedule_faulty o source bytes names h place reason.Illegal r =
+schedule_faulty : (u : Setup) (source : Source) (bytes names : List ℕ) → IsFollowed u source bytes names → (place : ℕ) (why : Reason) →
+    (schedules u source).faulty bytes place why → ⊥
+schedule_faulty u source bytes names h place reason.Byte r = absurd r
+schedule_faulty u source bytes names h place reason.String r = absurd r
+schedule_faulty u source bytes names h place reason.Comment r = absurd r
+schedule_faulty u source bytes names h place reason.Number r = absurd r
+schedule_faulty u source bytes names h place reason.Clause r = absurd r
+schedule_faulty u source bytes names h place (reason.Name name) r = absurd r
+schedule_faulty u source bytes names h place (reason.Option word) r = absurd r
+schedule_faulty u source bytes names h place (reason.Unbound name) r = absurd r
+schedule_faulty u source bytes names h place (reason.Artifact name) r = absurd r
+schedule_faulty u source bytes names h place reason.Line r = names_fault names place (one_answer bytes (Yes names) (No place) h.is r)
+schedule_faulty u source bytes names h place reason.Illegal r =
     let e = one_schedule bytes r.names names r.is h.is in
     came_stuck h.leads.done place
-    (sym (follows agent_kind (opening o source) 1 names h.leads.done h.leads.ran) ∙ ap (follow agent_kind (opening o source) 1) (sym e) ∙ r.stuck)
-schedule_faulty o source bytes names h place reason.Unended r =
+    (sym (follows agent_kind (opening u source) 1 names h.leads.done h.leads.ran) ∙ ap (follow agent_kind (opening u source) 1) (sym e) ∙ r.stuck)
+schedule_faulty u source bytes names h place reason.Unended r =
     let e = one_schedule bytes r.names names r.is h.is in
-    let d = some_same (sym h.leads.ran ∙ ap (run agent_kind (opening o source)) (sym e) ∙ r.stays.ran) in
+    let d = some_same (sym h.leads.ran ∙ ap (run agent_kind (opening u source)) (sym e) ∙ r.stays.ran) in
     none_some (sym (none_here 1 h.leads.done.board.seats h.leads.ended) ∙ ap (λ p. first_here 1 p.board.seats) d ∙ r.stays.first)
 
-pub followed_accepted : (o : Options) (source : Source) (bytes names : List ℕ) → IsFollowed o source bytes names → Accepted (schedules o source) bytes
-followed_accepted o source bytes names h = record {
-  faulty = schedule_faulty o source bytes names h;
+pub followed_accepted : (u : Setup) (source : Source) (bytes names : List ℕ) → IsFollowed u source bytes names → Accepted (schedules u source) bytes
+followed_accepted u source bytes names h = record {
+  faulty = schedule_faulty u source bytes names h;
   large = λ quantity number r. r;
-  later = λ number r. r;
 }

@@ -4,3 +4,5 @@ pub mod Played
 pub mod Caused
 pub mod Followed
 pub mod Laws
+pub mod Demos
+pub mod Said

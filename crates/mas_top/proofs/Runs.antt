@@ -18,7 +18,8 @@ use Rattle.mas_report.proofs.Numbered.{run_numbers}
 use Rattle.mas_reading.specs.declared.sources.Source.{Source}
 use Rattle.mas_top.specs.Fits.{CanRun}
 use Rattle.mas_top.specs.Headline.{IsRunReport}
-use Rattle.mas_top.specs.Opening.{opening_board, opening_minds, texts_of}
+use Rattle.mas_world.specs.Worlds.{Used}
+use Rattle.mas_top.specs.Opening.{Setup, setup, opening_board, opening_minds, texts_of}
 use Rattle.mas_top.specs.Playing.{IsReplayed}
 use Rattle.mas_top.proofs.Opened.{mind_at, opened_length}
 
@@ -73,8 +74,8 @@ replay_report {V} k o p names board minds spent w sound r b t =
 -- ---- the start
 
 -- the board at the start
-abbrev opens : Options → Source → boards.Noted
-opens o source = record { state = opening_board o source; schedule = [] }
+abbrev opens : Setup → Source → boards.Noted
+opens u source = record { state = opening_board u source; schedule = [] }
 
 seat_get : {A : Type 0} (n i : ℕ) (x : A) → i < n → slice_get (replicate n x) i ≡ Some x
 seat_get zero i x l = absurd (omega arith)
@@ -89,40 +90,41 @@ fresh n a i =
     let k : a - 1 < n = omega arith in
     ap boards.seat_or_none (seat_get n (a - 1) boards.no_seat k)
 
-mind_fits : (o : Options) (source : Source) (a : ℕ) (m : Option Mindset) → (boards.seat_at (opening_board o source) a).cycle ≡ 0 →
-    length (opening_board o source).seats ≡ length source.names →
+mind_fits : (u : Setup) (source : Source) (a : ℕ) (m : Option Mindset) → (boards.seat_at (opening_board u source) a).cycle ≡ 0 →
+    length (opening_board u source).seats ≡ length source.names →
     IfSome m (λ m. (m.peers.me ≡ a) × ((length m.peers.names ≡ length source.names) × ((m.cycles ≡ 0) × (m.awaits ≡ false)))) →
-    IfSome m (IsMindOf agent_kind (opening_board o source) a)
-mind_fits o source a None c n h = tt
-mind_fits o source a (Some m) c n h =
+    IfSome m (IsMindOf agent_kind (opening_board u source) a)
+mind_fits u source a None c n h = tt
+mind_fits u source a (Some m) c n h =
     record { me = h.0; agents = h.1.0 ∙ sym n; made = h.1.1.0 ∙ sym c; awaits = λ e. absurd (true_false (sym e ∙ h.1.1.1)) }
 
-the_minds : (o : Options) (source : Source) → CanRun source → (a : ℕ) → IsAgent (length (opening_board o source).seats) a →
-    IfSome (slice_get (opening_minds o source) (a - 1)) (IsMindOf agent_kind (opening_board o source) a)
-the_minds o source c a i =
+the_minds : (u : Setup) (source : Source) → CanRun u.objects source → (a : ℕ) → IsAgent (length (opening_board u source).seats) a →
+    IfSome (slice_get (opening_minds u.options source) (a - 1)) (IsMindOf agent_kind (opening_board u source) a)
+the_minds u source c a i =
     let n = length-replicate (length source.names) boards.no_seat in
     let j : IsAgent (length source.names) a = subst (λ x. IsAgent x a) n i in
-    mind_fits o source a (slice_get (opening_minds o source) (a - 1)) (ap (λ s. s.cycle) (fresh (length source.names) a j)) n
-    (mind_at o source.names a (texts_of source.roles) j.from_one (subst (λ x. a ≤ x) c.named j.named))
+    mind_fits u source a (slice_get (opening_minds u.options source) (a - 1)) (ap (λ s. s.cycle) (fresh (length source.names) a j)) n
+    (mind_at u.options source.names a (texts_of source.roles) j.from_one (subst (λ x. a ≤ x) c.named j.named))
 
-starts_here : (o : Options) (source : Source) → CanRun source → Start agent_kind (opens o source) (opening_minds o source)
-starts_here o source c = record {
+starts_here : (u : Setup) (source : Source) → CanRun u.objects source → Start agent_kind (opens u source) (opening_minds u.options source)
+starts_here u source c = record {
   unplayed = refl;
   fit = record {
-    number = opened_length o source.names (texts_of source.roles) ∙ sym c.named ∙ sym (length-replicate (length source.names) boards.no_seat);
-    each = the_minds o source c;
+    number = opened_length u.options source.names (texts_of source.roles) ∙ sym c.named ∙ sym (length-replicate (length source.names) boards.no_seat);
+    each = the_minds u source c;
   };
 }
 
 -- board and minds of a source fit
-pub starts : (o : Options) (source : Source) (board : boards.Noted) (minds : List Mindset) → CanRun source →
-    board ≡ record { state = opening_board o source; schedule = [] } → minds ≡ opening_minds o source → Start agent_kind board minds
-starts o source board minds c b m =
-    subst (λ x. Start agent_kind x minds) (sym b) (subst (λ x. Start agent_kind (opens o source) x) (sym m) (starts_here o source c))
+pub starts : (o : Options) (objects : List Used) (source : Source) (board : boards.Noted) (minds : List Mindset) → CanRun objects source →
+    board ≡ record { state = opening_board (setup o objects) source; schedule = [] } → minds ≡ opening_minds o source → Start agent_kind board minds
+starts o objects source board minds c b m =
+    let u = setup o objects in
+    subst (λ x. Start agent_kind x minds) (sym b) (subst (λ x. Start agent_kind (opens u source) x) (sym m) (starts_here u source c))
 
 -- the limits of the board
-pub limits : (o : Options) (source : Source) → IsWithin o → CanRun source → AreLimits (length source.names) o.cycles o.lead
-limits o source w c = record {
+pub limits : (o : Options) (objects : List Used) (source : Source) → IsWithin o → CanRun objects source → AreLimits (length source.names) o.cycles o.lead
+limits o objects source w c = record {
   some = c.some;
   few = let l = c.few in omega arith;
   cycle = w.cycles.0;

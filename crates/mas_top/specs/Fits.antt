@@ -1,10 +1,10 @@
 -- What a source that files describe brings with it.
-use Rattle.std.specs.Prelude.{◌≡◌, ◌≤◌, Bool, true, [], length, IfSome}
+use Rattle.std.specs.Prelude.{◌≡◌, ◌≤◌, Bool, true, List, length, IfSome}
 use Rattle.std.specs.List.{list_all}
 use Rattle.asl_term.specs.Exprs.{is_ground_literal}
 use Rattle.mas_world.specs.declared.acts.WorldText.{WorldText}
 use Rattle.mas_world.specs.Facts.{AreFacts}
-use Rattle.mas_world.specs.Worlds.{AreNamed}
+use Rattle.mas_world.specs.Worlds.{AreNamed, Used}
 use Rattle.mas_reading.specs.declared.sources.Role.{Role}
 use Rattle.mas_reading.specs.declared.sources.Source.{Source}
 use Rattle.mas_top.specs.Opening.{texts_of}
@@ -12,15 +12,15 @@ use Rattle.mas_top.specs.Opening.{texts_of}
 abbrev pub is_ground_role : Role → Bool
 is_ground_role role = list_all is_ground_literal role.text.beliefs
 
--- what a world asks of its file, where there are no artifacts
-pub record CanOpen (text : WorldText) : Type 0 where
+-- what a world asks of its file, where there are these artifacts
+pub record CanOpen (objects : List Used) (text : WorldText) : Type 0 where
   pub facts : AreFacts text.facts
-  pub named : AreNamed text.uses []
+  pub named : AreNamed text.uses objects
 
 -- one name for each agent, at least one and at most 256, beliefs without variables, and a world that can be opened
-pub record CanRun (source : Source) : Type 0 where
+pub record CanRun (objects : List Used) (source : Source) : Type 0 where
   pub named : length source.names ≡ length (texts_of source.roles)
   pub some : 1 ≤ length source.names
   pub few : length source.names ≤ 256
   pub ground : list_all is_ground_role source.roles ≡ true
-  pub world : IfSome source.world CanOpen
+  pub world : IfSome source.world (CanOpen objects)

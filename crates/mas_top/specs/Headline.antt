@@ -13,13 +13,18 @@ use Rattle.mas_reading.specs.declared.status.Status.{Status}
 use Rattle.mas_reading.specs.declared.status.Status.TheVariants.{Usage, Memory}
 use Rattle.mas_reading.specs.Statuses.{whole}
 use Rattle.mas_top.specs.Caused.{Texts, FileCaused}
-use Rattle.mas_top.specs.Opening.{opening}
+use Rattle.mas_words.specs.Asked as words
+use Rattle.mas_words.specs.Plain.{AskForNothing, AskOnlyFor}
+use Rattle.mas_world.specs.Worlds.{Used}
+use Rattle.mas_report.specs.Limits.{defaults}
+use Rattle.mas_top.specs.Demo.{DemoCaused}
+use Rattle.mas_top.specs.Opening.{Setup, setup, opening}
 use Rattle.mas_top.specs.Runs.{Given, HasGiven}
-use Rattle.mas_top.specs.Words.{Asked, asked_by}
+use Rattle.mas_top.specs.Runs.{Wanted, wanted}
 
 -- the text is the report of the run of what is given, in which some end is `budget` or none is
-abbrev pub IsReportOf : Options → Bool → Given → List ℕ → Type 0
-IsReportOf o spent g w = IsReport agent_kind o (opening o g.source) spent w
+abbrev pub IsReportOf : Setup → Bool → Given → List ℕ → Type 0
+IsReportOf u spent g w = IsReport agent_kind u.options (opening u g.source) spent w
 
 -- the schedule that a text prints is the one that is given, or that of the round robin where none is
 abbrev pub IsScheduled : {V : Type 0} → Kind V → Platform V → Option (List ℕ) → List ℕ → Type 0
@@ -32,76 +37,87 @@ pub record IsRunReport {V : Type 0} (k : Kind V) (o : Options) (p : Platform V) 
   pub scheduled : IsScheduled k p schedule w
 
 -- that of what is given
-abbrev pub IsRunReportOf : Options → Bool → Given → List ℕ → Type 0
-IsRunReportOf o spent g w = IsRunReport agent_kind o (opening o g.source) g.schedule spent w
-
--- ---- what is asked for
-
--- the shelf's files describe this
-abbrev pub HaveGiven : Options → Asked → List Filed → Given → Type 0
-HaveGiven o asked files g = HasGiven o (Some files) asked g
-
--- the words ask for this: the files that they name describe it
-pub record AskFor (o : Options) (words : List (List ℕ)) (files : List Filed) (g : Given) : Type 0 where
-  pub asked : Asked
-  pub read : asked_by words ≡ Some asked
-  pub given_is : HaveGiven o asked files g
+abbrev pub IsRunReportOf : Setup → Bool → Given → List ℕ → Type 0
+IsRunReportOf u spent g w = IsRunReport agent_kind u.options (opening u g.source) g.schedule spent w
 
 -- ---- the headline, for what is asked for
 
 -- what was written behind the old bytes is the report of the platform, stepped along the schedule that this report
 -- prints, each turn legal, every agent gone at the end
-pub record Reported (o : Options) (AskedFor : List Filed → Given → Type 0) (spent : Bool) (files : List Filed) (old new : List ℕ) : Type 0 where
+pub record Reported (u : Setup) (wanted : Wanted) (spent : Bool) (files : List Filed) (old new : List ℕ) : Type 0 where
   pub given : Given
-  pub asked_for : AskedFor files given
+  pub described : HasGiven u (Some files) wanted given
   pub text : List ℕ
   pub written : new ≡ old ++ text
-  pub report : IsReportOf o spent given text
+  pub report : IsReportOf u spent given text
 
 -- where the report was written whole, and shelf and sink tell their bytes
-abbrev pub IsHeadline : Options → (List Filed → Given → Type 0) → Told → Told → Status → Type 0
-IsHeadline o AskedFor before after status =
+abbrev pub IsHeadline : Setup → Wanted → Told → Told → Status → Type 0
+IsHeadline u wanted before after status =
     (spent : Bool) (files : List Filed) (old new : List ℕ) → status ≡ whole spent → before.held ≡ Some files →
-    before.written ≡ Some old → after.written ≡ Some new → Reported o AskedFor spent files old new
+    before.written ≡ Some old → after.written ≡ Some new → Reported u wanted spent files old new
 
--- the report was written whole, the shelf tells that this is asked for, and the sink that this text was written
-pub record WroteFor (AskedFor : List Filed → Given → Type 0) (before after : Told) (status : Status) (g : Given) (text : List ℕ) : Type 0 where
+-- the report was written whole, the shelf tells that its files describe this, and the sink that this text was written
+pub record WroteFor (u : Setup) (wanted : Wanted) (before after : Told) (status : Status) (g : Given) (text : List ℕ) : Type 0 where
   pub spent : Bool
   pub status_is : status ≡ whole spent
   pub files : List Filed
   pub held : before.held ≡ Some files
-  pub asked_for : AskedFor files g
+  pub described : HasGiven u (Some files) wanted g
   pub old : List ℕ
   pub old_is : before.written ≡ Some old
   pub new_is : after.written ≡ Some (old ++ text)
 
--- with one worker, the schedule that is printed is that of the round robin; in a replay it is the one that is given
-abbrev pub PrintsSchedule : Options → (List Filed → Given → Type 0) → Told → Told → Status → Type 0
-PrintsSchedule o AskedFor before after status =
-    (g : Given) (text : List ℕ) → WroteFor AskedFor before after status g text → IsScheduled agent_kind (opening o g.source) g.schedule text
+-- on one thread, the schedule that is printed is that of the round robin; in a replay it is the one that is given
+abbrev pub PrintsSchedule : Setup → Wanted → Told → Told → Status → Type 0
+PrintsSchedule u wanted before after status =
+    (g : Given) (text : List ℕ) → WroteFor u wanted before after status g text → IsScheduled agent_kind (opening u g.source) g.schedule text
 
--- completeness: where the shelf tells that this is asked for, and neither count of faults rises, the report was
+-- completeness: where the shelf tells files that describe something, and neither count of faults rises, the report was
 -- written whole, by Ok or Budget, or the status is Memory
-abbrev pub IsComplete : (List Filed → Given → Type 0) → Told → Told → Status → Type 0
-IsComplete AskedFor before after status =
-    (files : List Filed) (g : Given) → before.held ≡ Some files → AskedFor files g →
+abbrev pub IsComplete : Setup → Wanted → Told → Told → Status → Type 0
+IsComplete u wanted before after status =
+    (files : List Filed) (g : Given) → before.held ≡ Some files → HasGiven u (Some files) wanted g →
     (Rose before.shelf_faults after.shelf_faults → ⊥) → (Rose before.sink_faults after.sink_faults → ⊥) →
     ((spent : Bool) × (status ≡ whole spent)) ⊎ (status ≡ Memory)
 
+-- ---- what the words ask for
+
+-- what holds of the files of a run or of a replay
+abbrev pub ForRuns : (Setup → Wanted → Type 0) → List Used → words.Asked → Type 0
+ForRuns Holds objects (words.run project options workers) = Holds (setup options objects) (wanted project None)
+ForRuns Holds objects (words.replay project schedule options) = Holds (setup options objects) (wanted project (Some schedule))
+ForRuns Holds objects (words.demo count workers) = Unit {0}
+
+-- what holds of a demo of so many agents
+abbrev pub ForDemos : (Setup → ℕ → Type 0) → List Used → words.Asked → Type 0
+ForDemos Holds objects (words.run project options workers) = Unit {0}
+ForDemos Holds objects (words.replay project schedule options) = Unit {0}
+ForDemos Holds objects (words.demo count workers) = Holds (setup defaults objects) count
+
 -- ---- the cause of each status
 
+-- of what the words ask for
+abbrev pub AskedCaused : (Setup → Texts) → List Used → Told → Told → Status → words.Asked → Type 0
+AskedCaused Is objects before after status (words.run project options workers) =
+    let u = setup options objects in FileCaused (Is u) u (wanted project None) before after status
+AskedCaused Is objects before after status (words.replay project schedule options) =
+    let u = setup options objects in FileCaused (Is u) u (wanted project (Some schedule)) before after status
+AskedCaused Is objects before after status (words.demo count workers) = DemoCaused (setup defaults objects) count before after status
+
 -- the words are not read
-pub record IsUsage (words : List (List ℕ)) (before after : Told) (status : Status) : Type 0 where
+pub record IsUsage (given : List (List ℕ)) (before after : Told) (status : Status) : Type 0 where
   pub status_is : status ≡ Usage
-  pub not_read : asked_by words ≡ None
+  pub not_read : AskForNothing given
   pub unwritten : IsUnwritten before after
 
--- the words name files, which are the cause
-pub record NamesFiles (Is : Texts) (o : Options) (words : List (List ℕ)) (before after : Told) (status : Status) : Type 0 where
-  pub asked : Asked
-  pub read : asked_by words ≡ Some asked
-  pub caused : FileCaused Is o asked before after status
+-- the words ask for this alone, which is the cause
+pub record AskFor (Is : Setup → Texts) (objects : List Used) (given : List (List ℕ)) (before after : Told) (status : Status) : Type 0 where
+  pub asked : words.Asked
+  pub read : AskOnlyFor given asked
+  pub permitted : words.IsPermitted asked
+  pub caused : AskedCaused Is objects before after status asked
 
--- Usage exactly where the words are not read; else the cause for the files that they name
-abbrev pub WordsCaused : Texts → Options → List (List ℕ) → Told → Told → Status → Type 0
-WordsCaused Is o words before after status = IsUsage words before after status ⊎ NamesFiles Is o words before after status
+-- Usage exactly where the words are not read; else the cause for what they ask for
+abbrev pub WordsCaused : (Setup → Texts) → List Used → List (List ℕ) → Told → Told → Status → Type 0
+WordsCaused Is objects given before after status = IsUsage given before after status ⊎ AskFor Is objects given before after status

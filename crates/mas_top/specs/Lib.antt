@@ -1,7 +1,7 @@
-pub mod Words
 pub mod Opening
 pub mod Fits
 pub mod Runs
 pub mod Caused
+pub mod Demo
 pub mod Headline
 pub mod Playing

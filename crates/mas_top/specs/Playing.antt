@@ -17,7 +17,7 @@ use Rattle.mas_reading.specs.declared.status.Status.{Status}
 use Rattle.mas_reading.specs.declared.status.Status.TheVariants.{Refused, Memory}
 use Rattle.mas_reading.specs.Files.{HasFile, Reader}
 use Rattle.mas_top.specs.Headline.{IsRunReport}
-use Rattle.mas_top.specs.Opening.{opening}
+use Rattle.mas_top.specs.Opening.{Setup, opening}
 use Rattle.mas_top.specs.Runs.{most_bytes, IsFollowed}
 
 -- each number has its turn, every agent leaves, and w is the report
@@ -44,10 +44,10 @@ LineFaulty bytes number reason.Line = IsBadLine bytes number
 LineFaulty bytes place other = ⊥
 
 abbrev pub lines : Reader
-lines = record { most = most_bytes; faulty = LineFaulty; large = λ bytes quantity count. ⊥; later = λ bytes number. ⊥ }
+lines = record { most = most_bytes; faulty = LineFaulty; large = λ bytes quantity count. ⊥ }
 
 -- w is the report of the run of this source along the schedule of this file
-pub record ForSchedule (o : Options) (held : Option (List Filed)) (source : Source) (name : List ℕ) (spent : Bool) (w : List ℕ) : Type 0 where
+pub record ForSchedule (u : Setup) (held : Option (List Filed)) (source : Source) (name : List ℕ) (spent : Bool) (w : List ℕ) : Type 0 where
   pub names : List ℕ
-  pub has : HasFile most_bytes held name (λ bytes. IsFollowed o source bytes names)
-  pub report : IsRunReport agent_kind o (opening o source) (Some names) spent w
+  pub has : HasFile most_bytes held name (λ bytes. IsFollowed u source bytes names)
+  pub report : IsRunReport agent_kind u.options (opening u source) (Some names) spent w

@@ -1,8 +1,8 @@
 //! The top call: from the words and the files to the report of a run.
 #![tactic(auto)]
 
+pub mod demo;
 pub mod minds;
 pub mod playing;
 pub mod running;
 pub mod top;
-pub mod words;

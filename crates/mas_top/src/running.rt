@@ -10,7 +10,7 @@ ghost use Rattle.mas_report.specs.Limits.{IsWithin};
 ghost use Rattle.mas_report.specs.Report as spec;
 ghost use Rattle.mas_top.specs.Fits.{CanOpen, CanRun};
 ghost use Rattle.mas_top.specs.Headline.{IsRunReport};
-ghost use Rattle.mas_top.specs.Opening.{no_text, opening, opening_board, opening_minds, opening_world};
+ghost use Rattle.mas_top.specs.Opening.{no_text, objects_of, opening, opening_board, opening_minds, opening_world, setup};
 ghost use Rattle.mas_top.specs.Playing.{IsReplayed};
 
 use crate::minds::open_minds;
@@ -28,7 +28,6 @@ use mas_report::report::{is_spent, report};
 use mas_world::acts::WorldText;
 use mas_world::artifact::Artifact;
 use mas_world::opening::open_world;
-use mas_world::tabled::Tabled;
 use mas_world::world::World;
 use std::alloc::Global;
 
@@ -59,22 +58,32 @@ fn empty_text(alloc: Global) -> Result<WorldText, Starved>
 }
 
 /// The world at the start.
-fn world_at_start(alloc: Global, text: Option<WorldText>) -> Result<World<Tabled>, Starved>
-    requires { IfSome text CanOpen }
-    ensures { IfOk result (λ w. w ≡ opening_world text) }
+fn world_at_start<A: Artifact>(
+    alloc: Global,
+    text: Option<WorldText>,
+    artifacts: Vec<A>,
+) -> Result<World<A>, Starved>
+    requires { IfSome text (CanOpen (objects_of A.named A.table A.facts artifacts.items)) }
+    ensures { IfOk result (λ w. w ≡ opening_world (objects_of A.named A.table A.facts artifacts.items) text) }
 {
     match text {
-        Some(text) => open_world(alloc, text, Vec::new(alloc)),
-        None => open_world(alloc, empty_text(alloc)?, Vec::new(alloc)),
+        Some(text) => open_world(alloc, text, artifacts),
+        None => open_world(alloc, empty_text(alloc)?, artifacts),
     }
 }
 
 /// The board and the minds of a source at the start.
 #[tactic(auto, using(crate::proofs::Runs::limits))]
-fn open_source(alloc: Global, o: &Options, source: Source) -> Result<Opened<Agent, Tabled>, Starved>
+pub fn open_source<A: Artifact>(
+    alloc: Global,
+    o: &Options,
+    source: Source,
+    artifacts: Vec<A>,
+) -> Result<Opened<Agent, A>, Starved>
     requires within { IsWithin o.now }
-    requires can { CanRun source }
-    ensures board { IfOk result (λ p. p.board ≡ record { state = opening_board o.now source; schedule = [] }) }
+    requires can { CanRun (objects_of A.named A.table A.facts artifacts.items) source }
+    ensures board { let u = setup o.now (objects_of A.named A.table A.facts artifacts.items) in
+        IfOk result (λ p. p.board ≡ record { state = opening_board u source; schedule = [] }) }
     ensures minds { IfOk result (λ p. p.minds ≡ opening_minds o.now source) }
 {
     let Source {
@@ -83,7 +92,7 @@ fn open_source(alloc: Global, o: &Options, source: Source) -> Result<Opened<Agen
         world,
     } = source;
     let minds = open_minds(alloc, o, &names, roles.as_slice())?;
-    let world = world_at_start(alloc, world)?;
+    let world = world_at_start(alloc, world, artifacts)?;
     let board = open_board(alloc, world, names, o.cycles, o.lead)?;
     Ok(Opened { board, minds })
 }
@@ -140,29 +149,38 @@ fn run_along<M: Mind, A: Artifact>(
 
 /// The report of the run of a source, by the round robin.
 #[tactic(auto, using(crate::proofs::Runs::starts))]
-pub fn run_source(alloc: Global, o: &Options, source: Source) -> Result<Output, Starved>
+pub fn run_source<A: Artifact>(
+    alloc: Global,
+    o: &Options,
+    source: Source,
+    artifacts: Vec<A>,
+) -> Result<Output, Starved>
     requires within { IsWithin o.now }
-    requires can { CanRun source }
-    ensures { IfOk result (λ out. IsRunReport agent_kind o.now (opening o.now source) None out.spent out.text) }
+    requires can { CanRun (objects_of A.named A.table A.facts artifacts.items) source }
+    ensures { let u = setup o.now (objects_of A.named A.table A.facts artifacts.items) in
+        IfOk result (λ out. IsRunReport agent_kind o.now (opening u source) None out.spent out.text) }
 {
-    let opened = open_source(alloc, o, source)?;
+    let opened = open_source(alloc, o, source, artifacts)?;
     run_out(alloc, o, opened)
 }
 
 /// The report of the run of a source along these numbers.
 #[tactic(auto, using(crate::proofs::Runs::starts))]
-pub fn replay_source(
+pub fn replay_source<A: Artifact>(
     alloc: Global,
     o: &Options,
     source: Source,
+    artifacts: Vec<A>,
     names: &Seq<u64>,
 ) -> Result<Output, PlayFault>
     requires within { IsWithin o.now }
-    requires can { CanRun source }
-    ensures ok { IfOk result (λ out. IsReplayed agent_kind o.now (opening o.now source) names.now out.spent out.text) }
-    ensures err { IfErr result (Faulted agent_kind (opening o.now source) names.now) }
+    requires can { CanRun (objects_of A.named A.table A.facts artifacts.items) source }
+    ensures ok { let u = setup o.now (objects_of A.named A.table A.facts artifacts.items) in
+        IfOk result (λ out. IsReplayed agent_kind o.now (opening u source) names.now out.spent out.text) }
+    ensures err { let u = setup o.now (objects_of A.named A.table A.facts artifacts.items) in
+        IfErr result (Faulted agent_kind (opening u source) names.now) }
 {
-    match open_source(alloc, o, source) {
+    match open_source(alloc, o, source, artifacts) {
         Ok(opened) => run_along(alloc, o, opened, names),
         Err(_) => Err(PlayFault::Memory),
     }

@@ -51,6 +51,32 @@ pub trait Artifact: Drop {
         ensures refused { OnErr result (facts self.new ≡ facts self.old) };
 }
 
+/// An artifact in a box, of whatever type, which a caller hands in.
+impl Artifact for Box<dyn Artifact + Send> {
+    ghost named = { λ b. (Artifact-box b).named b.value };
+
+    ghost table = { λ b. (Artifact-box b).table b.value };
+
+    ghost facts = { λ b. (Artifact-box b).facts b.value };
+
+    fn name(&self) -> &Text {
+        (**self).name()
+    }
+
+    fn observe(&self, out: &mut Literals) -> Result<(), Starved> {
+        (**self).observe(out)
+    }
+
+    fn operate(
+        &mut self,
+        alloc: Global,
+        agent: &Text,
+        action: &Literal,
+    ) -> Result<Feedback, Starved> {
+        (**self).operate(alloc, agent, action)
+    }
+}
+
 /// An artifact that contracts see as its name and its segment.
 #[derive(Drop)]
 pub struct Kept<A: Artifact> {

@@ -1,10 +1,12 @@
-//! Artifacts, which no run uses yet.
+//! Single calls of artifacts.
 
+use crate::pings::Pings;
 use asl_term::copying::text_of;
 use asl_term::measure::ground_literal;
 use asl_term::printing_expr::write_literal;
 use asl_term::sequence::{Seq, Starved};
 use asl_term::syntax::{Literal, LiteralOf, Term, Text};
+use mas_artifact::belt::Belt;
 use mas_artifact::slot::Slot;
 use mas_artifact::tally::Tally;
 use mas_mind::mind::Feedback;
@@ -86,5 +88,52 @@ fn a_tally_adds(rt: HostRuntime) -> Result<(), Starved> {
     assert!(rt; !does(alloc, &mut tally, b"a", b"tally_add", None)?);
     let told = shown(alloc, &tally)?;
     assert!(rt; told.as_slice() == b"tally(5)".as_slice());
+    Ok(())
+}
+
+/// Whether each of these actions with a number is done, or not, as told.
+fn all_are<A: Artifact>(
+    alloc: Global,
+    artifact: &mut A,
+    steps: &[(&[u8], i64, bool)],
+) -> Result<bool, Starved> {
+    for (name, number, is_done) in steps {
+        if does(alloc, artifact, b"a", *name, Some(*number))? != *is_done {
+            return Ok(false);
+        }
+    }
+    Ok(true)
+}
+
+#[test]
+fn a_belt_is_a_row_of_four(rt: HostRuntime) -> Result<(), Starved> {
+    let alloc = rt.alloc();
+    let mut belt = Belt::new(alloc)?;
+    let steps: [(&[u8], i64, bool); 7] = [
+        (b"belt_put", 1, true),
+        (b"belt_put", 2, true),
+        (b"belt_put", 3, true),
+        (b"belt_put", 4, true),
+        (b"belt_put", 5, false),
+        (b"belt_take", 1, true),
+        (b"belt_take", 9, false),
+    ];
+    assert!(rt; all_are(alloc, &mut belt, &steps)?);
+    let left = shown(alloc, &belt)?;
+    assert!(rt; left.as_slice() == b"belt([2,3,4])".as_slice());
+    Ok(())
+}
+
+#[test]
+fn an_artifact_of_ones_own_acts(rt: HostRuntime) -> Result<(), Starved> {
+    let alloc = rt.alloc();
+    let Ok(mut pings) = Pings::new(alloc, b"pings") else {
+        return Err(Starved);
+    };
+    assert!(rt; pings.name().as_slice() == b"pings".as_slice());
+    assert!(rt; does(alloc, &mut pings, b"a", b"ping", None)?);
+    assert!(rt; !does(alloc, &mut pings, b"a", b"ping", Some(1))?);
+    let told = shown(alloc, &pings)?;
+    assert!(rt; told.as_slice() == b"pings(1)".as_slice());
     Ok(())
 }

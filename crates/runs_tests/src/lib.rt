@@ -7,3 +7,5 @@ mod artifacts;
 mod edge;
 #[cfg(test)]
 mod laws;
+#[cfg(test)]
+mod pings;

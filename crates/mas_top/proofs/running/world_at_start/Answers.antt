@@ -3,6 +3,5 @@ use Rattle.mas_world.specs.Facts.{AreFacts}
 use Rattle.mas_world.proofs.Sound.{none_are}
 use Rattle.mas_top.proofs.running.world_at_start.Goals as goal
 
--- src/running.rt:83:17
 pub open_world-requires-in-None-clause-facts : goal.open_world-requires-in-None-clause-facts
-open_world-requires-in-None-clause-facts c = subst (λ t. AreFacts t.facts) (sym c.in_ok-empty_text-in-None.ensures) none_are
+open_world-requires-in-None-clause-facts g c = subst (λ t. AreFacts t.facts) (sym c.in_ok-empty_text-in-None.ensures) none_are

@@ -1,4 +1,4 @@
-use Rattle.mas_top.proofs.Laws.{headline_words, schedule_words, complete_words, report_words}
+use Rattle.mas_top.proofs.Said.{headline_words, schedule_words, complete_words, demo_words, report_words}
 use Rattle.mas_top.proofs.top.run_words.Goals as goal
 
 pub returns-clause-headline : goal.returns-clause-headline
@@ -8,7 +8,10 @@ pub returns-clause-schedule : goal.returns-clause-schedule
 returns-clause-schedule g c = schedule_words _ _ _ _ _ c.run_read.ensures.caused
 
 pub returns-clause-complete : goal.returns-clause-complete
-returns-clause-complete g c = complete_words _ _ _ _ _ _ c.run_read.ensures.caused
+returns-clause-complete g c = complete_words _ _ _ _ _ c.run_read.ensures.caused
+
+pub returns-clause-demo : goal.returns-clause-demo
+returns-clause-demo g c = demo_words _ _ _ _ _ c.run_read.ensures.caused
 
 pub returns-clause-caused : goal.returns-clause-caused
 returns-clause-caused g c = report_words _ _ _ _ _ c.run_read.ensures.caused

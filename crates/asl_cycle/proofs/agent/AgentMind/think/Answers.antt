@@ -1,6 +1,6 @@
 use Rattle.std.proofs.Common.{sym, ap, ◌∙◌}
 use Rattle.asl_exec.specs.Parts.{around, parts}
-use Rattle.asl_cycle.specs.Solving.{no_solution}
+use Rattle.asl_stdlib.specs.Solving.{solve}
 use Rattle.asl_cycle.specs.Agent.{Mindset, agent_cycle}
 use Rattle.asl_cycle.specs.contracts.agent.Agent.{the_view}
 use Rattle.asl_cycle.specs.inner.Laws.{lawful_of}
@@ -11,17 +11,18 @@ pub returns-clause-lawful : goal.returns-clause-lawful
 returns-clause-lawful c =
     let a = c.self.inside in
     lawful_of
-    (around a.around.lib.plans a.parts.beliefs.rules no_solution a.around.budgets) a.peers c.args.self.now.peers
+    (around a.around.lib.plans a.parts.beliefs.rules (solve a.around.actions) a.around.budgets) a.peers c.args.self.now.peers
     (parts a.parts.beliefs.beliefs a.parts.agenda a.parts.number)
     _ a.asks _ c.take-kept.result c.args.input _ _ (ap (λ (m : Mindset). m.peers) c.self.view_is) c.requires.sent c.in_ok-finished.ensures.made
 
 pub returns-clause-made : goal.returns-clause-made
 returns-clause-made c =
+    let a = c.self.inside in
     let f = c.in_ok-finished.finished in
     let q = c.cycle.new.p in
     sym (ap (λ (m : Mindset). agent_cycle m c.args.input) c.self.view_is)
-    ∙ (cycled (the_view c.self.inside) c.args.input c.take-kept.result
+    ∙ (cycled (the_view a) c.args.input a.around.actions c.take-kept.result
     (record { parts = parts q.beliefs.beliefs q.agenda q.number; asks = f.asks; lines = f.lines; thought = f.thought })
     q.beliefs.rules c.take-kept.new.self c.asks-self-inside.result c.as_slice.result.now c.write_lines.new.out
-    c.take-kept.ensures.value c.in_ok-finished.ensures.made c.in_ok-finished.ensures.rules c.take-kept.ensures.after
+    c.self.invariant.1.1.1.1 c.take-kept.ensures.value c.in_ok-finished.ensures.made c.in_ok-finished.ensures.rules c.take-kept.ensures.after
     c.asks-self-inside.ensures c.as_slice.ensures c.in_ok-write_lines.ensures)

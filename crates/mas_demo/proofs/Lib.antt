@@ -1,0 +1,12 @@
+pub mod Listed
+pub mod Counted
+pub mod Tokens
+pub mod Cut
+pub mod Project
+pub mod Entries
+pub mod Named
+pub mod Held
+pub mod Reading
+pub mod Agent
+pub mod World
+pub mod Described

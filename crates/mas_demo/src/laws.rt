@@ -1,0 +1,15 @@
+//! Laws of the demo's files, as contracts of functions that do nothing.
+
+ghost use Rattle.mas_demo.specs.Laws.{DemoDescribed, DemoNotRefused};
+
+/// Where an artifact `tally` is there, the files of the demo are those of a project.
+#[tactic(auto, using(crate::proofs::Described::demo_described))]
+pub fn demo_is_described()
+    ensures { DemoDescribed }
+{}
+
+/// So none of them is refused on a shelf of which no call fails, and no limit is passed.
+#[tactic(auto, using(crate::proofs::Described::demo_not_refused))]
+pub fn demo_is_not_refused()
+    ensures { DemoNotRefused }
+{}

@@ -1,0 +1,104 @@
+-- What becomes of a demo.
+use Rattle.std.proofs.Common.{ℕ, ◌≡◌, ◌≤◌, inl, inr, true, List, Some, Option, refl, ap, sym, ◌∙◌, subst, codes}
+use Rattle.asl_cycle.specs.Agent.{agent_kind}
+use Rattle.asl_term.specs.declared.syntax.Filed.{Filed}
+use Rattle.mas_board.specs.Boards as boards
+use Rattle.mas_core.specs.Platform.{Platform, run}
+use Rattle.mas_core.specs.Robin.{RanOut, turns}
+use Rattle.mas_demo.specs.Files.{demo_files}
+use Rattle.mas_demo.specs.Lines.{demo_text}
+use Rattle.mas_io.specs.Causes.{Rose}
+use Rattle.mas_io.specs.Sink.{grown}
+use Rattle.mas_io.specs.Told.{Told, IsUnwritten}
+use Rattle.mas_io.specs.Writing.{IsCut}
+use Rattle.mas_mind.specs.Minds.{Kind}
+use Rattle.env_file.specs.Worlds.{has_name}
+use Rattle.mas_demo.proofs.Described.{demo_not_refused}
+use Rattle.mas_report.specs.Limits.{defaults}
+use Rattle.mas_reading.proofs.Unless.{unless}
+use Rattle.mas_reading.specs.Known.{known}
+use Rattle.mas_reading.specs.Sources.{HasSource, FirstRefused, AreRefused, UnlessMemory, project_refused, cycles_refused, part_refused}
+use Rattle.mas_reading.specs.declared.sources.Source.{Source}
+use Rattle.mas_reading.specs.declared.status.Status.{Status}
+use Rattle.mas_reading.specs.declared.status.Status.TheVariants.{Ok, Usage, Missing, ReadFault, WriteFault, Refused, Limit, Budget, Memory}
+use Rattle.mas_top.specs.Demo.{DemoHas, IsToldRun, IsDemo, DemoRefused, DemoCaused, IsDemoComplete}
+use Rattle.mas_report.specs.declared.options.Options.{Options}
+use Rattle.mas_world.specs.Worlds.{Used}
+use Rattle.mas_top.specs.Opening.{Setup, setup, opening}
+use Rattle.mas_top.proofs.Caused.{refuses, first_refuses}
+
+-- the lines of the round robin
+pub robin_told : {V : Type 0} (kind : Kind V) (p : Platform V) (board : boards.Noted) (minds : List V) (k : ℕ) (w : List ℕ) → RanOut kind p board minds →
+    w ≡ demo_text k board.state → IsToldRun kind p k w
+robin_told {V} kind p board minds k w r t = record {
+  done = record { board = board.state; minds = minds; thoughts = r.thoughts };
+  ran = ap (run kind p) (sym r.schedule) ∙ r.ran;
+  ended = r.ended;
+  is = t;
+}
+
+pub told : (o : Options) (objects : List Used) (k : ℕ) (source : Source) (w : List ℕ) →
+    HasSource (known objects) o.cycles (Some (demo_files k)) (codes "demo.mas2j") source → IsToldRun agent_kind (opening (setup o objects) source) k w →
+    IsDemo (setup o objects) k w
+told o objects k source w h t = record { source = source; has = h; told = t }
+
+pub unread : (o : Options) (objects : List Used) (k : ℕ) (held : Option (List Filed)) (word : List ℕ) (status : Status) → held ≡ Some (demo_files k) →
+    word ≡ codes "demo.mas2j" → AreRefused (known objects) o.cycles held word 0 0 status → UnlessMemory (DemoRefused (setup o objects) k) status
+unread o objects k held word status e f r =
+    subst (λ w. AreRefused (known objects) o.cycles (Some (demo_files k)) w 0 0 status) f (subst (λ x. AreRefused (known objects) o.cycles x word 0 0 status) e r)
+
+one_refused : (u : Setup) (k : ℕ) (before after : Told) (status : Status) → refuses status ≡ true → DemoRefused u k status → IsUnwritten before after →
+    DemoCaused u k before after status
+one_refused u k before after Ok e r w = absurd cc
+one_refused u k before after Usage e r w = record { why = r; unwritten = w }
+one_refused u k before after (Missing lacked) e r w = record { why = r; unwritten = w }
+one_refused u k before after ReadFault e r w = record { why = r; unwritten = w }
+one_refused u k before after WriteFault e r w = absurd cc
+one_refused u k before after (Refused file place why) e r w = record { why = r; unwritten = w }
+one_refused u k before after (Limit quantity count) e r w = record { why = r; unwritten = w }
+one_refused u k before after Budget e r w = absurd cc
+one_refused u k before after Memory e r w = w
+
+by_first : (u : Setup) (k : ℕ) (before after : Told) (status : Status) → DemoRefused u k status → IsUnwritten before after → DemoCaused u k before after status
+by_first u k before after status r w =
+    one_refused u k before after status
+    (first_refuses (known u.objects) u.options.cycles (Some (demo_files k)) (codes "demo.mas2j") 0 0 status r) r w
+
+-- a file is refused, and nothing was written
+pub unwritten : (u : Setup) (k : ℕ) (before after : Told) (status : Status) → UnlessMemory (DemoRefused u k) status → IsUnwritten before after →
+    DemoCaused u k before after status
+unwritten u k before after Ok r w = by_first u k before after Ok r w
+unwritten u k before after Usage r w = by_first u k before after Usage r w
+unwritten u k before after (Missing lacked) r w = by_first u k before after (Missing lacked) r w
+unwritten u k before after ReadFault r w = by_first u k before after ReadFault r w
+unwritten u k before after WriteFault r w = by_first u k before after WriteFault r w
+unwritten u k before after (Refused file place why) r w = by_first u k before after (Refused file place why) r w
+unwritten u k before after (Limit quantity count) r w = by_first u k before after (Limit quantity count) r w
+unwritten u k before after Budget r w = by_first u k before after Budget r w
+unwritten u k before after Memory r w = w
+
+pub written : (u : Setup) (k : ℕ) (before after : Told) (w : List ℕ) → IsDemo u k w → after.written ≡ grown before.written w → DemoCaused u k before after Ok
+written u k before after w d e = record { text = w; is = d; written = e }
+
+pub cut : (u : Setup) (k : ℕ) (before after : Told) (w : List ℕ) → IsDemo u k w → Rose before.sink_faults after.sink_faults →
+    IsCut before.written after.written w → DemoCaused u k before after WriteFault
+cut u k before after w d r c = record { rose = r; text = w; is = d; cut = c }
+
+-- ---- completeness
+
+not_first : (objects : List Used) (k : ℕ) (status : Status) → 1 ≤ k → k ≤ 200 → has_name (known objects) (codes "tally") ≡ true →
+    DemoRefused (setup defaults objects) k status → status ≡ Memory
+not_first objects k status l h t r =
+    demo_not_refused (known objects) k status t l h (unless (FirstRefused (known objects) 1000 (Some (demo_files k)) (codes "demo.mas2j") 0 0) status r)
+
+pub demo_complete : (objects : List Used) (k : ℕ) (before after : Told) (status : Status) → 1 ≤ k → k ≤ 200 →
+    DemoCaused (setup defaults objects) k before after status → IsDemoComplete (setup defaults objects) before after status
+demo_complete objects k before after Ok l h c t f = inl refl
+demo_complete objects k before after Usage l h c t f = inr (not_first objects k Usage l h t c.why)
+demo_complete objects k before after (Missing lacked) l h c t f = inr (not_first objects k (Missing lacked) l h t c.why)
+demo_complete objects k before after ReadFault l h c t f = inr (not_first objects k ReadFault l h t c.why)
+demo_complete objects k before after WriteFault l h c t f = absurd (f c.rose)
+demo_complete objects k before after (Refused file place why) l h c t f = inr (not_first objects k (Refused file place why) l h t c.why)
+demo_complete objects k before after (Limit quantity count) l h c t f = inr (not_first objects k (Limit quantity count) l h t c.why)
+demo_complete objects k before after Budget l h c t f = inr (not_first objects k Budget l h t c.why)
+demo_complete objects k before after Memory l h c t f = inr refl

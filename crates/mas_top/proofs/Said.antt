@@ -1,0 +1,99 @@
+-- What the words ask for, and what follows of the cause of a status.
+use Rattle.std.proofs.Common.{inl, inr, List, ℕ, None, Some, sym, subst}
+use Rattle.mas_words.specs.Asked as words
+use Rattle.mas_words.specs.Plain.{AskFor, AreRead}
+use Rattle.mas_io.specs.Told.{Told, IsUnwritten}
+use Rattle.mas_report.specs.Limits.{defaults}
+use Rattle.mas_reading.specs.declared.status.Status.{Status}
+use Rattle.mas_reading.specs.declared.status.Status.TheVariants.{Memory}
+use Rattle.mas_world.specs.Worlds.{Used}
+use Rattle.mas_top.specs.Caused.{Texts}
+use Rattle.mas_top.specs.Headline.{IsReportOf, IsRunReportOf, IsHeadline, PrintsSchedule, IsComplete, ForRuns, ForDemos, AskedCaused, WordsCaused}
+use Rattle.mas_top.specs.Opening.{Setup, setup}
+use Rattle.mas_top.specs.Runs.{wanted}
+use Rattle.mas_top.specs.Demo.{IsDemoComplete}
+use Rattle.mas_top.proofs.Demos.{demo_complete}
+use Rattle.mas_top.proofs.Laws.{headline_file, schedule_file, complete_file, report_file}
+
+-- the cause for what the words ask for
+said : (Is : Setup → Texts) (objects : List Used) (given : List (List ℕ)) (before after : Told) (status : Status) → WordsCaused Is objects given before after status →
+    (a : words.Asked) → AskFor given a → AskedCaused Is objects before after status a
+said Is objects given before after status (inl u) a h = absurd (u.not_read a h)
+said Is objects given before after status (inr w) a h = subst (λ x. AskedCaused Is objects before after status x) (sym (w.read.only a h)) w.caused
+
+-- where memory lacked before anything was done
+short_by : (objects : List Used) (before after : Told) (a : words.Asked) → IsUnwritten before after → AskedCaused IsRunReportOf objects before after Memory a
+short_by objects before after (words.run project options workers) u = u
+short_by objects before after (words.replay project schedule options) u = u
+short_by objects before after (words.demo count workers) u = u
+
+pub short_words : (objects : List Used) (given : List (List ℕ)) (before after : Told) → AreRead given → IsUnwritten before after →
+    WordsCaused IsRunReportOf objects given before after Memory
+short_words objects given before after r u =
+    inr (record { asked = r.asked; read = r.only; permitted = r.permitted; caused = short_by objects before after r.asked u })
+
+headline_by : (objects : List Used) (before after : Told) (status : Status) (a : words.Asked) → AskedCaused IsRunReportOf objects before after status a →
+    ForRuns (λ u asked. IsHeadline u asked before after status) objects a
+headline_by objects before after status (words.run project options workers) c = headline_file (setup options objects) (wanted project None) before after status c
+headline_by objects before after status (words.replay project schedule options) c =
+    headline_file (setup options objects) (wanted project (Some schedule)) before after status c
+headline_by objects before after status (words.demo count workers) c = tt
+
+schedule_by : (objects : List Used) (before after : Told) (status : Status) (a : words.Asked) → AskedCaused IsRunReportOf objects before after status a →
+    ForRuns (λ u asked. PrintsSchedule u asked before after status) objects a
+schedule_by objects before after status (words.run project options workers) c = schedule_file (setup options objects) (wanted project None) before after status c
+schedule_by objects before after status (words.replay project schedule options) c =
+    schedule_file (setup options objects) (wanted project (Some schedule)) before after status c
+schedule_by objects before after status (words.demo count workers) c = tt
+
+complete_by : (objects : List Used) (before after : Told) (status : Status) (a : words.Asked) → AskedCaused IsRunReportOf objects before after status a →
+    ForRuns (λ u asked. IsComplete u asked before after status) objects a
+complete_by objects before after status (words.run project options workers) c =
+    let u = setup options objects in complete_file (IsRunReportOf u) u (wanted project None) before after status c
+complete_by objects before after status (words.replay project schedule options) c =
+    let u = setup options objects in complete_file (IsRunReportOf u) u (wanted project (Some schedule)) before after status c
+complete_by objects before after status (words.demo count workers) c = tt
+
+demo_by : (objects : List Used) (before after : Told) (status : Status) (a : words.Asked) → words.IsPermitted a →
+    AskedCaused IsRunReportOf objects before after status a → ForDemos (λ u count. IsDemoComplete u before after status) objects a
+demo_by objects before after status (words.run project options workers) p c = tt
+demo_by objects before after status (words.replay project schedule options) p c = tt
+demo_by objects before after status (words.demo count workers) p c = demo_complete objects count before after status p.0.0 p.0.1 c
+
+demo_said : (objects : List Used) (given : List (List ℕ)) (before after : Told) (status : Status) → WordsCaused IsRunReportOf objects given before after status →
+    (a : words.Asked) → AskFor given a → words.IsPermitted a
+demo_said objects given before after status (inl u) a h = absurd (u.not_read a h)
+demo_said objects given before after status (inr w) a h = subst words.IsPermitted (sym (w.read.only a h)) w.permitted
+
+report_by : (objects : List Used) (before after : Told) (status : Status) (a : words.Asked) → AskedCaused IsRunReportOf objects before after status a →
+    AskedCaused IsReportOf objects before after status a
+report_by objects before after status (words.run project options workers) c = report_file (setup options objects) (wanted project None) before after status c
+report_by objects before after status (words.replay project schedule options) c =
+    report_file (setup options objects) (wanted project (Some schedule)) before after status c
+report_by objects before after status (words.demo count workers) c = c
+
+pub headline_words : (objects : List Used) (given : List (List ℕ)) (before after : Told) (status : Status) → WordsCaused IsRunReportOf objects given before after status →
+    (a : words.Asked) → AskFor given a → ForRuns (λ u asked. IsHeadline u asked before after status) objects a
+headline_words objects given before after status c a h =
+    headline_by objects before after status a (said IsRunReportOf objects given before after status c a h)
+
+pub schedule_words : (objects : List Used) (given : List (List ℕ)) (before after : Told) (status : Status) → WordsCaused IsRunReportOf objects given before after status →
+    (a : words.Asked) → AskFor given a → ForRuns (λ u asked. PrintsSchedule u asked before after status) objects a
+schedule_words objects given before after status c a h =
+    schedule_by objects before after status a (said IsRunReportOf objects given before after status c a h)
+
+pub complete_words : (objects : List Used) (given : List (List ℕ)) (before after : Told) (status : Status) → WordsCaused IsRunReportOf objects given before after status →
+    (a : words.Asked) → AskFor given a → ForRuns (λ u asked. IsComplete u asked before after status) objects a
+complete_words objects given before after status c a h =
+    complete_by objects before after status a (said IsRunReportOf objects given before after status c a h)
+
+pub demo_words : (objects : List Used) (given : List (List ℕ)) (before after : Told) (status : Status) → WordsCaused IsRunReportOf objects given before after status →
+    (a : words.Asked) → AskFor given a → ForDemos (λ u count. IsDemoComplete u before after status) objects a
+demo_words objects given before after status c a h =
+    demo_by objects before after status a (demo_said objects given before after status c a h) (said IsRunReportOf objects given before after status c a h)
+
+pub report_words : (objects : List Used) (given : List (List ℕ)) (before after : Told) (status : Status) → WordsCaused IsRunReportOf objects given before after status →
+    WordsCaused IsReportOf objects given before after status
+report_words objects given before after status (inl u) = inl u
+report_words objects given before after status (inr w) =
+    inr (record { asked = w.asked; read = w.read; permitted = w.permitted; caused = report_by objects before after status w.asked w.caused })

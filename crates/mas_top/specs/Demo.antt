@@ -1,0 +1,61 @@
+-- What `demo K` writes, and the cause of its status.
+use Rattle.std.specs.Prelude.{ℕ, ◌≡◌, ◌⊎◌, true, List, Option, Some, codes}
+use Rattle.asl_term.specs.declared.syntax.Filed.{Filed}
+use Rattle.asl_cycle.specs.Agent.{agent_kind}
+use Rattle.mas_mind.specs.Minds.{Kind}
+use Rattle.mas_core.specs.Platform.{Platform, run, ended}
+use Rattle.mas_core.specs.Robin.{turns}
+use Rattle.mas_demo.specs.Files.{demo_files}
+use Rattle.mas_demo.specs.Lines.{demo_text}
+use Rattle.env_file.specs.Worlds.{has_name}
+use Rattle.mas_io.specs.Causes.{Rose}
+use Rattle.mas_io.specs.Told.{Told, IsUnwritten}
+use Rattle.mas_io.specs.Writing.{Wrote, WroteSome}
+use Rattle.mas_reading.specs.Known.{known}
+use Rattle.mas_reading.specs.Sources.{HasSource, FirstRefused}
+use Rattle.mas_reading.specs.declared.sources.Source.{Source}
+use Rattle.mas_reading.specs.declared.status.Status.{Status}
+use Rattle.mas_reading.specs.declared.status.Status.TheVariants.{Ok, WriteFault, Memory}
+use Rattle.mas_top.specs.Opening.{Setup, opening}
+
+-- the demo's own files, of so many agents, describe this source
+abbrev pub DemoHas : Setup → ℕ → Source → Type 0
+DemoHas u k source = HasSource (known u.objects) u.options.cycles (Some (demo_files k)) (codes "demo.mas2j") source
+
+-- w tells of the run from p by the round robin, in which every agent has left at the end
+pub record IsToldRun {V : Type 0} (kind : Kind V) (p : Platform V) (k : ℕ) (w : List ℕ) : Type 0 where
+  pub done : Platform V
+  pub ran : run kind p (turns kind p) ≡ Some done
+  pub ended : ended done.board.seats ≡ true
+  pub is : w ≡ demo_text k done.board
+
+-- that of the demo's source
+pub record IsDemo (u : Setup) (k : ℕ) (w : List ℕ) : Type 0 where
+  pub source : Source
+  pub has : DemoHas u k source
+  pub told : IsToldRun agent_kind (opening u source) k w
+
+-- why one of the demo's files is refused, as one is that uses an artifact which is not there
+abbrev pub DemoRefused : Setup → ℕ → Status → Type 0
+DemoRefused u k status = FirstRefused (known u.objects) u.options.cycles (Some (demo_files k)) (codes "demo.mas2j") 0 0 status
+
+pub record IsRefusedDemo (u : Setup) (k : ℕ) (before after : Told) (status : Status) : Type 0 where
+  pub why : DemoRefused u k status
+  pub unwritten : IsUnwritten before after
+
+-- completeness: where a tally is handed in, and the sink's count of faults does not rise, the lines were written whole, or
+-- the status is Memory
+abbrev pub IsDemoComplete : Setup → Told → Told → Status → Type 0
+IsDemoComplete u before after status =
+    has_name (known u.objects) (codes "tally") ≡ true → (Rose before.sink_faults after.sink_faults → ⊥) → (status ≡ Ok) ⊎ (status ≡ Memory)
+
+-- what is told of a sink beside a shelf
+abbrev pub beside : Option (List Filed) → ℕ → Option (List ℕ) → ℕ → Told
+beside held shelf_faults written sink_faults = record { held = held; shelf_faults = shelf_faults; written = written; sink_faults = sink_faults }
+
+-- the cause of a status of `demo`
+abbrev pub DemoCaused : Setup → ℕ → Told → Told → Status → Type 0
+DemoCaused u k before after Ok = Wrote (IsDemo u k) before after
+DemoCaused u k before after WriteFault = WroteSome (IsDemo u k) before after
+DemoCaused u k before after Memory = IsUnwritten before after
+DemoCaused u k before after status = IsRefusedDemo u k before after status

@@ -1,0 +1,15 @@
+pub mod Digits
+pub mod Parts
+pub mod Telling
+pub mod Sound
+pub mod Answers
+pub mod Within
+pub mod Rules
+pub mod Rows
+pub mod Steps
+pub mod Passes
+pub mod Walks
+pub mod Goes
+pub mod Apart
+pub mod Texts
+pub mod Taking

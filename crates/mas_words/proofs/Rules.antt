@@ -1,0 +1,161 @@
+-- What building makes of the commands for clap.
+use Rattle.std.proofs.Common.{◌≡◌, ◌<◌, ◌+◌, ℕ, true, false, List, Option, None, Some, refl, arith, codes, eqb, suc, zero}
+use Rattle.std.specs.Str.{bytes_eq}
+use Rattle.clap.specs.Walk.{Rule, Text, arg_by_id, arg_by_index, arg_by_long}
+use Rattle.clap.specs.Simple.{built, is_simple, new_rule}
+use Rattle.clap.specs.declared.builder.action.ArgAction.TheVariants.{Set}
+use Rattle.clap.specs.declared.builder.value_parser.ValueParser.TheVariants as parser
+use Rattle.mas_words.specs.declared.table.Command.{Command}
+use Rattle.mas_words.specs.declared.table.Command.TheVariants.{Run, Replay, Demo}
+use Rattle.mas_words.specs.declared.table.Setting.{Setting}
+use Rattle.mas_words.specs.declared.table.Setting.TheVariants.{Workers, Cycles, Lead, Depth, Tries, Level}
+use Rattle.mas_words.specs.Table.{takes, name_count, same}
+use Rattle.mas_words.specs.Apps.{app_for, id_of}
+
+-- an argument with one value, which is any text
+abbrev pub one_text : Text → Option Text → Option ℕ → Rule
+one_text id long index = record (new_rule id) {
+  long = long;
+  index = index;
+  action = Some Set;
+  range = Some (record { start_inclusive = 1; end_inclusive = 1 });
+  parser = Some parser.String;
+}
+
+abbrev pub option_built : Setting → Rule
+option_built o = one_text (id_of o) (Some (id_of o)) None
+
+abbrev pub name_id : Command → ℕ → Text
+name_id Replay (suc k) = codes "schedule"
+name_id Demo k = codes "count"
+name_id _ _ = codes "project"
+
+abbrev pub name_built : Command → ℕ → Rule
+name_built c k = one_text (name_id c k) None (Some (1 + k))
+
+abbrev pub rules_for : Command → List Rule
+rules_for c = (built (app_for c)).top.rules
+
+pub simple : (c : Command) → is_simple (app_for c) ≡ true
+simple Run = refl
+simple Replay = refl
+simple Demo = refl
+
+pub by_long : (c : Command) (o : Setting) → takes c o ≡ true → arg_by_long (rules_for c) (id_of o) ≡ Some (option_built o)
+by_long Run Workers e = refl
+by_long Run Cycles e = refl
+by_long Run Lead e = refl
+by_long Run Depth e = refl
+by_long Run Tries e = refl
+by_long Run Level e = refl
+by_long Replay Workers e = absurd (grind arith)
+by_long Replay Cycles e = refl
+by_long Replay Lead e = refl
+by_long Replay Depth e = refl
+by_long Replay Tries e = refl
+by_long Replay Level e = refl
+by_long Demo Workers e = refl
+by_long Demo o e = absurd (grind arith)
+
+pub option_by_id : (c : Command) (o : Setting) → takes c o ≡ true → arg_by_id (rules_for c) (id_of o) ≡ Some (option_built o)
+option_by_id Run Workers e = refl
+option_by_id Run Cycles e = refl
+option_by_id Run Lead e = refl
+option_by_id Run Depth e = refl
+option_by_id Run Tries e = refl
+option_by_id Run Level e = refl
+option_by_id Replay Workers e = absurd (grind arith)
+option_by_id Replay Cycles e = refl
+option_by_id Replay Lead e = refl
+option_by_id Replay Depth e = refl
+option_by_id Replay Tries e = refl
+option_by_id Replay Level e = refl
+option_by_id Demo Workers e = refl
+option_by_id Demo o e = absurd (grind arith)
+
+pub by_index : (c : Command) (k : ℕ) → k < name_count c → arg_by_index (rules_for c) (1 + k) ≡ Some (name_built c k)
+by_index Run zero h = refl
+by_index Run (suc k) h = absurd (omega arith)
+by_index Replay zero h = refl
+by_index Replay (suc zero) h = refl
+by_index Replay (suc (suc k)) h = absurd (omega arith)
+by_index Demo zero h = refl
+by_index Demo (suc k) h = absurd (omega arith)
+
+pub name_by_id : (c : Command) (k : ℕ) → k < name_count c → arg_by_id (rules_for c) (name_id c k) ≡ Some (name_built c k)
+name_by_id Run zero h = refl
+name_by_id Run (suc k) h = absurd (omega arith)
+name_by_id Replay zero h = refl
+name_by_id Replay (suc zero) h = refl
+name_by_id Replay (suc (suc k)) h = absurd (omega arith)
+name_by_id Demo zero h = refl
+name_by_id Demo (suc k) h = absurd (omega arith)
+
+-- ---- no two arguments have one id
+
+pub same_id : (o p : Setting) → bytes_eq (id_of o) (id_of p) ≡ same o p
+same_id Workers Workers = refl
+same_id Cycles Cycles = refl
+same_id Lead Lead = refl
+same_id Depth Depth = refl
+same_id Tries Tries = refl
+same_id Level Level = refl
+same_id _ _ = refl
+
+pub option_name : (c : Command) (o : Setting) (k : ℕ) → bytes_eq (id_of o) (name_id c k) ≡ false
+option_name Replay Workers (suc k) = refl
+option_name Replay Cycles (suc k) = refl
+option_name Replay Lead (suc k) = refl
+option_name Replay Depth (suc k) = refl
+option_name Replay Tries (suc k) = refl
+option_name Replay Level (suc k) = refl
+option_name _ Workers _ = refl
+option_name _ Cycles _ = refl
+option_name _ Lead _ = refl
+option_name _ Depth _ = refl
+option_name _ Tries _ = refl
+option_name _ Level _ = refl
+
+pub name_option : (c : Command) (o : Setting) (k : ℕ) → bytes_eq (name_id c k) (id_of o) ≡ false
+name_option Replay Workers (suc k) = refl
+name_option Replay Cycles (suc k) = refl
+name_option Replay Lead (suc k) = refl
+name_option Replay Depth (suc k) = refl
+name_option Replay Tries (suc k) = refl
+name_option Replay Level (suc k) = refl
+name_option _ Workers _ = refl
+name_option _ Cycles _ = refl
+name_option _ Lead _ = refl
+name_option _ Depth _ = refl
+name_option _ Tries _ = refl
+name_option _ Level _ = refl
+
+-- two names have two ids
+pub other_name : (c : Command) (j k : ℕ) → eqb j k ≡ false → j < name_count c → k < name_count c → bytes_eq (name_id c j) (name_id c k) ≡ false
+other_name Run zero zero e h f = absurd (grind arith)
+other_name Run (suc j) k e h f = absurd (omega arith)
+other_name Run zero (suc k) e h f = absurd (omega arith)
+other_name Replay zero zero e h f = absurd (grind arith)
+other_name Replay zero (suc zero) e h f = refl
+other_name Replay zero (suc (suc k)) e h f = absurd (omega arith)
+other_name Replay (suc zero) zero e h f = refl
+other_name Replay (suc zero) (suc zero) e h f = absurd (grind arith)
+other_name Replay (suc zero) (suc (suc k)) e h f = absurd (omega arith)
+other_name Replay (suc (suc j)) k e h f = absurd (omega arith)
+other_name Demo zero zero e h f = absurd (grind arith)
+other_name Demo (suc j) k e h f = absurd (omega arith)
+other_name Demo zero (suc k) e h f = absurd (omega arith)
+
+pub same_self : (o : Setting) → same o o ≡ true
+same_self Workers = refl
+same_self Cycles = refl
+same_self Lead = refl
+same_self Depth = refl
+same_self Tries = refl
+same_self Level = refl
+
+pub same_name : (c : Command) (k : ℕ) → bytes_eq (name_id c k) (name_id c k) ≡ true
+same_name Run k = refl
+same_name Replay zero = refl
+same_name Replay (suc k) = refl
+same_name Demo k = refl

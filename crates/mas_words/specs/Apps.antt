@@ -1,0 +1,38 @@
+-- What clap reads of the commands: for each of them a simple command of its own, in which all values are texts.
+use Rattle.std.specs.Prelude.{ℕ, true, List, [], ◌∷◌, codes, drop, map, Some}
+use Rattle.clap.specs.Walk.{Rule}
+use Rattle.clap.specs.Simple.{App, new_app, new_rule, with_rule, on_top}
+use Rattle.mas_words.specs.declared.table.Command.{Command}
+use Rattle.mas_words.specs.declared.table.Command.TheVariants.{Run, Replay, Demo}
+use Rattle.mas_words.specs.declared.table.Setting.{Setting}
+use Rattle.mas_words.specs.Table.{key, form}
+
+-- an option's word without its two hyphens
+abbrev pub id_of : Setting → List ℕ
+id_of o = drop 2 (key o)
+
+-- an argument with this long name
+abbrev pub long_rule : List ℕ → Rule
+long_rule id = record (new_rule id) { long = Some id }
+
+abbrev pub option_rule : Setting → Rule
+option_rule o = long_rule (id_of o)
+
+abbrev pub name_ids : Command → List (List ℕ)
+name_ids Run = codes "project" ∷ []
+name_ids Replay = codes "project" ∷ codes "schedule" ∷ []
+name_ids Demo = codes "count" ∷ []
+
+abbrev pub bare : List ℕ → App
+bare word = on_top (λ s. record s { no_binary_name = true; disable_help_flag = true; disable_version_flag = true }) (new_app word)
+
+abbrev pub with_rules : App → List Rule → App
+with_rules a [] = a
+with_rules a (r ∷ rs) = with_rules (with_rule a r) rs
+
+abbrev pub app_for : Command → App
+app_for c = with_rules (with_rules (bare (form c).word) (map new_rule (name_ids c))) (map option_rule (form c).options)
+
+-- the options of a run, but for the number of workers
+abbrev pub run_rules : List Rule
+run_rules = map option_rule (form Replay).options

@@ -1,0 +1,82 @@
+-- What a command asks for, given its names and the texts of its options.
+use Rattle.std.specs.Prelude.{ℕ, List, [], ◌∷◌, codes, if◌then◌else◌, Option, None, Some, option_map}
+use Rattle.std.specs.Str.{bytes_eq}
+use Rattle.mas_mind.specs.declared.mind.Level.{Level}
+use Rattle.mas_mind.specs.declared.mind.Level.TheVariants as level
+use Rattle.mas_report.specs.declared.options.Options.{Options}
+use Rattle.mas_report.specs.Limits.{IsFrom, IsWithin, defaults}
+use Rattle.mas_words.specs.declared.table.Command.{Command}
+use Rattle.mas_words.specs.declared.table.Command.TheVariants.{Run, Replay, Demo}
+use Rattle.mas_words.specs.declared.table.Setting.{Setting}
+use Rattle.mas_words.specs.declared.table.Setting.TheVariants.{Workers, Cycles, Lead, Depth, Tries, Level as OfLevel}
+use Rattle.mas_words.specs.declared.asked.Asked as code
+use Rattle.mas_words.specs.declared.asked.Asked.TheVariants as code_variant
+use Rattle.mas_words.specs.Numbers.{number_in}
+
+-- a run of a project by so many workers, a replay of it along a schedule, a demonstration with so many agents and workers
+pub data Asked : Type 0 where
+  run : List ℕ → Options → ℕ → Asked
+  replay : List ℕ → List ℕ → Options → Asked
+  demo : ℕ → ℕ → Asked
+
+-- ---- what the texts of options say; None where it is not permitted
+
+-- the usual number where the option does not stand, or one from the first bound to the second
+abbrev pub number_for : ℕ → ℕ → ℕ → Option (List ℕ) → Option ℕ
+number_for usual low high None = Some usual
+number_for usual low high (Some text) = number_in low high text
+
+abbrev pub level_of : List ℕ → Option Level
+level_of text =
+    if bytes_eq text (codes "say") then Some level.Say else if bytes_eq text (codes "acts") then Some level.Acts
+    else if bytes_eq text (codes "rules") then Some level.Rules else None
+
+abbrev pub level_for : Level → Option (List ℕ) → Option Level
+level_for usual None = Some usual
+level_for usual (Some text) = level_of text
+
+abbrev pub options_with : Option ℕ → Option ℕ → Option ℕ → Option ℕ → Option Level → Option Options
+options_with (Some cycles) (Some lead) (Some depth) (Some tries) (Some level) =
+    Some (record { cycles = cycles; lead = lead; depth = depth; tries = tries; level = level })
+options_with _ _ _ _ _ = None
+
+abbrev pub options_for : (Setting → Option (List ℕ)) → Option Options
+options_for text = options_with
+    (number_for defaults.cycles 1 1000000 (text Cycles))
+    (number_for defaults.lead 1 1000 (text Lead))
+    (number_for defaults.depth 1 10000 (text Depth))
+    (number_for defaults.tries 1 10000000 (text Tries))
+    (level_for defaults.level (text OfLevel))
+
+abbrev pub workers_for : (Setting → Option (List ℕ)) → Option ℕ
+workers_for text = number_for 4 1 64 (text Workers)
+
+-- ---- what the commands ask for
+
+abbrev pub run_with : List ℕ → Option Options → Option ℕ → Option Asked
+run_with project (Some options) (Some workers) = Some (run project options workers)
+run_with project _ _ = None
+
+abbrev pub demo_with : Option ℕ → Option ℕ → Option Asked
+demo_with (Some count) (Some workers) = Some (demo count workers)
+demo_with _ _ = None
+
+-- None where the names are not the command's, or a text says nothing that is permitted
+abbrev pub asked_by : Command → List (List ℕ) → (Setting → Option (List ℕ)) → Option Asked
+asked_by Run (project ∷ []) text = run_with project (options_for text) (workers_for text)
+asked_by Replay (project ∷ schedule ∷ []) text = option_map (replay project schedule) (options_for text)
+asked_by Demo (count ∷ []) text = demo_with (number_in 1 200 count) (workers_for text)
+asked_by _ _ text = None
+
+-- the numbers are those that the options and names permit
+abbrev pub IsPermitted : Asked → Type 0
+IsPermitted (run project options workers) = IsWithin options × IsFrom 1 64 workers
+IsPermitted (replay project schedule options) = IsWithin options
+IsPermitted (demo count workers) = IsFrom 1 200 count × IsFrom 1 64 workers
+
+-- ---- how the code holds it
+
+abbrev pub asked_of : code.Asked → Asked
+asked_of (code_variant.Run project options workers) = run project.now options workers
+asked_of (code_variant.Replay project schedule options) = replay project.now schedule.now options
+asked_of (code_variant.Demo count workers) = demo count workers

@@ -1,0 +1,26 @@
+-- What the matches of clap say of a command's names and options.
+use Rattle.std.specs.Prelude.{ℕ, List, codes, None}
+use Rattle.clap.specs.Walk.{Row, first_of}
+use Rattle.mas_words.specs.declared.table.Command.{Command}
+use Rattle.mas_words.specs.declared.table.Command.TheVariants.{Run, Replay, Demo}
+use Rattle.mas_words.specs.declared.table.Setting.TheVariants.{Workers, Cycles, Lead, Depth, Tries, Level}
+use Rattle.mas_words.specs.Apps.{id_of}
+use Rattle.mas_words.specs.Words.{Given, Said, listed}
+
+abbrev pub names_among : Command → List Row → List (List ℕ)
+names_among Run rows = listed (first_of (codes "project") rows) None
+names_among Replay rows = listed (first_of (codes "project") rows) (first_of (codes "schedule") rows)
+names_among Demo rows = listed (first_of (codes "count") rows) None
+
+abbrev pub given_among : List Row → Given
+given_among rows = record {
+  workers = first_of (id_of Workers) rows;
+  cycles = first_of (id_of Cycles) rows;
+  lead = first_of (id_of Lead) rows;
+  depth = first_of (id_of Depth) rows;
+  tries = first_of (id_of Tries) rows;
+  level = first_of (id_of Level) rows;
+}
+
+abbrev pub said_among : Command → List Row → Said
+said_among c rows = record { names = names_among c rows; given = given_among rows; awaits = None }

@@ -1,0 +1,25 @@
+//! What a command line asks for.
+
+use mas_report::options::Options;
+
+/// What the words ask for. Names of files are as they stand.
+#[derive(Clone, Copy)]
+pub enum Asked<'a> {
+    /// A run of the project by so many workers.
+    Run {
+        project: &'a [u8],
+        options: Options,
+        workers: u64,
+    },
+    /// A run of the project along the schedule.
+    Replay {
+        project: &'a [u8],
+        schedule: &'a [u8],
+        options: Options,
+    },
+    /// A demonstration with so many agents, by so many workers.
+    Demo {
+        count: u64,
+        workers: u64,
+    },
+}

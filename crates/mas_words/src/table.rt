@@ -1,0 +1,85 @@
+//! The commands and their options, by their words.
+
+ghost use Rattle.std.specs.Prelude.{◌≡◌, codes};
+ghost use Rattle.mas_words.specs.Table as spec;
+
+#[derive(Clone, Copy, Debug, PartialEq, Eq)]
+pub enum Command {
+    Run,
+    Replay,
+    Demo,
+}
+
+/// What an option sets.
+#[derive(Clone, Copy, Debug, PartialEq, Eq)]
+pub enum Setting {
+    Workers,
+    Cycles,
+    Lead,
+    Depth,
+    Tries,
+    Level,
+}
+
+/// The command of a word.
+pub fn command_of(word: &[u8]) -> Option<Command>
+    ensures { result ≡ spec.command_of word.now }
+{
+    if word == b"run".as_slice() {
+        return Some(Command::Run);
+    }
+    if word == b"replay".as_slice() {
+        return Some(Command::Replay);
+    }
+    if word == b"demo".as_slice() {
+        return Some(Command::Demo);
+    }
+    None
+}
+
+/// The setting whose option has this word.
+pub fn setting_of(word: &[u8]) -> Option<Setting>
+    ensures { result ≡ spec.setting_of word.now }
+{
+    if word == b"--workers".as_slice() {
+        return Some(Setting::Workers);
+    }
+    if word == b"--cycles".as_slice() {
+        return Some(Setting::Cycles);
+    }
+    if word == b"--lead".as_slice() {
+        return Some(Setting::Lead);
+    }
+    if word == b"--depth".as_slice() {
+        return Some(Setting::Depth);
+    }
+    if word == b"--tries".as_slice() {
+        return Some(Setting::Tries);
+    }
+    if word == b"--level".as_slice() {
+        return Some(Setting::Level);
+    }
+    None
+}
+
+/// Whether the command has this option.
+pub fn takes(command: Command, setting: Setting) -> bool
+    ensures { result ≡ spec.takes command setting }
+{
+    match command {
+        Command::Run => true,
+        Command::Replay => !matches!(setting, Setting::Workers),
+        Command::Demo => matches!(setting, Setting::Workers),
+    }
+}
+
+/// How many names the command has.
+pub fn name_count(command: Command) -> u64
+    ensures { result ≡ spec.name_count command }
+{
+    match command {
+        Command::Run => 1,
+        Command::Replay => 2,
+        Command::Demo => 1,
+    }
+}

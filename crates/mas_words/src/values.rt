@@ -1,0 +1,122 @@
+//! What the texts of options and names say.
+
+ghost use Rattle.std.specs.Prelude.{◌≡◌, ◌≤◌, codes, option_map};
+ghost use Rattle.mas_words.specs.Asked as spec;
+ghost use Rattle.mas_words.specs.Asked.{asked_of};
+ghost use Rattle.mas_words.specs.Numbers.{number_in};
+ghost use Rattle.mas_words.specs.Words.{text_for, given_of, said_of};
+
+use crate::asked::Asked;
+use crate::numbers::number_in;
+use crate::said::{Given, Said};
+use crate::table::Command;
+use mas_mind::mind::Level;
+use mas_report::options::{Options, default_options};
+
+/// The number that is given, from `low` to `high`, or the usual one where none is.
+fn number_for(usual: u64, low: u64, high: u64, given: Option<&[u8]>) -> Option<u64>
+    requires small { high ≤ 100000000 }
+    ensures { result ≡ spec.number_for usual low high (option_map (λ t. t.now) given.entry) }
+{
+    match given {
+        None => Some(usual),
+        Some(text) => number_in(low, high, text),
+    }
+}
+
+fn level_of(text: &[u8]) -> Option<Level>
+    ensures { result ≡ spec.level_of text.now }
+{
+    if text == b"say".as_slice() {
+        return Some(Level::Say);
+    }
+    if text == b"acts".as_slice() {
+        return Some(Level::Acts);
+    }
+    if text == b"rules".as_slice() {
+        return Some(Level::Rules);
+    }
+    None
+}
+
+/// The level that is given, or the usual one where none is.
+fn level_for(usual: Level, given: Option<&[u8]>) -> Option<Level>
+    ensures { result ≡ spec.level_for usual (option_map (λ t. t.now) given.entry) }
+{
+    match given {
+        None => Some(usual),
+        Some(text) => level_of(text),
+    }
+}
+
+/// The options of a run.
+fn options_for(given: &Given<'_>) -> Option<Options>
+    ensures { result ≡ spec.options_for (text_for (given_of given.now)) }
+{
+    let usual = default_options();
+    let cycles = number_for(usual.cycles, 1, 1_000_000, given.cycles)?;
+    let lead = number_for(usual.lead, 1, 1000, given.lead)?;
+    let depth = number_for(usual.depth, 1, 10_000, given.depth)?;
+    let tries = number_for(usual.tries, 1, 10_000_000, given.tries)?;
+    let level = level_for(usual.level, given.level)?;
+    Some(Options {
+        cycles,
+        lead,
+        depth,
+        tries,
+        level,
+    })
+}
+
+/// How many workers there are.
+fn workers_for(given: &Given<'_>) -> Option<u64>
+    ensures { result ≡ spec.workers_for (text_for (given_of given.now)) }
+{
+    number_for(4, 1, 64, given.workers)
+}
+
+fn to_run<'a>(project: &'a [u8], given: &Given<'a>) -> Option<Asked<'a>>
+    ensures { let text = text_for (given_of given.now) in
+        option_map asked_of result ≡ spec.run_with project.now (spec.options_for text) (spec.workers_for text) }
+{
+    let options = options_for(given)?;
+    let workers = workers_for(given)?;
+    Some(Asked::Run {
+        project,
+        options,
+        workers,
+    })
+}
+
+fn to_replay<'a>(project: &'a [u8], schedule: &'a [u8], given: &Given<'a>) -> Option<Asked<'a>>
+    ensures { option_map asked_of result ≡ option_map (spec.replay project.now schedule.now) (spec.options_for (text_for (given_of given.now))) }
+{
+    let options = options_for(given)?;
+    Some(Asked::Replay {
+        project,
+        schedule,
+        options,
+    })
+}
+
+fn to_demo<'a>(count: &[u8], given: &Given<'a>) -> Option<Asked<'a>>
+    ensures { option_map asked_of result ≡ spec.demo_with (number_in 1 200 count.now) (spec.workers_for (text_for (given_of given.now))) }
+{
+    let count = number_in(1, 200, count)?;
+    let workers = workers_for(given)?;
+    Some(Asked::Demo { count, workers })
+}
+
+/// What a command with what was said asks for.
+pub fn asked_by<'a>(command: Command, said: &Said<'a>) -> Option<Asked<'a>>
+    ensures { let all = said_of said.now in option_map asked_of result ≡ spec.asked_by command all.names (text_for all.given) }
+{
+    match (command, said.first, said.second) {
+        (Command::Run, Some(project), None) => to_run(project, &said.given),
+        (Command::Replay, Some(project), Some(schedule)) => {
+            to_replay(project, schedule, &said.given)
+        }
+        (Command::Demo, Some(count), None) => to_demo(count, &said.given),
+        _ => None,
+    }
+}

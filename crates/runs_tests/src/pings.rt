@@ -1,0 +1,78 @@
+//! An artifact of one's own: a counter of pings.
+
+ghost use Rattle.std.specs.Prelude.{◌≡◌, [], IfOk};
+ghost use Rattle.mas_world.specs.Worlds as spec;
+
+use asl_term::copying::text_of;
+use asl_term::names::Names;
+use asl_term::sequence::Starved;
+use asl_term::syntax::{Literal, Literals, Text};
+use env_file::fault::WorldFault;
+use env_file::laws::worlds_open;
+use env_file::world::world;
+use mas_mind::mind::Feedback;
+use mas_world::artifact::Artifact;
+use mas_world::segment::Segment;
+use std::alloc::Global;
+use std::marker::Model;
+
+/// What it is, in the form of a world file.
+const TABLE: &[u8] = b"pings(0).
+act ping by A : pings(N) -> -pings(N), +pings(N + 1).";
+
+/// Its name, and its table with the facts as they are.
+#[derive(Drop)]
+pub struct Pings {
+    name: Text,
+    segment: Segment,
+}
+
+impl Model for Pings {
+    ghost use Rattle.mas_world.specs.Worlds.{Used};
+    ghost use Rattle.asl_term.specs.contracts.syntax.Term as t;
+    ghost use Rattle.asl_term.specs.contracts.syntax.Expr as e;
+    ghost use Rattle.std.specs.Coded.{codes};
+
+    ghost Value = { Used };
+
+    ghost coded = { Prim.hlevel (codes, t.the_row.coded, e.the_row.coded) };
+
+    ghost view = { λ p. record { name = p.name; segment = p.segment } };
+}
+
+impl Pings {
+    /// No pings yet, under this name.
+    pub fn new(alloc: Global, name: &[u8]) -> Result<Pings, WorldFault> {
+        let text = world(alloc, TABLE, &Names::new(alloc)?)?;
+        worlds_open();
+        Ok(Pings {
+            name: text_of(alloc, name)?,
+            segment: Segment::new(text.acts, text.facts),
+        })
+    }
+}
+
+impl Artifact for Pings {
+    ghost named = { λ p. p.name };
+
+    ghost table = { λ p. p.segment.acts };
+
+    ghost facts = { λ p. p.segment.facts };
+
+    fn name(&self) -> &Text {
+        &self.name
+    }
+
+    fn observe(&self, out: &mut Literals) -> Result<(), Starved> {
+        self.segment.observe(out)
+    }
+
+    fn operate(
+        &mut self,
+        alloc: Global,
+        agent: &Text,
+        action: &Literal,
+    ) -> Result<Feedback, Starved> {
+        self.segment.act(alloc, agent, action)
+    }
+}

@@ -1,0 +1,3 @@
+// Waits for the robot's message.
+
++clean[source(R)] <- .print("clean by ", R); .stopMAS.
