@@ -60,6 +60,7 @@ fn head(
     if literal_plain(&l) {
         Ok(Some((l, rest)))
     } else {
+        drop(l);
         Ok(None)
     }
 }
@@ -197,7 +198,12 @@ fn body(
 fn when_last(tokens: &[Lexeme], s: HeldSentence) -> Option<HeldSentence>
     ensures { result ≡ spec.when_last tokens.now s }
 {
-    if is_last(tokens) { Some(s) } else { None }
+    if is_last(tokens) {
+        Some(s)
+    } else {
+        drop(s);
+        None
+    }
 }
 
 #[tactic(auto, unfolding(crate::specs::Speaking::goal_by))]
@@ -213,7 +219,10 @@ fn goal(alloc: Global, tokens: &[Lexeme], depth: u32) -> Result<Option<HeldSente
 fn rule_of(head: HeldLiteral, found: Option<(HeldExpr, &[Lexeme])>) -> Option<HeldSentence>
     ensures { result ≡ spec.rule_of limited head (view_front found.entry) }
 {
-    let (body, rest) = found?;
+    let Some((body, rest)) = found else {
+        drop(head);
+        return None;
+    };
     when_last(rest, rule_with(head, body))
 }
 
@@ -228,7 +237,10 @@ fn rule(
 {
     match formula(alloc, tokens, depth) {
         Ok(found) => Ok(rule_of(head, found)),
-        Err(e) => Err(e),
+        Err(e) => {
+            drop(head);
+            Err(e)
+        }
     }
 }
 
@@ -242,6 +254,7 @@ fn last_fact(
     if is_last(tokens) {
         Ok(Some(fact_of(alloc, l)?))
     } else {
+        drop(l);
         Ok(None)
     }
 }
@@ -267,7 +280,10 @@ fn plan_of(
 ) -> Option<HeldSentence>
     ensures { result ≡ spec.plan_of limited label trigger context (view_front found.entry) }
 {
-    let (body, rest) = found?;
+    let Some((body, rest)) = found else {
+        drop(context);
+        return None;
+    };
     when_last(rest, plan_with(label, trigger, context, body))
 }
 
@@ -283,7 +299,10 @@ fn with_body(
 {
     match body(alloc, tokens, depth) {
         Ok(found) => Ok(plan_of(label, trigger, context, found)),
-        Err(e) => Err(e),
+        Err(e) => {
+            drop(context);
+            Err(e)
+        }
     }
 }
 

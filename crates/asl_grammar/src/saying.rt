@@ -93,18 +93,29 @@ fn small_item(m: Meaning) -> Option<Option<HeldItem>>
     ensures { result ≡ spec.small_item m }
 {
     match m {
-        Meaning::Truth(b, _) => { if b { Some(None) } else { None } }
+        Meaning::Truth(b, l) => {
+            // Here and below a tree goes to `drop`: the proof of a function that ends one in place is long.
+            drop(l);
+            if b { Some(None) } else { None }
+        }
         Meaning::Literal(l) => {
             if is_action(&l) {
                 Some(Some(Bounded::Within(Formula::Act(l))))
             } else {
+                drop(l);
                 None
             }
         }
-        Meaning::Term(_) => None,
+        Meaning::Term(t) => {
+            drop(t);
+            None
+        }
         Meaning::Relation(r) => Some(Some(Bounded::Within(Formula::Rel(r)))),
         Meaning::Call(c) => Some(Some(Bounded::Within(Formula::Inner(c)))),
-        Meaning::Formula(_) => None,
+        Meaning::Formula(e) => {
+            drop(e);
+            None
+        }
     }
 }
 
@@ -145,9 +156,15 @@ fn with_item(fs: Formulas, f: Formula) -> Result<HeldBody, Starved>
 fn put_some(fs: HeldBody, f: HeldItem) -> Result<HeldBody, Starved>
     ensures { IfOk result (λ r. r ≡ spec.put_item fs (Some f)) }
 {
-    match (fs, f) {
-        (Bounded::Within(fs), Bounded::Within(f)) => with_item(fs, f),
-        _ => Ok(Bounded::Past(())),
+    match fs {
+        Bounded::Within(fs) => match f {
+            Bounded::Within(f) => with_item(fs, f),
+            Bounded::Past(()) => Ok(Bounded::Past(())),
+        },
+        Bounded::Past(()) => {
+            drop(f);
+            Ok(Bounded::Past(()))
+        }
     }
 }
 
@@ -179,6 +196,7 @@ fn settle(s: Sentence) -> HeldSentence
     if is_within(&s) {
         Bounded::Within(s)
     } else {
+        drop(s);
         Bounded::Past(())
     }
 }
@@ -210,11 +228,40 @@ pub fn fact_of(alloc: Global, l: HeldLiteral) -> Result<HeldSentence, Starved>
 pub fn rule_with(head: HeldLiteral, body: HeldExpr) -> HeldSentence
     ensures { result ≡ spec.rule_with limited head body }
 {
-    match (head, body) {
-        (Bounded::Within(head), Bounded::Within(body)) => {
-            settle(Sentence::Rule(Clause { head, body }))
+    match head {
+        Bounded::Within(head) => match body {
+            Bounded::Within(body) => settle(Sentence::Rule(Clause { head, body })),
+            Bounded::Past(_) => Bounded::Past(()),
+        },
+        Bounded::Past(_) => {
+            drop(body);
+            Bounded::Past(())
         }
-        _ => Bounded::Past(()),
+    }
+}
+
+fn small_plan(
+    label: Option<Text>,
+    trigger: Trigger,
+    context: HeldExpr,
+    body: HeldBody,
+) -> HeldSentence
+    ensures { result ≡ spec.plan_with limited label (Bounded.Within trigger) context body }
+{
+    match context {
+        Bounded::Within(context) => match body {
+            Bounded::Within(body) => settle(Sentence::Plan(Plan {
+                label,
+                trigger,
+                context,
+                body,
+            })),
+            Bounded::Past(()) => {
+                drop(context);
+                Bounded::Past(())
+            }
+        },
+        Bounded::Past(_) => Bounded::Past(()),
     }
 }
 
@@ -226,15 +273,11 @@ pub fn plan_with(
 ) -> HeldSentence
     ensures { result ≡ spec.plan_with limited label trigger context body }
 {
-    match (trigger, context, body) {
-        (Bounded::Within(trigger), Bounded::Within(context), Bounded::Within(body)) => {
-            settle(Sentence::Plan(Plan {
-                label,
-                trigger,
-                context,
-                body,
-            }))
+    match trigger {
+        Bounded::Within(trigger) => small_plan(label, trigger, context, body),
+        Bounded::Past(()) => {
+            drop(context);
+            Bounded::Past(())
         }
-        _ => Bounded::Past(()),
     }
 }

@@ -142,7 +142,9 @@ pub fn hold(m: Meaning) -> Held
     if is_small(&m) {
         Bounded::Within(m)
     } else {
-        Bounded::Past(outline(&m))
+        let o = outline(&m);
+        drop(m);
+        Bounded::Past(o)
     }
 }
 
@@ -158,7 +160,9 @@ fn hold_term(t: Term) -> HeldTerm
     if within_term(&t) {
         Bounded::Within(t)
     } else {
-        Bounded::Past(is_plain(&t))
+        let plain = is_plain(&t);
+        drop(t);
+        Bounded::Past(plain)
     }
 }
 
@@ -171,9 +175,18 @@ fn small_term(m: Meaning) -> Option<HeldTerm>
         Meaning::Truth(_, l) => Some(hold_term(Term::Lit(l))),
         Meaning::Literal(l) => Some(Bounded::Within(Term::Lit(l))),
         Meaning::Term(t) => Some(Bounded::Within(t)),
-        Meaning::Relation(_) => None,
-        Meaning::Call(_) => None,
-        Meaning::Formula(_) => None,
+        Meaning::Relation(r) => {
+            drop(r);
+            None
+        }
+        Meaning::Call(c) => {
+            drop(c);
+            None
+        }
+        Meaning::Formula(e) => {
+            drop(e);
+            None
+        }
     }
 }
 
@@ -261,7 +274,11 @@ fn joined_within(
 {
     match right {
         Bounded::Within(right) => small_joined(alloc, joint, left, right),
-        Bounded::Past(o) => Ok(large_joint(joint, outline(&left), o)),
+        Bounded::Past(o) => {
+            let other = outline(&left);
+            drop(left);
+            Ok(large_joint(joint, other, o))
+        }
     }
 }
 
@@ -272,7 +289,11 @@ pub fn joined(alloc: Global, joint: Joint, left: Held, right: Held) -> Result<Op
 {
     match left {
         Bounded::Within(left) => joined_within(alloc, joint, left, right),
-        Bounded::Past(o) => Ok(large_joint(joint, o, outline_of(&right))),
+        Bounded::Past(o) => {
+            let other = outline_of(&right);
+            drop(right);
+            Ok(large_joint(joint, o, other))
+        }
     }
 }
 
@@ -288,7 +309,11 @@ fn compared_within(op: RelOp, left: Meaning, right: Held) -> Option<Held>
 {
     match right {
         Bounded::Within(right) => held_if(meaning::compared(op, left, right)),
-        Bounded::Past(o) => large_relation(outline(&left), o),
+        Bounded::Past(o) => {
+            let other = outline(&left);
+            drop(left);
+            large_relation(other, o)
+        }
     }
 }
 
@@ -299,7 +324,11 @@ pub fn compared(op: RelOp, left: Held, right: Held) -> Option<Held>
 {
     match left {
         Bounded::Within(left) => compared_within(op, left, right),
-        Bounded::Past(o) => large_relation(o, outline_of(&right)),
+        Bounded::Past(o) => {
+            let other = outline_of(&right);
+            drop(right);
+            large_relation(o, other)
+        }
     }
 }
 

@@ -142,9 +142,18 @@ pub fn as_term(m: Meaning) -> Option<Term>
         Meaning::Truth(_, l) => Some(Term::Lit(l)),
         Meaning::Literal(l) => Some(Term::Lit(l)),
         Meaning::Term(t) => Some(t),
-        Meaning::Relation(_) => None,
-        Meaning::Call(_) => None,
-        Meaning::Formula(_) => None,
+        Meaning::Relation(r) => {
+            drop(r);
+            None
+        }
+        Meaning::Call(c) => {
+            drop(c);
+            None
+        }
+        Meaning::Formula(e) => {
+            drop(e);
+            None
+        }
     }
 }
 
@@ -153,7 +162,8 @@ pub fn as_formula(m: Meaning) -> Option<Expr>
     ensures { result ≡ spec.as_formula m }
 {
     match m {
-        Meaning::Truth(b, _) => {
+        Meaning::Truth(b, l) => {
+            drop(l);
             if b {
                 Some(Expr::True)
             } else {
@@ -161,12 +171,16 @@ pub fn as_formula(m: Meaning) -> Option<Expr>
             }
         }
         Meaning::Literal(l) => Some(Expr::Holds(l)),
-        Meaning::Term(_) => None,
+        Meaning::Term(t) => {
+            drop(t);
+            None
+        }
         Meaning::Relation(r) => Some(Expr::Rel(r)),
         Meaning::Call(c) => {
             if is_pure(&c.name, c.args.len()) {
                 Some(Expr::Inner(c))
             } else {
+                drop(c);
                 None
             }
         }
@@ -177,7 +191,13 @@ pub fn as_formula(m: Meaning) -> Option<Expr>
 fn arith(alloc: Global, op: Op, left: Term, right: Term) -> Result<Term, Starved>
     ensures { IfOk result (λ t. t ≡ spec.arith op left right) }
 {
-    let left = Boxed::new(alloc, left)?;
+    let left = match Boxed::new(alloc, left) {
+        Ok(left) => left,
+        Err(starved) => {
+            drop(right);
+            return Err(starved);
+        }
+    };
     let right = Boxed::new(alloc, right)?;
     Ok(Term::Op(ArithOf { op, left, right }))
 }
@@ -185,23 +205,41 @@ fn arith(alloc: Global, op: Op, left: Term, right: Term) -> Result<Term, Starved
 fn both_terms(left: Meaning, right: Meaning) -> Option<(Term, Term)>
     ensures { result ≡ spec.both_terms left right }
 {
-    let left = as_term(left)?;
-    let right = as_term(right)?;
+    let Some(left) = as_term(left) else {
+        drop(right);
+        return None;
+    };
+    let Some(right) = as_term(right) else {
+        drop(left);
+        return None;
+    };
     Some((left, right))
 }
 
 fn both_formulas(left: Meaning, right: Meaning) -> Option<(Expr, Expr)>
     ensures { result ≡ spec.both_formulas left right }
 {
-    let left = as_formula(left)?;
-    let right = as_formula(right)?;
+    let Some(left) = as_formula(left) else {
+        drop(right);
+        return None;
+    };
+    let Some(right) = as_formula(right) else {
+        drop(left);
+        return None;
+    };
     Some((left, right))
 }
 
 fn either_of(alloc: Global, left: Expr, right: Expr) -> Result<Expr, Starved>
     ensures { IfOk result (λ e. e ≡ spec.either_of left right) }
 {
-    let left = Boxed::new(alloc, left)?;
+    let left = match Boxed::new(alloc, left) {
+        Ok(left) => left,
+        Err(starved) => {
+            drop(right);
+            return Err(starved);
+        }
+    };
     let right = Boxed::new(alloc, right)?;
     Ok(Expr::Or(left, right))
 }
@@ -209,7 +247,13 @@ fn either_of(alloc: Global, left: Expr, right: Expr) -> Result<Expr, Starved>
 fn both_of(alloc: Global, left: Expr, right: Expr) -> Result<Expr, Starved>
     ensures { IfOk result (λ e. e ≡ spec.both_of left right) }
 {
-    let left = Boxed::new(alloc, left)?;
+    let left = match Boxed::new(alloc, left) {
+        Ok(left) => left,
+        Err(starved) => {
+            drop(right);
+            return Err(starved);
+        }
+    };
     let right = Boxed::new(alloc, right)?;
     Ok(Expr::And(left, right))
 }

@@ -68,7 +68,12 @@ fn put_term(ts: HeldTerms, t: HeldTerm) -> Result<HeldTerms, Starved>
 {
     match (ts, t) {
         (Bounded::Within(ts), Bounded::Within(t)) => with_term(ts, t),
-        (ts, t) => Ok(Bounded::Past(terms_plain(&ts) && term_plain(&t))),
+        (ts, t) => {
+            let plain = terms_plain(&ts) && term_plain(&t);
+            drop(ts);
+            drop(t);
+            Ok(Bounded::Past(plain))
+        }
     }
 }
 
@@ -104,7 +109,12 @@ pub fn listed(items: HeldTerms, l: HeldListing) -> Result<HeldListing, Starved>
 {
     match (items, l) {
         (Bounded::Within(items), Bounded::Within(l)) => joined_listing(items, l),
-        (items, l) => Ok(Bounded::Past(terms_plain(&items) && listing_plain(&l))),
+        (items, l) => {
+            let plain = terms_plain(&items) && listing_plain(&l);
+            drop(items);
+            drop(l);
+            Ok(Bounded::Past(plain))
+        }
     }
 }
 
@@ -197,7 +207,11 @@ fn put_arg(args: HeldArgs, a: HeldArg) -> Result<HeldArgs, Starved>
 {
     match (args, a) {
         (Bounded::Within(args), Bounded::Within(a)) => with_arg(args, a),
-        _ => Ok(Bounded::Past(())),
+        (args, a) => {
+            drop(args);
+            drop(a);
+            Ok(Bounded::Past(()))
+        }
     }
 }
 

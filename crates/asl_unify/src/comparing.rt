@@ -107,10 +107,14 @@ fn judged(alloc: Global, r: &Relation, s: &Subst) -> Result<Option<Subst>, Compa
     ensures fault { IfErr result (λ e. spec.Refused (spec.on_settled s.now (settled r.now)) e) }
 {
     match settle_relation(alloc, r) {
-        Ok(n) => match related(alloc, n.op, &n.left, &n.right, s) {
-            Ok(o) => Ok(o),
-            Err(_) => Err(CompareFault::Memory),
-        },
+        Ok(n) => {
+            let found = related(alloc, n.op, &n.left, &n.right, s);
+            drop(n);
+            match found {
+                Ok(o) => Ok(o),
+                Err(_) => Err(CompareFault::Memory),
+            }
+        }
         Err(ArithFault::Memory) => Err(CompareFault::Memory),
         Err(ArithFault::Arith { op, left, right }) => Err(CompareFault::Arith { op, left, right }),
     }
@@ -124,6 +128,8 @@ pub fn compare(alloc: Global, r: &Relation, s: &Subst) -> Result<Option<Subst>, 
     ensures fault { IfErr result (λ e. spec.Refused (spec.holds r.now s.now) e) }
 {
     let n = applied(alloc, r, s)?;
-    let o = judged(alloc, &n, s)?;
+    let found = judged(alloc, &n, s);
+    drop(n);
+    let o = found?;
     Ok(o)
 }

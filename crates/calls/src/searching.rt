@@ -49,7 +49,11 @@ struct Question<'a> {
 /// The term that is shown, after a solution.
 fn put_shown(alloc: Global, term: &Term, subst: &Subst, out: &mut Text) -> Result<(), Starved> {
     match term.apply(alloc, subst) {
-        Ok(shown) => print(&shown, out),
+        Ok(shown) => {
+            let outcome = print(&shown, out);
+            drop(shown);
+            outcome
+        }
         Err(TermFault::TermLimit) => out.append(b"too large"),
         Err(TermFault::Memory) => Err(Starved),
     }
@@ -199,14 +203,14 @@ fn search(
 /// The calls of asl_resolve, where the name is of one.
 pub fn answer_search(
     alloc: Global,
-    name: &[u8],
+    name: &str,
     raws: &Raws,
     given: &[u8],
     out: &mut Text,
 ) -> Option<Result<(), Fault>> {
     match name {
-        b"first" => Some(search(alloc, raws, given, true, out)),
-        b"all" => Some(search(alloc, raws, given, false, out)),
+        "first" => Some(search(alloc, raws, given, true, out)),
+        "all" => Some(search(alloc, raws, given, false, out)),
         _ => None,
     }
 }

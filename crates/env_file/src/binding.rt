@@ -17,7 +17,10 @@ fn literal_variables(alloc: Global, l: &Literal) -> Result<Vars, Starved>
     ensures { IfOk result (λ vs. vs ≡ spec.literal_variables l.now) }
 {
     let t = Term::Lit(copy_literal(alloc, l)?);
-    variables(alloc, &t)
+    let vs = variables(alloc, &t);
+    // The proof of a function that ends a tree in place is long.
+    drop(t);
+    vs
 }
 
 fn is_bound(bound: &[Var], v: &Var) -> bool

@@ -61,6 +61,7 @@ fn head(
     if literal_plain(&l) {
         Ok(Some((l, rest)))
     } else {
+        drop(l);
         Ok(None)
     }
 }
@@ -162,7 +163,12 @@ fn effect_list(
 fn when_last(tokens: &[Lexeme], s: HeldStatement) -> Option<HeldStatement>
     ensures { result ≡ spec.when_last tokens.now s }
 {
-    if is_last(tokens) { Some(s) } else { None }
+    if is_last(tokens) {
+        Some(s)
+    } else {
+        drop(s);
+        None
+    }
 }
 
 fn act_of(
@@ -173,7 +179,11 @@ fn act_of(
 ) -> Option<HeldStatement>
     ensures { result ≡ spec.act_of limited head by guard (view_front found.entry) }
 {
-    let (effects, rest) = found?;
+    let Some((effects, rest)) = found else {
+        drop(by);
+        drop(guard);
+        return None;
+    };
     when_last(rest, act_with(head, by, guard, effects))
 }
 
@@ -189,7 +199,11 @@ fn ended(
 {
     match effect_list(alloc, tokens, depth) {
         Ok(found) => Ok(act_of(head, by, guard, found)),
-        Err(e) => Err(e),
+        Err(e) => {
+            drop(by);
+            drop(guard);
+            Err(e)
+        }
     }
 }
 
@@ -206,7 +220,11 @@ fn with_effects(
 {
     match after_right_arrow(tokens) {
         Some(rest) => ended(alloc, head, by, guard, rest, depth),
-        None => Ok(None),
+        None => {
+            drop(by);
+            drop(guard);
+            Ok(None)
+        }
     }
 }
 

@@ -11,7 +11,7 @@ use crate::statement::{
 use asl_meaning::bounded::{Bounded, HeldExpr, HeldLiteral};
 use asl_meaning::conjuncts::has_parts;
 use asl_term::sequence::Starved;
-use asl_term::syntax::Term;
+use asl_term::syntax::{Literal, Term};
 
 /// What is kept of a guard, if it has parts.
 pub fn guard_of(e: HeldExpr) -> Option<HeldGuard>
@@ -22,6 +22,8 @@ pub fn guard_of(e: HeldExpr) -> Option<HeldGuard>
             if has_parts(&e) {
                 Some(Bounded::Within(Some(e)))
             } else {
+                // Here and below a tree goes to `drop`: the proof of a function that ends one in place is long.
+                drop(e);
                 None
             }
         }
@@ -50,9 +52,15 @@ fn with_effect(es: Effects, e: Effect) -> Result<HeldEffects, Starved>
 fn put_some(es: HeldEffects, e: HeldEffect) -> Result<HeldEffects, Starved>
     ensures { IfOk result (λ r. r ≡ spec.put_effect es (Some e)) }
 {
-    match (es, e) {
-        (Bounded::Within(es), Bounded::Within(e)) => with_effect(es, e),
-        _ => Ok(Bounded::Past(())),
+    match es {
+        Bounded::Within(es) => match e {
+            Bounded::Within(e) => with_effect(es, e),
+            Bounded::Past(()) => Ok(Bounded::Past(())),
+        },
+        Bounded::Past(()) => {
+            drop(e);
+            Ok(Bounded::Past(()))
+        }
     }
 }
 
@@ -74,6 +82,7 @@ fn settle(s: Statement) -> HeldStatement
     if is_within(&s) {
         Bounded::Within(s)
     } else {
+        drop(s);
         Bounded::Past(())
     }
 }
@@ -87,6 +96,30 @@ pub fn fact_of(l: HeldLiteral) -> HeldStatement
     }
 }
 
+fn small_act(head: Literal, by: Term, guard: HeldGuard, effects: HeldEffects) -> HeldStatement
+    ensures { result ≡ spec.act_with limited (Bounded.Within head) by guard effects }
+{
+    match guard {
+        Bounded::Within(guard) => match effects {
+            Bounded::Within(effects) => settle(Statement::Act(WrittenAct {
+                head,
+                by,
+                guard,
+                effects,
+            })),
+            Bounded::Past(()) => {
+                drop(by);
+                drop(guard);
+                Bounded::Past(())
+            }
+        },
+        Bounded::Past(()) => {
+            drop(by);
+            Bounded::Past(())
+        }
+    }
+}
+
 pub fn act_with(
     head: HeldLiteral,
     by: Term,
@@ -95,15 +128,12 @@ pub fn act_with(
 ) -> HeldStatement
     ensures { result ≡ spec.act_with limited head by guard effects }
 {
-    match (head, guard, effects) {
-        (Bounded::Within(head), Bounded::Within(guard), Bounded::Within(effects)) => {
-            settle(Statement::Act(WrittenAct {
-                head,
-                by,
-                guard,
-                effects,
-            }))
+    match head {
+        Bounded::Within(head) => small_act(head, by, guard, effects),
+        Bounded::Past(_) => {
+            drop(by);
+            drop(guard);
+            Bounded::Past(())
         }
-        _ => Bounded::Past(()),
     }
 }

@@ -1,7 +1,6 @@
 //! A slot: idle, or held by an agent.
 
 ghost use Rattle.std.specs.Prelude.{◌≡◌, ◌∷◌, [], codes, None, IfOk, OnErr};
-ghost use Rattle.std.specs.Option.{option_copied};
 ghost use Rattle.mas_artifact.specs.States as states;
 ghost use Rattle.mas_artifact.specs.Tables as tables;
 ghost use Rattle.mas_world.specs.Worlds as spec;

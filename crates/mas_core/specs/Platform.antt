@@ -1,5 +1,5 @@
 -- The platform over any meaning V of minds: a turn of one agent, and the run along a list of agents' numbers.
-use Rattle.std.specs.Prelude.{ℕ, ◌+◌, ◌-◌, nat_le, Bool, true, ◌&&◌, if◌then◌else◌, Option, None, Some, is_some}
+use Rattle.std.specs.Prelude.{ℕ, ◌+◌, ◌-◌, nat_le, Bool, true, ◌&&◌, if◌then◌else◌, Option, None, Some}
 use Rattle.std.specs.Prelude.{List, [], ◌∷◌, length, replicate, slice_get, slice_set}
 use Rattle.mas_mind.specs.declared.mind.Input.{Input}
 use Rattle.mas_mind.specs.declared.mind.Feedback.{Feedback}
@@ -71,13 +71,9 @@ turn_in k p a (Gone end) = None
 abbrev pub is_agent : ℕ → ℕ → Bool
 is_agent agents a = nat_le 1 a && nat_le a agents
 
--- the turn of the agent of this number: none where no agent has it, or where that agent has no turn
+-- the turn of the agent of this number: none where no agent has it, or where that agent has no turn; it is legal where there is one
 abbrev pub turn : {V : Type 0} → Kind V → Platform V → ℕ → Option (Platform V)
 turn k p a = if is_agent (length p.board.seats) a then turn_in k p a (seat_at p.board a).phase else None
-
--- the number names an agent that has a turn
-abbrev pub legal : {V : Type 0} → Kind V → Platform V → ℕ → Bool
-legal k p a = is_some (turn k p a)
 
 abbrev pub and_run : {V : Type 0} → (Platform V → Option (Platform V)) → Option (Platform V) → Option (Platform V)
 and_run f None = None

@@ -1,5 +1,5 @@
--- The demo's files describe what is run.
-use Rattle.std.proofs.Common.{◌≡◌, ◌≤◌, ℕ, zero, suc, ◌+◌, true, List, [], ◌∷◌, map, Some, refl, ap, sym, arith}
+-- The demo's files describe what is run, or its world is refused.
+use Rattle.std.proofs.Common.{◌≡◌, ◌≤◌, ℕ, zero, suc, ◌+◌, inl, true, false, List, [], ◌∷◌, map, Some, refl, ap, sym, arith}
 use Rattle.std.specs.Prelude.{codes}
 use Rattle.std.specs.List.{range_with_len}
 use Rattle.env_file.specs.Worlds.{has_name}
@@ -10,13 +10,13 @@ use Rattle.mas_reading.specs.declared.sources.Source.{Source}
 use Rattle.mas_io.specs.Causes.{Rose}
 use Rattle.mas_reading.specs.Projects.{line_in}
 use Rattle.mas_reading.proofs.Single.{not_refused}
-use Rattle.mas_reading.specs.Sources.{HasProject, HasRole, HasRoles, IsAsked, Describe}
+use Rattle.mas_reading.specs.Sources.{HasProject, HasRole, HasRoles, IsAsked, Describe, part_refused}
 use Rattle.mas_demo.specs.Files.{agent_name, agent_source, project_source, world_source, demo_files}
-use Rattle.mas_demo.specs.Laws.{DemoDescribed, DemoNotRefused}
+use Rattle.mas_demo.specs.Laws.{DemoDescribed, DemoNotRefused, DemoRefused}
 use Rattle.mas_demo.proofs.Entries.{agent_line, demo_project}
 use Rattle.mas_demo.proofs.Named.{names_are, agents_are, is_project}
 use Rattle.mas_demo.proofs.Held.{project_held, world_held, agent_held}
-use Rattle.mas_demo.proofs.World.{demo_world, is_world}
+use Rattle.mas_demo.proofs.World.{demo_world, is_world, is_unknown}
 use Rattle.mas_demo.proofs.Agent.{demo_agent, is_agent}
 
 abbrev role : ℕ → Role
@@ -83,3 +83,14 @@ pub demo_not_refused : DemoNotRefused
 demo_not_refused known k status t l h refused =
     let d = demo_described known k t l h in
     not_refused known 1000 (demo_files k) (codes "demo.mas2j") d.source 0 0 status d.described still refused
+
+-- ---- where no artifact `tally` is there
+
+pub demo_refused : DemoRefused
+demo_refused known k before after n l h =
+    part_refused (demo_project k) (asked k l h)
+    (inl (record {
+      name = codes "demo.env";
+      named_is = refl;
+      why = record { same = refl; has = record { bytes = world_source; has = world_held k; are = is_unknown known n } };
+    }))

@@ -7,3 +7,4 @@ pub mod Parts
 pub mod Stands
 pub mod Within
 pub mod Single
+pub mod Refusals

@@ -51,7 +51,7 @@ use Rattle.mas_reading.specs.Sources.{
   AreRefused,
 }
 
-some_same : {A : Type 0} {x y : A} → Some x ≡ Some y → x ≡ y
+pub some_same : {A : Type 0} {x y : A} → Some x ≡ Some y → x ≡ y
 some_same e = cc
 
 none_some : {A : Type 0} {x : A} → None ≡ Some x → ⊥
@@ -112,7 +112,7 @@ project_by false files word p q h g =
     let w : IsProject h.bytes g.are.written = subst (λ x. IsProject x g.are.written) (sym e) g.are.is in
     h.are.placed ∙ ap (project_in (folder word)) (one_project h.bytes h.are.written g.are.written h.are.is w) ∙ sym g.are.placed
 
-same_project : (files : List Filed) (word : List ℕ) (p q : ProjectText) → HasProject (Some files) word p → HasProject (Some files) word q → p ≡ q
+pub same_project : (files : List Filed) (word : List ℕ) (p q : ProjectText) → HasProject (Some files) word p → HasProject (Some files) word q → p ≡ q
 same_project files word p q h g = project_by (is_agent_file word) files word p q h g
 
 same_world : (known : List (List ℕ)) (files : List Filed) (name : Option (List ℕ)) (a b : Option WorldText) → HasWorld known (Some files) name a → HasWorld known (Some files) name b → a ≡ b
@@ -190,7 +190,7 @@ agent_large bytes said a what.Clause number r = answer_fault said (fault.Limit n
 agent_large bytes said a what.Agents number r = absurd r
 agent_large bytes said a what.Cycles number r = absurd r
 
-agent_read : (bytes : List ℕ) (source : AgentText) → IsAgent bytes source → Accepted agents bytes
+pub agent_read : (bytes : List ℕ) (source : AgentText) → IsAgent bytes source → Accepted agents bytes
 agent_read bytes source h = record { faulty = agent_faulty bytes h.sentences h.said; large = agent_large bytes h.sentences h.said }
 
 no_lex : (known : List (List ℕ)) (bytes : List ℕ) (text : WorldText) (why : LexFault) → IsWorld known bytes text → IsFirstFault bytes why → ⊥
@@ -263,13 +263,13 @@ not_refused_file r files name before after Memory P h n f c = refl
 
 -- ---- each of them
 
-project_not : (b : Bool) (files : List Filed) (word : List ℕ) (p : ProjectText) (before after : ℕ) (status : Status) → ProjectBy b (Some files) word p → b ≡ false →
+pub project_not : (b : Bool) (files : List Filed) (word : List ℕ) (p : ProjectText) (before after : ℕ) (status : Status) → ProjectBy b (Some files) word p → b ≡ false →
     (Rose before after → ⊥) → IsRefusal projects word (Some files) before after status → status ≡ Memory
 project_not true files word p before after status h e f c = absurd (true_false e)
 project_not false files word p before after status h e f c =
     not_refused_file projects files word before after status _ h (project_read h.bytes h.are.written h.are.is) f c
 
-world_not : (known : List (List ℕ)) (files : List Filed) (name : List ℕ) (named : Option (List ℕ)) (text : Option WorldText) (before after : ℕ) (status : Status) → named ≡ Some name →
+pub world_not : (known : List (List ℕ)) (files : List Filed) (name : List ℕ) (named : Option (List ℕ)) (text : Option WorldText) (before after : ℕ) (status : Status) → named ≡ Some name →
     HasWorld known (Some files) named text → (Rose before after → ⊥) → IsRefusal (worlds known) name (Some files) before after status → status ≡ Memory
 world_not known files name None text before after status e h f c = absurd (none_some e)
 world_not known files name (Some n) None before after status e h f c = absurd h
@@ -300,7 +300,7 @@ part_not : (known : List (List ℕ)) (files : List Filed) (p : ProjectText) (sou
 part_not known files p source before after status d f (inl w) = world_not known files w.name p.world source.world before after status w.named_is d.world f w.why
 part_not known files p source before after status d f (inr a) = line_not files p.agents source.roles before after status d.roles f a.why
 
-too_many : (n : ℕ) → n ≤ most_cycles → most_cycles < n → ⊥
+pub too_many : (n : ℕ) → n ≤ most_cycles → most_cycles < n → ⊥
 too_many n h g = omega arith
 
 first_not : (known : List (List ℕ)) (cycles : ℕ) (files : List Filed) (word : List ℕ) (source : Source) (before after : ℕ) (status : Status) → HasSource known cycles (Some files) word source →

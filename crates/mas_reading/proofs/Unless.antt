@@ -1,4 +1,5 @@
 -- What is told where memory may lack.
+use Rattle.std.proofs.Common.{◌≢◌, refl}
 use Rattle.mas_reading.specs.declared.status.Status.{Status}
 use Rattle.mas_reading.specs.declared.status.Status.TheVariants.{Ok, Usage, Missing, ReadFault, WriteFault, Refused, Limit, Budget, Memory}
 use Rattle.mas_reading.specs.Sources.{UnlessMemory}
@@ -24,3 +25,14 @@ unless_as Is Js f (Refused file place why) h = f (Refused file place why) h
 unless_as Is Js f (Limit quantity count) h = f (Limit quantity count) h
 unless_as Is Js f Budget h = f Budget h
 unless_as Is Js f Memory h = tt
+
+pub is_told : (Is : Status → Type 0) (s : Status) → s ≢ Memory → UnlessMemory Is s → Is s
+is_told Is Ok n h = h
+is_told Is Usage n h = h
+is_told Is (Missing name) n h = h
+is_told Is ReadFault n h = h
+is_told Is WriteFault n h = h
+is_told Is (Refused file place why) n h = h
+is_told Is (Limit quantity count) n h = h
+is_told Is Budget n h = h
+is_told Is Memory n h = absurd (n refl)

@@ -11,9 +11,9 @@ use Rattle.mas_project.proofs.Agents as projects
 use Rattle.mas_reading.specs.Projects.{folder, line_in, is_agent_file, solo}
 use Rattle.mas_reading.specs.Sources.{ProjectBy, HasProject}
 
-names_placed : (dir : List ℕ) (lines : List AgentLine) → names_of (map (line_in dir) lines) ≡ names_of lines
-names_placed dir [] = refl
-names_placed dir (line ∷ lines) = ap (λ x. names_in line ++ x) (names_placed dir lines)
+names_placed : (directory : List ℕ) (lines : List AgentLine) → names_of (map (line_in directory) lines) ≡ names_of lines
+names_placed directory [] = refl
+names_placed directory (line ∷ lines) = ap (λ x. names_in line ++ x) (names_placed directory lines)
 
 one_few : 1 ≤ 256
 one_few = omega arith

@@ -1,5 +1,5 @@
 -- What is true of what the files of a run describe.
-use Rattle.std.specs.Prelude.{ℕ, ◌≡◌, true, List, Some}
+use Rattle.std.specs.Prelude.{ℕ, ◌≡◌, ◌≢◌, true, List, Some}
 use Rattle.std.specs.Option.{IsSome}
 use Rattle.asl_term.specs.declared.syntax.Filed.{Filed}
 use Rattle.mas_world.specs.declared.acts.WorldText.{WorldText}
@@ -23,6 +23,20 @@ abbrev pub NotRefused : Type 0
 NotRefused =
     (known : List (List ℕ)) (cycles : ℕ) (files : List Filed) (word : List ℕ) (source : Source) (before after : ℕ) (status : Status) →
     HasSource known cycles (Some files) word source → (Rose before after → ⊥) → AreRefused known cycles (Some files) word before after status → status ≡ Memory
+
+-- it is so of the status, and the count of faults did not rise, and memory did not lack
+pub record Surely (Is : ℕ → ℕ → Status → Type 0) (status : Status) : Type 0 where
+  pub before : ℕ
+  pub after : ℕ
+  pub no_fault : Rose before after → ⊥
+  pub no_lack : status ≢ Memory
+  pub is : Is before after status
+
+-- files are refused with one status at most, unless the count of faults rose or memory lacked
+abbrev pub OneRefusal : Type 0
+OneRefusal =
+    (known : List (List ℕ)) (cycles : ℕ) (files : List Filed) (word : List ℕ) (a b : Status) →
+    Surely (AreRefused known cycles (Some files) word) a → Surely (AreRefused known cycles (Some files) word) b → a ≡ b
 
 -- a known name is that of an artifact
 abbrev pub KnownNamed : Type 0

@@ -12,10 +12,10 @@ folder (b ∷ bs) = if list_any (nat_eq 47) (b ∷ bs) then b ∷ folder bs else
 
 -- the names of a project's files, in a folder
 abbrev pub line_in : List ℕ → AgentLine → AgentLine
-line_in dir line = record { name = line.name; file = dir ++ line.file; count = line.count; numbered = line.numbered }
+line_in directory line = record { name = line.name; file = directory ++ line.file; count = line.count; numbered = line.numbered }
 
 abbrev pub project_in : List ℕ → ProjectText → ProjectText
-project_in dir p = record { name = p.name; world = option_map (λ file. dir ++ file) p.world; agents = map (line_in dir) p.agents }
+project_in directory p = record { name = p.name; world = option_map (λ file. directory ++ file) p.world; agents = map (line_in directory) p.agents }
 
 -- a word that ends in `.asl` names the file of an agent
 abbrev pub is_agent_file : List ℕ → Bool

@@ -19,10 +19,10 @@ use Rattle.mas_reading.specs.Files.{most_bytes, HasFile, agents, worlds, project
 -- ---- what the files describe
 
 -- the bytes are a project whose files stand in this folder
-pub record IsProjectIn (dir bytes : List ℕ) (p : ProjectText) : Type 0 where
+pub record IsProjectIn (directory bytes : List ℕ) (p : ProjectText) : Type 0 where
   pub written : ProjectText
   pub is : IsProject bytes written
-  pub placed : p ≡ project_in dir written
+  pub placed : p ≡ project_in directory written
 
 -- the word stands for this project: it names an agent's file, or not
 abbrev pub ProjectBy : Bool → Option (List Filed) → List ℕ → ProjectText → Type 0

@@ -1,6 +1,6 @@
 //! Laws of what the files of a run describe, as contracts of functions that do nothing.
 
-ghost use Rattle.mas_reading.specs.Laws.{KnownNamed, KnownUses, NotRefused, OneSource};
+ghost use Rattle.mas_reading.specs.Laws.{KnownNamed, KnownUses, NotRefused, OneRefusal, OneSource};
 
 /// Files describe one source at most.
 #[tactic(auto, using(crate::proofs::Single::one_source))]
@@ -12,6 +12,12 @@ pub fn one_source()
 #[tactic(auto, using(crate::proofs::Single::not_refused))]
 pub fn not_refused()
     ensures { NotRefused }
+{}
+
+/// Files are refused with one status at most, whoever reads them, unless a call fails or memory lacks.
+#[tactic(auto, using(crate::proofs::Refusals::one_refusal))]
+pub fn one_refusal()
+    ensures { OneRefusal }
 {}
 
 /// The names that `known_names` gives are those of artifacts. So a world that was read with them uses artifacts that are

@@ -16,52 +16,52 @@ use mas_project::syntax::{AgentLine, AgentLines, ProjectText};
 use std::alloc::Global;
 
 /// The name of a file in a folder.
-fn file_in(alloc: Global, dir: &[u8], file: &Text) -> Result<Text, Starved>
-    ensures { IfOk result (λ t. t ≡ dir.now ++ file.now) }
+fn file_in(alloc: Global, directory: &[u8], file: &Text) -> Result<Text, Starved>
+    ensures { IfOk result (λ t. t ≡ directory.now ++ file.now) }
 {
-    let mut name = text_of(alloc, dir)?;
+    let mut name = text_of(alloc, directory)?;
     name.append(file.as_slice())?;
     Ok(name)
 }
 
-fn line_in(alloc: Global, dir: &[u8], line: &AgentLine) -> Result<AgentLine, Starved>
-    ensures { IfOk result (λ l. l ≡ spec.line_in dir.now line.now) }
+fn line_in(alloc: Global, directory: &[u8], line: &AgentLine) -> Result<AgentLine, Starved>
+    ensures { IfOk result (λ l. l ≡ spec.line_in directory.now line.now) }
 {
     Ok(AgentLine {
         name: copy_text(alloc, &line.name)?,
-        file: file_in(alloc, dir, &line.file)?,
+        file: file_in(alloc, directory, &line.file)?,
         count: line.count,
         numbered: line.numbered,
     })
 }
 
-fn lines_in(alloc: Global, dir: &[u8], lines: &[AgentLine]) -> Result<AgentLines, Starved>
-    ensures { IfOk result (λ ls. ls ≡ map (spec.line_in dir.now) lines.now) }
+fn lines_in(alloc: Global, directory: &[u8], lines: &[AgentLine]) -> Result<AgentLines, Starved>
+    ensures { IfOk result (λ ls. ls ≡ map (spec.line_in directory.now) lines.now) }
 {
     let mut all = Seq::new(alloc);
     for line in lines {
-        all.push(line_in(alloc, dir, line)?)?;
+        all.push(line_in(alloc, directory, line)?)?;
     }
     Ok(all)
 }
 
-fn world_in(alloc: Global, dir: &[u8], world: Option<&Text>) -> Result<Option<Text>, Starved>
-    ensures { IfOk result (λ w. w ≡ option_map (λ file. dir.now ++ file) (option_copied world.entry)) }
+fn world_in(alloc: Global, directory: &[u8], world: Option<&Text>) -> Result<Option<Text>, Starved>
+    ensures { IfOk result (λ w. w ≡ option_map (λ file. directory.now ++ file) (option_copied world.entry)) }
 {
     match world {
         None => Ok(None),
-        Some(file) => Ok(Some(file_in(alloc, dir, file)?)),
+        Some(file) => Ok(Some(file_in(alloc, directory, file)?)),
     }
 }
 
 /// A project whose files stand in this folder.
-fn project_in(alloc: Global, dir: &[u8], p: &ProjectText) -> Result<ProjectText, Starved>
-    ensures { IfOk result (λ q. q ≡ spec.project_in dir.now p.now) }
+fn project_in(alloc: Global, directory: &[u8], p: &ProjectText) -> Result<ProjectText, Starved>
+    ensures { IfOk result (λ q. q ≡ spec.project_in directory.now p.now) }
 {
     Ok(ProjectText {
         name: copy_text(alloc, &p.name)?,
-        world: world_in(alloc, dir, p.world.as_ref())?,
-        agents: lines_in(alloc, dir, p.agents.as_slice())?,
+        world: world_in(alloc, directory, p.world.as_ref())?,
+        agents: lines_in(alloc, directory, p.agents.as_slice())?,
     })
 }
 

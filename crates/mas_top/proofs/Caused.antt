@@ -7,6 +7,8 @@ use Rattle.mas_io.specs.Told.{Told, IsUnwritten}
 use Rattle.mas_io.specs.Writing.{IsCut}
 use Rattle.mas_reading.specs.declared.status.Status.{Status}
 use Rattle.mas_reading.specs.declared.status.Status.TheVariants.{Ok, Usage, Missing, ReadFault, WriteFault, Refused, Limit, Budget, Memory}
+use Rattle.mas_reading.specs.declared.status.What.TheVariants as what
+use Rattle.mas_reading.specs.Projects.{all_cycles}
 use Rattle.mas_reading.specs.Files.{Reader, IsRefusal, agents, worlds, projects}
 use Rattle.mas_reading.specs.Sources.{FirstRefused, project_refused, cycles_refused, part_refused}
 use Rattle.mas_reading.specs.Statuses.{whole}
@@ -18,7 +20,7 @@ use Rattle.mas_top.specs.Caused.{Texts, ForFiles, FileCaused}
 -- ---- what is refused
 
 -- a status with which nothing was written
-abbrev pub refuses : Status → Bool
+abbrev refuses : Status → Bool
 refuses Ok = false
 refuses Budget = false
 refuses WriteFault = false
@@ -36,16 +38,20 @@ no_report r name held before after (Limit quantity count) h = refl
 no_report r name held before after Budget h = absurd h
 no_report r name held before after Memory h = refl
 
-pub first_refuses : (names : List (List ℕ)) (cycles : ℕ) (held : Option (List Filed)) (word : List ℕ) (before after : ℕ) (status : Status) → FirstRefused names cycles held word before after status →
-    refuses status ≡ true
-first_refuses names cycles held word before after status (project_refused r) = no_report projects word held before after status r.why
-first_refuses names cycles held word before after status (cycles_refused r) = subst (λ s. refuses s ≡ true) (sym r.status_is) refl
-first_refuses names cycles held word before after status (part_refused p a (inl w)) = no_report (worlds names) w.name held before after status w.why
-first_refuses names cycles held word before after status (part_refused p a (inr l)) = no_report agents l.why.line.file held before after status l.why.why
+-- what holds of the status of each file that is refused, and of too many cycles, holds of the first refusal's
+pub first_by : (Is : Status → Type 0) (names : List (List ℕ)) (cycles : ℕ) (held : Option (List Filed)) (word : List ℕ) (before after : ℕ) (status : Status) →
+    ((r : Reader) (name : List ℕ) (s : Status) → IsRefusal r name held before after s → Is s) → ((count : ℕ) → Is (Limit what.Cycles count)) →
+    FirstRefused names cycles held word before after status → Is status
+first_by Is names cycles held word before after status f c (project_refused r) = f projects word status r.why
+first_by Is names cycles held word before after status f c (cycles_refused r) = subst Is (sym r.status_is) (c (all_cycles r.project cycles))
+first_by Is names cycles held word before after status f c (part_refused p a (inl w)) = f (worlds names) w.name status w.why
+first_by Is names cycles held word before after status f c (part_refused p a (inr l)) = f agents l.why.line.file status l.why.why
 
 file_refuses : (u : Setup) (held : Option (List Filed)) (wanted : Wanted) (before after : ℕ) (status : Status) → FileRefused u held wanted before after status →
     refuses status ≡ true
-file_refuses u held wanted before after status (inl r) = first_refuses (known u.objects) u.options.cycles held wanted.project before after status r
+file_refuses u held wanted before after status (inl r) =
+    first_by (λ s. refuses s ≡ true) (known u.objects) u.options.cycles held wanted.project before after status
+    (λ r name s. no_report r name held before after s) (λ count. refl) r
 file_refuses u held wanted before after status (inr r) = no_report (schedules u r.source) r.name held before after status r.why
 
 refused_by : (Is : Texts) (u : Setup) (wanted : Wanted) (before after : Told) (status : Status) → refuses status ≡ true →
@@ -94,25 +100,3 @@ written_file Is u wanted before after status spent w s g e = subst (λ x. FileCa
 pub cut_file : (Is : Texts) (u : Setup) (wanted : Wanted) (before after : Told) (spent : Bool) (w : List ℕ) → ForFiles Is u before.held wanted spent w →
     Rose before.sink_faults after.sink_faults → IsCut before.written after.written w → FileCaused Is u wanted before after WriteFault
 cut_file Is u wanted before after spent w g r c = record { rose = r; text = w; is = record { spent = spent; gives = g }; cut = c }
-
--- texts of one kind are of another
-for_files : (Is Other : Texts) (u : Setup) (held : Option (List Filed)) (wanted : Wanted) (spent : Bool) (w : List ℕ) →
-    ((spent : Bool) (g : Given) (w : List ℕ) → Is spent g w → Other spent g w) → ForFiles Is u held wanted spent w → ForFiles Other u held wanted spent w
-for_files Is Other u held wanted spent w f h = record { given = h.given; has = h.has; is = f spent h.given w h.is }
-
-pub other_kind : (Is Other : Texts) (u : Setup) (wanted : Wanted) (before after : Told) (status : Status) →
-    ((spent : Bool) (g : Given) (w : List ℕ) → Is spent g w → Other spent g w) → FileCaused Is u wanted before after status → FileCaused Other u wanted before after status
-other_kind Is Other u wanted before after Ok f c = record { text = c.text; is = for_files Is Other u before.held wanted false c.text f c.is; written = c.written }
-other_kind Is Other u wanted before after Usage f c = c
-other_kind Is Other u wanted before after (Missing lacked) f c = c
-other_kind Is Other u wanted before after ReadFault f c = c
-other_kind Is Other u wanted before after WriteFault f c = record {
-  rose = c.rose;
-  text = c.text;
-  is = record { spent = c.is.spent; gives = for_files Is Other u before.held wanted c.is.spent c.text f c.is.gives };
-  cut = c.cut;
-}
-other_kind Is Other u wanted before after (Refused file place why) f c = c
-other_kind Is Other u wanted before after (Limit quantity count) f c = c
-other_kind Is Other u wanted before after Budget f c = record { text = c.text; is = for_files Is Other u before.held wanted true c.text f c.is; written = c.written }
-other_kind Is Other u wanted before after Memory f c = c

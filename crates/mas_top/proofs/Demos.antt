@@ -1,5 +1,5 @@
 -- What becomes of a demo.
-use Rattle.std.proofs.Common.{ℕ, ◌≡◌, ◌≤◌, inl, inr, true, List, Some, Option, refl, ap, sym, ◌∙◌, subst, codes}
+use Rattle.std.proofs.Common.{ℕ, ◌≡◌, ◌≤◌, inl, inr, Bool, true, false, List, Some, Option, refl, ap, sym, ◌∙◌, subst, codes, arith}
 use Rattle.asl_cycle.specs.Agent.{agent_kind}
 use Rattle.asl_term.specs.declared.syntax.Filed.{Filed}
 use Rattle.mas_board.specs.Boards as boards
@@ -16,8 +16,9 @@ use Rattle.env_file.specs.Worlds.{has_name}
 use Rattle.mas_demo.proofs.Described.{demo_not_refused}
 use Rattle.mas_report.specs.Limits.{defaults}
 use Rattle.mas_reading.proofs.Unless.{unless}
+use Rattle.mas_reading.specs.Files.{Reader, IsRefusal}
 use Rattle.mas_reading.specs.Known.{known}
-use Rattle.mas_reading.specs.Sources.{HasSource, FirstRefused, AreRefused, UnlessMemory, project_refused, cycles_refused, part_refused}
+use Rattle.mas_reading.specs.Sources.{HasSource, FirstRefused, AreRefused, UnlessMemory}
 use Rattle.mas_reading.specs.declared.sources.Source.{Source}
 use Rattle.mas_reading.specs.declared.status.Status.{Status}
 use Rattle.mas_reading.specs.declared.status.Status.TheVariants.{Ok, Usage, Missing, ReadFault, WriteFault, Refused, Limit, Budget, Memory}
@@ -25,7 +26,7 @@ use Rattle.mas_top.specs.Demo.{DemoHas, IsToldRun, IsDemo, DemoRefused, DemoCaus
 use Rattle.mas_report.specs.declared.options.Options.{Options}
 use Rattle.mas_world.specs.Worlds.{Used}
 use Rattle.mas_top.specs.Opening.{Setup, setup, opening}
-use Rattle.mas_top.proofs.Caused.{refuses, first_refuses}
+use Rattle.mas_top.proofs.Caused.{first_by}
 
 -- the lines of the round robin
 pub robin_told : {V : Type 0} (kind : Kind V) (p : Platform V) (board : boards.Noted) (minds : List V) (k : ℕ) (w : List ℕ) → RanOut kind p board minds →
@@ -47,12 +48,35 @@ pub unread : (o : Options) (objects : List Used) (k : ℕ) (held : Option (List 
 unread o objects k held word status e f r =
     subst (λ w. AreRefused (known objects) o.cycles (Some (demo_files k)) w 0 0 status) f (subst (λ x. AreRefused (known objects) o.cycles x word 0 0 status) e r)
 
-one_refused : (u : Setup) (k : ℕ) (before after : Told) (status : Status) → refuses status ≡ true → DemoRefused u k status → IsUnwritten before after →
+-- a status that tells of a file of a shelf of which no call fails
+abbrev tells : Status → Bool
+tells (Missing lacked) = true
+tells (Refused file place why) = true
+tells (Limit quantity count) = true
+tells Memory = true
+tells other = false
+
+-- a count that stands at 0 has not risen
+still : Rose 0 0 → ⊥
+still r = omega (arith, r)
+
+told_of_file : (r : Reader) (name : List ℕ) (held : Option (List Filed)) (status : Status) → IsRefusal r name held 0 0 status → tells status ≡ true
+told_of_file r name held Ok h = absurd h
+told_of_file r name held Usage h = absurd h
+told_of_file r name held (Missing lacked) h = refl
+told_of_file r name held ReadFault h = absurd (still h)
+told_of_file r name held WriteFault h = absurd h
+told_of_file r name held (Refused file place why) h = refl
+told_of_file r name held (Limit quantity count) h = refl
+told_of_file r name held Budget h = absurd h
+told_of_file r name held Memory h = refl
+
+one_refused : (u : Setup) (k : ℕ) (before after : Told) (status : Status) → tells status ≡ true → DemoRefused u k status → IsUnwritten before after →
     DemoCaused u k before after status
 one_refused u k before after Ok e r w = absurd cc
-one_refused u k before after Usage e r w = record { why = r; unwritten = w }
+one_refused u k before after Usage e r w = absurd cc
 one_refused u k before after (Missing lacked) e r w = record { why = r; unwritten = w }
-one_refused u k before after ReadFault e r w = record { why = r; unwritten = w }
+one_refused u k before after ReadFault e r w = absurd cc
 one_refused u k before after WriteFault e r w = absurd cc
 one_refused u k before after (Refused file place why) e r w = record { why = r; unwritten = w }
 one_refused u k before after (Limit quantity count) e r w = record { why = r; unwritten = w }
@@ -62,7 +86,8 @@ one_refused u k before after Memory e r w = w
 by_first : (u : Setup) (k : ℕ) (before after : Told) (status : Status) → DemoRefused u k status → IsUnwritten before after → DemoCaused u k before after status
 by_first u k before after status r w =
     one_refused u k before after status
-    (first_refuses (known u.objects) u.options.cycles (Some (demo_files k)) (codes "demo.mas2j") 0 0 status r) r w
+    (first_by (λ s. tells s ≡ true) (known u.objects) u.options.cycles (Some (demo_files k)) (codes "demo.mas2j") 0 0 status
+    (λ r name s. told_of_file r name (Some (demo_files k)) s) (λ count. refl) r) r w
 
 -- a file is refused, and nothing was written
 pub unwritten : (u : Setup) (k : ℕ) (before after : Told) (status : Status) → UnlessMemory (DemoRefused u k) status → IsUnwritten before after →
@@ -94,11 +119,11 @@ not_first objects k status l h t r =
 pub demo_complete : (objects : List Used) (k : ℕ) (before after : Told) (status : Status) → 1 ≤ k → k ≤ 200 →
     DemoCaused (setup defaults objects) k before after status → IsDemoComplete (setup defaults objects) before after status
 demo_complete objects k before after Ok l h c t f = inl refl
-demo_complete objects k before after Usage l h c t f = inr (not_first objects k Usage l h t c.why)
+demo_complete objects k before after Usage l h c t f = absurd c
 demo_complete objects k before after (Missing lacked) l h c t f = inr (not_first objects k (Missing lacked) l h t c.why)
-demo_complete objects k before after ReadFault l h c t f = inr (not_first objects k ReadFault l h t c.why)
+demo_complete objects k before after ReadFault l h c t f = absurd c
 demo_complete objects k before after WriteFault l h c t f = absurd (f c.rose)
 demo_complete objects k before after (Refused file place why) l h c t f = inr (not_first objects k (Refused file place why) l h t c.why)
 demo_complete objects k before after (Limit quantity count) l h c t f = inr (not_first objects k (Limit quantity count) l h t c.why)
-demo_complete objects k before after Budget l h c t f = inr (not_first objects k Budget l h t c.why)
+demo_complete objects k before after Budget l h c t f = absurd c
 demo_complete objects k before after Memory l h c t f = inr refl

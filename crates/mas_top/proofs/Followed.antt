@@ -22,7 +22,7 @@ read names = Yes names
 names_same : (a b : List ℕ) → read a ≡ read b → a ≡ b
 names_same a b e = cc
 
-names_fault : (names : List ℕ) (n : ℕ) → Yes names ≡ No n → ⊥
+pub names_fault : (names : List ℕ) (n : ℕ) → Yes names ≡ No n → ⊥
 names_fault names n e = cc
 
 pub one_schedule : (bytes a b : List ℕ) → IsSchedule bytes a → IsSchedule bytes b → a ≡ b
@@ -34,7 +34,7 @@ some_same e = cc
 none_some : {A : Type 0} {x : A} → None ≡ Some x → ⊥
 none_some e = cc
 
-came_stuck : {V : Type 0} (p : Platform V) (n : ℕ) → Came p ≡ Stuck n → ⊥
+pub came_stuck : {V : Type 0} (p : Platform V) (n : ℕ) → Came p ≡ Stuck n → ⊥
 came_stuck p n e = cc
 
 -- a run that comes to its end is stuck nowhere
@@ -44,7 +44,7 @@ follows_on : {V : Type 0} (k : Kind V) (q : Option (Platform V)) (n : ℕ) (name
 follows_on k None n names done f e = absurd (none_some e)
 follows_on k (Some r) n names done f e = f r e
 
-follows : {V : Type 0} (k : Kind V) (p : Platform V) (n : ℕ) (names : List ℕ) (done : Platform V) → run k p names ≡ Some done → follow k p n names ≡ Came done
+pub follows : {V : Type 0} (k : Kind V) (p : Platform V) (n : ℕ) (names : List ℕ) (done : Platform V) → run k p names ≡ Some done → follow k p n names ≡ Came done
 follows k p n [] done e = ap Came (some_same e)
 follows k p n (a ∷ names) done e = follows_on k (turn k p a) n names done (λ r. follows k r (n + 1) names done) e
 

@@ -3,6 +3,7 @@ pub mod Runs
 pub mod Played
 pub mod Caused
 pub mod Followed
-pub mod Laws
+pub mod Refusals
+pub mod Drawn
 pub mod Demos
 pub mod Said

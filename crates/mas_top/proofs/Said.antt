@@ -1,25 +1,36 @@
 -- What the words ask for, and what follows of the cause of a status.
-use Rattle.std.proofs.Common.{inl, inr, List, ℕ, None, Some, sym, subst}
+use Rattle.std.proofs.Common.{◌≡◌, inl, inr, List, ℕ, None, Some, sym, subst}
 use Rattle.mas_words.specs.Asked as words
-use Rattle.mas_words.specs.Plain.{AskFor, AreRead}
+use Rattle.mas_words.specs.Plain.{AskFor, AskOnlyFor, AreRead}
 use Rattle.mas_io.specs.Told.{Told, IsUnwritten}
 use Rattle.mas_report.specs.Limits.{defaults}
 use Rattle.mas_reading.specs.declared.status.Status.{Status}
 use Rattle.mas_reading.specs.declared.status.Status.TheVariants.{Memory}
 use Rattle.mas_world.specs.Worlds.{Used}
 use Rattle.mas_top.specs.Caused.{Texts}
-use Rattle.mas_top.specs.Headline.{IsReportOf, IsRunReportOf, IsHeadline, PrintsSchedule, IsComplete, ForRuns, ForDemos, AskedCaused, WordsCaused}
+use Rattle.mas_top.specs.Headline.{IsRunReportOf, IsHeadline, PrintsSchedule, IsComplete, ForRuns, ForDemos, AskedCaused, WordsCaused}
 use Rattle.mas_top.specs.Opening.{Setup, setup}
 use Rattle.mas_top.specs.Runs.{wanted}
 use Rattle.mas_top.specs.Demo.{IsDemoComplete}
 use Rattle.mas_top.proofs.Demos.{demo_complete}
-use Rattle.mas_top.proofs.Laws.{headline_file, schedule_file, complete_file, report_file}
+use Rattle.mas_top.proofs.Drawn.{headline_file, schedule_file, complete_file}
 
 -- the cause for what the words ask for
 said : (Is : Setup → Texts) (objects : List Used) (given : List (List ℕ)) (before after : Told) (status : Status) → WordsCaused Is objects given before after status →
     (a : words.Asked) → AskFor given a → AskedCaused Is objects before after status a
 said Is objects given before after status (inl u) a h = absurd (u.not_read a h)
 said Is objects given before after status (inr w) a h = subst (λ x. AskedCaused Is objects before after status x) (sym (w.read.only a h)) w.caused
+
+-- a shelf that is as it was, whatever the words ask for
+pub left : {S : Type 0} (objects : List Used) (old new : S) → new ≡ old → (a : words.Asked) → ForDemos (λ u count. new ≡ old) objects a
+left objects old new e (words.run project options workers) = tt
+left objects old new e (words.replay project schedule options) = tt
+left objects old new e (words.demo count workers) = e
+
+-- or where they ask for this alone
+pub left_by : {S : Type 0} (objects : List Used) (given : List (List ℕ)) (old new : S) (asked : words.Asked) → AskOnlyFor given asked →
+    ForDemos (λ u count. new ≡ old) objects asked → (a : words.Asked) → AskFor given a → ForDemos (λ u count. new ≡ old) objects a
+left_by objects given old new asked only f a h = subst (ForDemos (λ u count. new ≡ old) objects) (sym (only.only a h)) f
 
 -- where memory lacked before anything was done
 short_by : (objects : List Used) (before after : Told) (a : words.Asked) → IsUnwritten before after → AskedCaused IsRunReportOf objects before after Memory a
@@ -65,13 +76,6 @@ demo_said : (objects : List Used) (given : List (List ℕ)) (before after : Told
 demo_said objects given before after status (inl u) a h = absurd (u.not_read a h)
 demo_said objects given before after status (inr w) a h = subst words.IsPermitted (sym (w.read.only a h)) w.permitted
 
-report_by : (objects : List Used) (before after : Told) (status : Status) (a : words.Asked) → AskedCaused IsRunReportOf objects before after status a →
-    AskedCaused IsReportOf objects before after status a
-report_by objects before after status (words.run project options workers) c = report_file (setup options objects) (wanted project None) before after status c
-report_by objects before after status (words.replay project schedule options) c =
-    report_file (setup options objects) (wanted project (Some schedule)) before after status c
-report_by objects before after status (words.demo count workers) c = c
-
 pub headline_words : (objects : List Used) (given : List (List ℕ)) (before after : Told) (status : Status) → WordsCaused IsRunReportOf objects given before after status →
     (a : words.Asked) → AskFor given a → ForRuns (λ u asked. IsHeadline u asked before after status) objects a
 headline_words objects given before after status c a h =
@@ -91,9 +95,3 @@ pub demo_words : (objects : List Used) (given : List (List ℕ)) (before after :
     (a : words.Asked) → AskFor given a → ForDemos (λ u count. IsDemoComplete u before after status) objects a
 demo_words objects given before after status c a h =
     demo_by objects before after status a (demo_said objects given before after status c a h) (said IsRunReportOf objects given before after status c a h)
-
-pub report_words : (objects : List Used) (given : List (List ℕ)) (before after : Told) (status : Status) → WordsCaused IsRunReportOf objects given before after status →
-    WordsCaused IsReportOf objects given before after status
-report_words objects given before after status (inl u) = inl u
-report_words objects given before after status (inr w) =
-    inr (record { asked = w.asked; read = w.read; permitted = w.permitted; caused = report_by objects before after status w.asked w.caused })

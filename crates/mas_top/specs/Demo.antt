@@ -15,7 +15,7 @@ use Rattle.mas_reading.specs.Known.{known}
 use Rattle.mas_reading.specs.Sources.{HasSource, FirstRefused}
 use Rattle.mas_reading.specs.declared.sources.Source.{Source}
 use Rattle.mas_reading.specs.declared.status.Status.{Status}
-use Rattle.mas_reading.specs.declared.status.Status.TheVariants.{Ok, WriteFault, Memory}
+use Rattle.mas_reading.specs.declared.status.Status.TheVariants.{Ok, Usage, ReadFault, WriteFault, Budget, Memory}
 use Rattle.mas_top.specs.Opening.{Setup, opening}
 
 -- the demo's own files, of so many agents, describe this source
@@ -53,9 +53,12 @@ IsDemoComplete u before after status =
 abbrev pub beside : Option (List Filed) → ℕ → Option (List ℕ) → ℕ → Told
 beside held shelf_faults written sink_faults = record { held = held; shelf_faults = shelf_faults; written = written; sink_faults = sink_faults }
 
--- the cause of a status of `demo`
+-- the cause of a status of `demo`, which refuses no words and reads from a shelf of which no call fails
 abbrev pub DemoCaused : Setup → ℕ → Told → Told → Status → Type 0
 DemoCaused u k before after Ok = Wrote (IsDemo u k) before after
 DemoCaused u k before after WriteFault = WroteSome (IsDemo u k) before after
 DemoCaused u k before after Memory = IsUnwritten before after
+DemoCaused u k before after Usage = ⊥
+DemoCaused u k before after ReadFault = ⊥
+DemoCaused u k before after Budget = ⊥
 DemoCaused u k before after status = IsRefusedDemo u k before after status

@@ -112,7 +112,7 @@ pub record IsUsage (given : List (List ℕ)) (before after : Told) (status : Sta
   pub unwritten : IsUnwritten before after
 
 -- the words ask for this alone, which is the cause
-pub record AskFor (Is : Setup → Texts) (objects : List Used) (given : List (List ℕ)) (before after : Told) (status : Status) : Type 0 where
+pub record HasCause (Is : Setup → Texts) (objects : List Used) (given : List (List ℕ)) (before after : Told) (status : Status) : Type 0 where
   pub asked : words.Asked
   pub read : AskOnlyFor given asked
   pub permitted : words.IsPermitted asked
@@ -120,4 +120,4 @@ pub record AskFor (Is : Setup → Texts) (objects : List Used) (given : List (Li
 
 -- Usage exactly where the words are not read; else the cause for what they ask for
 abbrev pub WordsCaused : (Setup → Texts) → List Used → List (List ℕ) → Told → Told → Status → Type 0
-WordsCaused Is objects given before after status = IsUsage given before after status ⊎ AskFor Is objects given before after status
+WordsCaused Is objects given before after status = IsUsage given before after status ⊎ HasCause Is objects given before after status

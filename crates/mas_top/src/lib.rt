@@ -2,6 +2,7 @@
 #![tactic(auto)]
 
 pub mod demo;
+pub mod laws;
 pub mod minds;
 pub mod playing;
 pub mod running;

@@ -5,7 +5,7 @@ ghost use Rattle.mas_io.specs.Told.{told_of, IsKept};
 ghost use Rattle.mas_report.specs.Limits.{IsWithin};
 ghost use Rattle.mas_top.specs.Caused.{FileCaused};
 ghost use Rattle.mas_top.specs.Demo.{IsDemoComplete};
-ghost use Rattle.mas_top.specs.Headline.{AskedCaused, ForDemos, ForRuns, IsComplete, IsHeadline, IsReportOf, IsRunReportOf, PrintsSchedule, WordsCaused};
+ghost use Rattle.mas_top.specs.Headline.{AskedCaused, ForDemos, ForRuns, IsComplete, IsHeadline, IsRunReportOf, PrintsSchedule, WordsCaused};
 ghost use Rattle.mas_top.specs.Opening.{objects_of, setup};
 ghost use Rattle.mas_top.specs.Runs.{wanted};
 ghost use Rattle.mas_words.specs.Asked as said;
@@ -83,7 +83,7 @@ pub fn run_project<R: Threads + Wait + Sync, S: Shelf, K: Sink>(
         IsKept (told shelf.old sink.old) (told shelf.new sink.new) }
     ensures caused { let told = told_of S.holds S.faults K.written K.faults in
         let u = setup o.now (objects_of named table facts artifacts.items) in
-        FileCaused (IsReportOf u) u (wanted project.now None) (told shelf.old sink.old) (told shelf.new sink.new) result }
+        FileCaused (IsRunReportOf u) u (wanted project.now None) (told shelf.old sink.old) (told shelf.new sink.new) result }
 {
     print_files(alloc, o, project, None, shelf, sink, artifacts)
 }
@@ -117,7 +117,7 @@ pub fn replay_project<R: Threads + Wait + Sync, S: Shelf, K: Sink>(
     ensures caused { let told = told_of S.holds S.faults K.written K.faults in
         let files = wanted project.now (Some schedule.now) in
         let u = setup o.now (objects_of named table facts artifacts.items) in
-        FileCaused (IsReportOf u) u files (told shelf.old sink.old) (told shelf.new sink.new) result }
+        FileCaused (IsRunReportOf u) u files (told shelf.old sink.old) (told shelf.new sink.new) result }
 {
     print_files(alloc, o, project, Some(schedule), shelf, sink, artifacts)
 }
@@ -176,6 +176,8 @@ fn run_asked<S: Shelf, K: Sink, A: Artifact>(
     artifacts: Vec<A>,
 ) -> Status
     requires { IsPermitted (asked_of asked) }
+    ensures untouched { let objects = objects_of A.named A.table A.facts artifacts.items in
+        ForDemos (λ u count. shelf.new ≡ shelf.old) objects (asked_of asked.entry) }
     ensures kept { let told = told_of S.holds S.faults K.written K.faults in
         IsKept (told shelf.old sink.old) (told shelf.new sink.new) }
     ensures caused { let told = told_of S.holds S.faults K.written K.faults in
@@ -206,7 +208,7 @@ fn run_asked<S: Shelf, K: Sink, A: Artifact>(
 }
 
 /// Does what the words ask for.
-#[tactic(auto, using(crate::proofs::Said::short_words))]
+#[tactic(auto, using(crate::proofs::Said::short_words, crate::proofs::Said::left, crate::proofs::Said::left_by))]
 fn run_read<S: Shelf, K: Sink, A: Artifact>(
     alloc: Global,
     words: &[String],
@@ -214,6 +216,9 @@ fn run_read<S: Shelf, K: Sink, A: Artifact>(
     sink: &mut K,
     artifacts: Vec<A>,
 ) -> Status
+    ensures untouched { let objects = objects_of A.named A.table A.facts artifacts.items in
+        (asked : said.Asked) → AskFor (map string_bytes words.now) asked →
+        ForDemos (λ u count. shelf.new ≡ shelf.old) objects asked }
     ensures kept { let told = told_of S.holds S.faults K.written K.faults in
         IsKept (told shelf.old sink.old) (told shelf.new sink.new) }
     ensures caused { let told = told_of S.holds S.faults K.written K.faults in
@@ -229,7 +234,8 @@ fn run_read<S: Shelf, K: Sink, A: Artifact>(
 }
 
 /// The top call: does what the words ask for, on one thread. They leave out the program's own name. The clauses are those of
-/// `run_project` and `replay_project`, for the files and the options that the words name; of a demo, `demo` and `caused`.
+/// `run_project` and `replay_project`, for the files and the options that the words name; of a demo, `demo`, `untouched` (it
+/// leaves the shelf as it was) and `caused`.
 pub fn run_words<R: Threads + Wait + Sync, S: Shelf, K: Sink>(
     _rt: &R,
     alloc: Global,
@@ -254,12 +260,15 @@ pub fn run_words<R: Threads + Wait + Sync, S: Shelf, K: Sink>(
         let objects = objects_of named table facts artifacts.items in
         (asked : said.Asked) → AskFor (map string_bytes words.now) asked →
         ForDemos (λ u count. IsDemoComplete u (told shelf.old sink.old) (told shelf.new sink.new) result) objects asked }
+    ensures untouched { let objects = objects_of named table facts artifacts.items in
+        (asked : said.Asked) → AskFor (map string_bytes words.now) asked →
+        ForDemos (λ u count. shelf.new ≡ shelf.old) objects asked }
     ensures kept { let told = told_of S.holds S.faults K.written K.faults in
         IsKept (told shelf.old sink.old) (told shelf.new sink.new) }
     ensures caused { let told = told_of S.holds S.faults K.written K.faults in
         let objects = objects_of named table facts artifacts.items in
         let given = map string_bytes words.now in
-        WordsCaused IsReportOf objects given (told shelf.old sink.old) (told shelf.new sink.new) result }
+        WordsCaused IsRunReportOf objects given (told shelf.old sink.old) (told shelf.new sink.new) result }
 {
     run_read(alloc, words, shelf, sink, artifacts)
 }

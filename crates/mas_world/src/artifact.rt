@@ -31,10 +31,11 @@ pub trait Artifact: Drop {
     fn name(&self) -> &Text
         ensures { result.now ≡ named self.now };
 
-    /// Puts its facts last. They have no variables and no operations, and no two of them are the same.
+    /// Puts its facts last, all of them or none. They have no variables and no operations, and no two of them are the same.
     fn observe(&self, out: &mut Literals) -> Result<(), Starved>
         ensures ok { OnOk result (out.new ≡ out.old ++ facts self.now) }
-        ensures sound { OnOk result (AreFacts (facts self.now)) };
+        ensures sound { OnOk result (AreFacts (facts self.now)) }
+        ensures refused { OnErr result (out.new ≡ out.old) };
 
     /// Acts where its table does, and changes nothing where it does not, nor where memory is wanting.
     fn operate(
@@ -111,10 +112,11 @@ impl<A: Artifact> Kept<A> {
         same_text(self.artifact.name(), name)
     }
 
-    /// Puts its facts last.
+    /// Puts its facts last, all of them or none.
     pub fn observe(&self, out: &mut Literals) -> Result<(), Starved>
         ensures ok { OnOk result (out.new ≡ out.old ++ self.now.segment.facts) }
         ensures sound { OnOk result (AreFacts self.now.segment.facts) }
+        ensures refused { OnErr result (out.new ≡ out.old) }
     {
         self.artifact.observe(out)
     }

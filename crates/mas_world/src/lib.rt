@@ -11,5 +11,4 @@ pub mod post;
 pub mod segment;
 pub mod shown;
 pub mod table;
-pub mod tabled;
 pub mod world;

@@ -8,7 +8,7 @@ use crate::acts::Acts;
 use crate::facts::carry_out;
 use crate::table::decided;
 use asl_term::copying::copy_literal;
-use asl_term::sequence::Starved;
+use asl_term::sequence::{Seq, Starved};
 use asl_term::syntax::{Literal, Literals, Text};
 use mas_mind::mind::Feedback;
 use std::alloc::Global;
@@ -79,15 +79,17 @@ impl Segment {
         self.facts.as_slice()
     }
 
-    /// Puts the facts last.
+    /// Puts the facts last, all of them or none.
     pub fn observe(&self, out: &mut Literals) -> Result<(), Starved>
         ensures ok { OnOk result (out.new ≡ out.old ++ self.now.facts) }
         ensures sound { AreFacts self.now.facts }
+        ensures refused { OnErr result (out.new ≡ out.old) }
     {
         let alloc = out.alloc();
+        let mut copies = Seq::new(alloc);
         for f in self.facts() {
-            out.push(copy_literal(alloc, f)?)?;
+            copies.push(copy_literal(alloc, f)?)?;
         }
-        Ok(())
+        out.append_all(copies)
     }
 }

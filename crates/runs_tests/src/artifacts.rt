@@ -27,7 +27,7 @@ fn action(alloc: Global, name: &[u8], arg: Option<i64>) -> Result<Literal, Starv
 }
 
 /// Whether the agent's action is done. One with a variable is none.
-fn does<A: Artifact>(
+pub fn does<A: Artifact>(
     alloc: Global,
     artifact: &mut A,
     agent: &[u8],

@@ -13,7 +13,11 @@ fn laws_are_called() {
     mas_schedule::laws::printed_again();
     mas_reading::laws::one_source();
     mas_reading::laws::not_refused();
+    mas_reading::laws::one_refusal();
     mas_reading::laws::known_there();
     mas_demo::laws::demo_is_described();
     mas_demo::laws::demo_is_not_refused();
+    mas_demo::laws::demo_is_refused();
+    mas_top::laws::not_refused();
+    mas_top::laws::one_refusal();
 }

@@ -1,4 +1,4 @@
-//! Tests of what no case can say: laws, and real files and output.
+//! Tests of what no case can say: laws, artifacts of one's own, and real files and output.
 #![tactic(auto)]
 
 #[cfg(test)]
@@ -7,5 +7,7 @@ mod artifacts;
 mod edge;
 #[cfg(test)]
 mod laws;
+#[cfg(test)]
+mod objects;
 #[cfg(test)]
 mod pings;

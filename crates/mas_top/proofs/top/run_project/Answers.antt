@@ -1,4 +1,4 @@
-use Rattle.mas_top.proofs.Laws.{headline_file, schedule_file, complete_file, report_file}
+use Rattle.mas_top.proofs.Drawn.{headline_file, schedule_file, complete_file}
 use Rattle.mas_top.proofs.top.run_project.Goals as goal
 
 pub returns-clause-headline : goal.returns-clause-headline
@@ -9,6 +9,3 @@ returns-clause-schedule g c = schedule_file _ _ _ _ _ c.print_files.ensures.caus
 
 pub returns-clause-complete : goal.returns-clause-complete
 returns-clause-complete g c = complete_file _ _ _ _ _ _ c.print_files.ensures.caused
-
-pub returns-clause-caused : goal.returns-clause-caused
-returns-clause-caused g c = report_file _ _ _ _ _ c.print_files.ensures.caused

@@ -1,4 +1,4 @@
-use Rattle.mas_top.proofs.Said.{headline_words, schedule_words, complete_words, demo_words, report_words}
+use Rattle.mas_top.proofs.Said.{headline_words, schedule_words, complete_words, demo_words}
 use Rattle.mas_top.proofs.top.run_words.Goals as goal
 
 pub returns-clause-headline : goal.returns-clause-headline
@@ -12,6 +12,3 @@ returns-clause-complete g c = complete_words _ _ _ _ _ c.run_read.ensures.caused
 
 pub returns-clause-demo : goal.returns-clause-demo
 returns-clause-demo g c = demo_words _ _ _ _ _ c.run_read.ensures.caused
-
-pub returns-clause-caused : goal.returns-clause-caused
-returns-clause-caused g c = report_words _ _ _ _ _ c.run_read.ensures.caused
