@@ -1,4 +1,4 @@
--- What an internal action on goals, beliefs or other agents leaves of the stacks that run.
+-- What an internal action on goals, beliefs or other agents leaves of the stacks that run. The one that waits for its action stays.
 use Rattle.std.proofs.Common.{◌≡◌, ℕ, Bool, true, false, ◌||◌, cond, List, [], ◌∷◌, ◌++◌, slice_get, Option, None, Some, Result, Ok, Err, codes, refl, sym, ap, subst, ◌∙◌, append_assoc}
 use Rattle.std.proofs.lemmas.List.{append-nil}
 use Rattle.std.specs.Str.{bytes_eq}
@@ -34,7 +34,7 @@ use Rattle.asl_goals.specs.Sending.{term_at, letter, is_ask, spread}
 use Rattle.asl_goals.specs.Inside as spec
 use Rattle.asl_goals.specs.Inside.{Did}
 use Rattle.asl_cycle.specs.Turns.{Left, ends_goals, goal_of, dropped_by_call}
-use Rattle.asl_cycle.specs.inner.Acting.{falls}
+use Rattle.asl_cycle.specs.inner.Acting.{falls, falls_acting}
 use Rattle.asl_cycle.proofs.Lefts.{Stacks, without_left}
 use Rattle.asl_cycle.proofs.Leaving.{Leaves, leaves_all, leaves_some, leaves_then, leaves_same}
 
@@ -81,7 +81,32 @@ module _ (k : Around) where
   treated_runs way.Succeed p stack = emptied_runs p stack
   treated_runs way.Fail p stack = falls k p.number error.IaFailed p.agenda stack
 
+-- the one that waits for its action stays
+abbrev Waits : Parts → Made → Type 0
+Waits p x = x.parts.agenda.acting ≡ p.agenda.acting
+
+module _ (k : Around) where
+  popped_waits : (p : Parts) (l : LiteralOf Term) (below : List Means) → Waits p (popped k p l below)
+  popped_waits p l below = either (Waits p) (is_bounded (head below)) (done_below p l below) (failed k row.ClrLimit error.TermLimit p below)
+      refl (falls_acting k.plans p.number error.TermLimit p.agenda below)
+
+  emptied_waits : (p : Parts) (stack : List Means) → Waits p (emptied k p stack)
+  emptied_waits p [] = refl
+  emptied_waits p (m ∷ []) = refl
+  emptied_waits p (m ∷ n ∷ below) =
+      either (Waits p) (is_bounded_trigger m.trigger) (popped k p m.trigger.lit (n ∷ below)) (failed k row.ClrLimit error.TermLimit p (n ∷ below))
+      (popped_waits p m.trigger.lit (n ∷ below)) (falls_acting k.plans p.number error.TermLimit p.agenda (n ∷ below))
+
+  treated_waits : (w : Way) (p : Parts) (stack : List Means) → Waits p (goals.treated k w p stack)
+  treated_waits way.Succeed p stack = emptied_waits p stack
+  treated_waits way.Fail p stack = falls_acting k.plans p.number error.IaFailed p.agenda stack
+
 -- ---- the fold
+
+sweep_waits : {S : Type 0} (one : Parts → S → Swept S) → ((p : Parts) (x : S) → (one p x).parts.agenda.acting ≡ p.agenda.acting)
+    → (p : Parts) (xs : List S) → (goals.sweep one p xs).parts.agenda.acting ≡ p.agenda.acting
+sweep_waits one h p [] = refl
+sweep_waits one h p (x ∷ more) = let a = one p x in sweep_waits one h a.parts more ∙ h p x
 
 -- some go behind them
 abbrev Back : Parts → Parts → Type 0
@@ -136,6 +161,25 @@ module _ (k : Around) (w : Way) (g : LiteralOf Term) where
       sweep_back (λ q (a : Ask). goals.taken_out k w g q a (goals.from_lowest g a.stack))
       (λ q a. taken_out_back q a (goals.from_lowest g a.stack)) (goals.with_asks p []) p.agenda.asks
 
+  in_place_waits : (p : Parts) (s : List Means) (o : Option (List Means)) → (goals.in_place k w g p s o).parts.agenda.acting ≡ p.agenda.acting
+  in_place_waits p s None = refl
+  in_place_waits p s (Some cut) = treated_waits k w p cut
+
+  taken_out_waits : {S : Type 0} (p : Parts) (x : S) (o : Option (List Means)) → (goals.taken_out k w g p x o).parts.agenda.acting ≡ p.agenda.acting
+  taken_out_waits p x None = refl
+  taken_out_waits p x (Some cut) = treated_waits k w p cut
+
+  swept_waits : (p : Parts) → (goals.all_swept k w g p).agenda.acting ≡ p.agenda.acting
+  swept_waits p =
+      let a = goals.running_swept k w g p in
+      let b = goals.events_swept k w g a in
+      let running = sweep_waits one_running (λ q s. in_place_waits q s (goals.from_lowest g s)) (goals.with_running p []) p.agenda.running in
+      let events = sweep_waits (λ q (e : Event). goals.taken_out k w g q e (goals.from_lowest g e.stack))
+      (λ q e. taken_out_waits q e (goals.from_lowest g e.stack)) (goals.with_events a []) a.agenda.events in
+      let asks = sweep_waits (λ q (x : Ask). goals.taken_out k w g q x (goals.from_lowest g x.stack))
+      (λ q x. taken_out_waits q x (goals.from_lowest g x.stack)) (goals.with_asks b []) b.agenda.asks in
+      asks ∙ (events ∙ running)
+
   swept_leaves : (p : Parts) → Leaves (Some g) p.agenda.running (goals.all_swept k w g p).agenda.running
   swept_leaves p =
       let a = goals.running_swept k w g p in
@@ -149,52 +193,53 @@ module _ (k : Around) (w : Way) (g : LiteralOf Term) where
 
 record Acts (named : Option (LiteralOf Term)) (p : Parts) (d : Did) : Type 0 where
   leaves : Leaves named p.agenda.running d.parts.agenda.running
+  waits : d.parts.agenda.acting ≡ p.agenda.acting
 
 module _ (named : Option (LiteralOf Term)) (k : Around) (asks : ℕ) (p : Parts) (cur : List Means) where
-  stays : (d : Did) → d.parts.agenda.running ≡ p.agenda.running → Acts named p d
-  stays d e = record { leaves = leaves_all named p.agenda.running d.parts.agenda.running e }
+  stays : (d : Did) → d.parts.agenda.running ≡ p.agenda.running → d.parts.agenda.acting ≡ p.agenda.acting → Acts named p d
+  stays d e h = record { leaves = leaves_all named p.agenda.running d.parts.agenda.running e; waits = h }
 
   refuses : (e : Why) → Acts named p (spec.refused k asks p cur e)
-  refuses e = stays (spec.refused k asks p cur e) refl
+  refuses e = stays (spec.refused k asks p cur e) refl refl
 
-  drops : (a : Agenda) (b : Bool) → Left named p.agenda.running a.running → Acts named p (spec.dropped k asks p cur a b)
-  drops a true h = record { leaves = leaves_some named p.agenda.running a.running h }
-  drops a false h = record { leaves = leaves_some named p.agenda.running a.running h }
+  drops : (a : Agenda) (b : Bool) → Left named p.agenda.running a.running → a.acting ≡ p.agenda.acting → Acts named p (spec.dropped k asks p cur a b)
+  drops a true h e = record { leaves = leaves_some named p.agenda.running a.running h; waits = e }
+  drops a false h e = record { leaves = leaves_some named p.agenda.running a.running h; waits = e }
 
   looks : (o : Option (List Pair)) → Acts named p (spec.matched k asks p cur o)
   looks None = refuses why.NoMatch
-  looks (Some s) = stays (spec.matched k asks p cur (Some s)) refl
+  looks (Some s) = stays (spec.matched k asks p cur (Some s)) refl refl
 
   current_left : (q : Parts) (stack : List Means) (fs : List Fall) → Leaves named p.agenda.running q.agenda.running
-      → Acts named p (spec.current_left k asks p cur q stack fs)
-  current_left q [] fs h = record { leaves = h }
-  current_left q (m ∷ below) fs h = record { leaves = h }
+      → q.agenda.acting ≡ p.agenda.acting → Acts named p (spec.current_left k asks p cur q stack fs)
+  current_left q [] fs h e = record { leaves = h; waits = e }
+  current_left q (m ∷ below) fs h e = record { leaves = h; waits = e }
 
   current : (w : Way) (q : Parts) (fs : List Fall) (o : Option (List Means)) → Leaves named p.agenda.running q.agenda.running
-      → Acts named p (spec.current k asks p cur w q fs o)
-  current w q fs None h = record { leaves = h }
-  current w q fs (Some cut) h =
+      → q.agenda.acting ≡ p.agenda.acting → Acts named p (spec.current k asks p cur w q fs o)
+  current w q fs None h e = record { leaves = h; waits = e }
+  current w q fs (Some cut) h e =
       let x = goals.treated k w q cut in
       current_left x.parts x.cur (fs ++ goals.falls_of x.went)
-      (leaves_same named p.agenda.running q.agenda.running x.parts.agenda.running h (treated_runs k w q cut))
+      (leaves_same named p.agenda.running q.agenda.running x.parts.agenda.running h (treated_runs k w q cut)) (treated_waits k w q cut ∙ e)
 
   ends : (w : Way) (g : LiteralOf Term) → named ≡ Some g → Acts named p (spec.ended k asks p cur w g)
   ends w g e =
       let q = goals.all_swept k w g p in
       current w q (goals.all_falls k w g p) (goals.from_lowest g cur)
-      (subst (λ n. Leaves n p.agenda.running q.agenda.running) (sym e) (swept_leaves k w g p))
+      (subst (λ n. Leaves n p.agenda.running q.agenda.running) (sym e) (swept_leaves k w g p)) (swept_waits k w g p)
 
-  drops_named : (g : LiteralOf Term) (a : Agenda) → a.running ≡ without (has_goal g) p.agenda.running → named ≡ Some g
+  drops_named : (g : LiteralOf Term) (a : Agenda) → a.running ≡ without (has_goal g) p.agenda.running → a.acting ≡ p.agenda.acting → named ≡ Some g
       → Acts named p (spec.dropped k asks p cur a (has_goal g cur))
-  drops_named g a is e =
+  drops_named g a is same e =
       drops a (has_goal g cur) (subst (λ xs. Left named p.agenda.running xs) (sym is)
-      (subst (λ n. Left n p.agenda.running (without (has_goal g) p.agenda.running)) (sym e) (without_left g p.agenda.running)))
+      (subst (λ n. Left n p.agenda.running (without (has_goal g) p.agenda.running)) (sym e) (without_left g p.agenda.running))) same
 
   sends_asking : (me : ℕ) (l : Letter) (o : Option (ArgOf Expr)) → Acts named p (spec.sent_asking k asks p cur me l o)
-  sends_asking me l None = stays (spec.sent_asking k asks p cur me l None) refl
+  sends_asking me l None = stays (spec.sent_asking k asks p cur me l None) refl refl
   sends_asking me l (Some (arg.Plain a)) =
       either (Acts named p) (is_ask l.verb) (spec.asked k asks p cur me l a) (spec.refused k asks p cur (why.Argument 3))
-      (stays (spec.asked k asks p cur me l a) refl) (refuses (why.Argument 3))
+      (stays (spec.asked k asks p cur me l a) refl refl) (refuses (why.Argument 3))
   sends_asking me l (Some (arg.Logic e)) = refuses (why.Argument 3)
 
   sends : (me : ℕ) (args : List (ArgOf Expr)) (r : Result Letter Why) → Acts named p (spec.sent_letter k asks p cur me args r)
@@ -203,7 +248,7 @@ module _ (named : Option (LiteralOf Term)) (k : Around) (asks : ℕ) (p : Parts)
 
   sends_all : (r : Result (List Message) Why) → Acts named p (spec.sent_all k asks p cur r)
   sends_all (Err e) = refuses e
-  sends_all (Ok ms) = stays (spec.sent_all k asks p cur (Ok ms)) refl
+  sends_all (Ok ms) = stays (spec.sent_all k asks p cur (Ok ms)) refl refl
 
   -- the first four name the goal that they drop or end
   one_of : (g : LiteralOf Term) (b c d e : Bool) {v w x y z : Did} → named ≡ cond (b || (c || (d || (e || false)))) (Some g) None
@@ -219,10 +264,10 @@ module _ (named : Option (LiteralOf Term)) (k : Around) (asks : ℕ) (p : Parts)
   about name g is =
       one_of g (bytes_eq name (codes "drop_intention")) (bytes_eq name (codes "drop_desire"))
       (bytes_eq name (codes "succeed_goal")) (bytes_eq name (codes "fail_goal")) is
-      (drops_named g (without_intentions g p.agenda) refl) (drops_named g (without_desires g p.agenda) refl) (ends way.Succeed g) (ends way.Fail g)
+      (drops_named g (without_intentions g p.agenda) refl refl) (drops_named g (without_desires g p.agenda) refl refl) (ends way.Succeed g) (ends way.Fail g)
       (pick (Acts named p) (bytes_eq name (codes "intend")) (looks (goals.first_goal false g p.agenda cur))
       (pick (Acts named p) (bytes_eq name (codes "desire")) (looks (goals.first_goal true g p.agenda cur))
-      (pick (Acts named p) (bytes_eq name (codes "abolish")) (stays (spec.abolish k asks p cur g) refl)
+      (pick (Acts named p) (bytes_eq name (codes "abolish")) (stays (spec.abolish k asks p cur g) refl refl)
       (refuses (why.Argument 0)))))
 
   about_literal : (name : List ℕ) (o : Option (LiteralOf Term)) → named ≡ cond (ends_goals name) o None
@@ -238,8 +283,13 @@ module _ (named : Option (LiteralOf Term)) (k : Around) (asks : ℕ) (p : Parts)
   acts peers c is =
       pick (Acts named p) (bytes_eq c.name (codes "send")) (sends peers.me c.args (letter peers.names c.args))
       (pick (Acts named p) (bytes_eq c.name (codes "broadcast")) (sends_all (spread peers c.args))
-      (pick (Acts named p) (bytes_eq c.name (codes "stopMAS")) (stays (spec.stop k asks p cur) refl)
+      (pick (Acts named p) (bytes_eq c.name (codes "stopMAS")) (stays (spec.stop k asks p cur) refl refl)
       (about_term c.name (term_at c.args 0) is)))
+
+pub deed_waits : (k : Around) (peers : Peers) (asks : ℕ) (p : Parts) (cur : List Means) (c : CallOf Expr)
+    → (spec.act_inside k peers asks p cur c).parts.agenda.acting ≡ p.agenda.acting
+unfolding spec.act_inside
+deed_waits k peers asks p cur c = (acts (dropped_by_call c) k asks p cur peers c refl).waits
 
 pub deed_leaves : (k : Around) (peers : Peers) (asks : ℕ) (p : Parts) (cur : List Means) (c : CallOf Expr)
     → Leaves (dropped_by_call c) p.agenda.running (spec.act_inside k peers asks p cur c).parts.agenda.running

@@ -7,3 +7,11 @@ pub mod Leaving
 pub mod Letters
 pub mod Deeds
 pub mod Ordered
+pub mod Awaiting
+pub mod Sums
+pub mod Failing
+pub mod Executing
+pub mod Ending
+pub mod Hearing
+pub mod Keeping
+pub mod Sends

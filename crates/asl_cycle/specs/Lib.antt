@@ -1,7 +1,9 @@
 pub mod Steps
 pub mod Cycle
+pub mod Acts
 pub mod Trace
 pub mod Opening
 pub mod Turns
+pub mod Intentions
 pub mod Agent
 pub mod inner

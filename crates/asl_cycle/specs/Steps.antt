@@ -315,6 +315,11 @@ after_row row.IaOk = after.Clears
 after_row row.ClrInt2 = after.Clears
 after_row other = after.Ends
 
+-- whether a row hands an action on
+abbrev pub acts : After → Bool
+acts (after.Acts l) = true
+acts other = false
+
 abbrev pub after_of : Went → After
 after_of (went.Row r) = after_row r
 after_of (went.Say text) = after.Clears

@@ -38,7 +38,8 @@ pub struct Agent {
 }
 
 impl Model for Agent {
-    ghost use Rattle.std.specs.Prelude.{◌≡◌, ◌≤◌, ◌+◌, ◌*◌};
+    ghost use Rattle.std.specs.Prelude.{◌≡◌, ◌≤◌, ◌+◌, ◌*◌, ◌||◌, true};
+    ghost use Rattle.asl_cycle.specs.Acts.{is_fed};
     ghost use Rattle.asl_cycle.specs.Agent.{Mindset, own_name};
     ghost use Rattle.asl_term.specs.contracts.syntax.Term as term;
     ghost use Rattle.asl_term.specs.contracts.syntax.Expr as expr;
@@ -63,7 +64,8 @@ impl Model for Agent {
     } };
 
     ghost invariant = { λ a. (a.parts.number ≤ 1 + 20000002 * a.cycles)
-        × ((a.asks ≤ 1 + a.cycles) × ((a.cycles ≤ 1000000) × ((a.around.budgets.tries ≤ 10000000) × (a.around.actions ≡ own_name a.peers)))) };
+        × ((a.asks ≤ 1 + a.cycles) × ((a.cycles ≤ 1000000) × ((a.around.budgets.tries ≤ 10000000) × ((a.around.actions ≡ own_name a.peers)
+        × ((a.awaits || is_fed a.parts.agenda.acting a.kept) ≡ true))))) };
 }
 
 /// The agent of a source before its first cycle. It has the place `me` among the names of all agents, from 1. Its
@@ -141,6 +143,8 @@ impl Mind for Agent {
 
     fn think(&mut self, alloc: Global, input: Input) -> Result<Thought, Starved> {
         self.cycles += 1;
+        // Until the cycle has ended it may not make another.
+        self.awaits = true;
         let kept = self.kept.take();
         let finished = cycle(
             alloc,

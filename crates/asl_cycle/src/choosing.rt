@@ -68,9 +68,11 @@ fn sought<B: BeliefBase, A: Actions>(
     ensures number { IfOk result (λ r. NextAtMost (p.now.number + k.now.budgets.tries) r) }
 {
     let context = rename_expr(alloc, &plan.context, number)?;
-    first(
+    let answer = first(
         alloc, &p.beliefs, &k.actions, &context, s, p.number, &k.budgets,
-    )
+    );
+    drop(context);
+    answer
 }
 
 /// What the answer for the context of a plan decides, where it decides something.

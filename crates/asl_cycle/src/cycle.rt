@@ -1,8 +1,9 @@
 //! A cycle: from each step to the end.
 
-ghost use Rattle.std.specs.Prelude.{◌≡◌, ◌≤◌, ◌<◌, ◌^◌, ◌+◌, ◌-◌, ◌*◌, true, IfOk};
+ghost use Rattle.std.specs.Prelude.{◌≡◌, ◌≤◌, ◌<◌, ◌^◌, ◌+◌, ◌-◌, ◌*◌, true, None, IfOk};
 ghost use Rattle.asl_exec.specs.Parts.{around, parts};
 ghost use Rattle.asl_beliefs.specs.Bases.{all_ground};
+ghost use Rattle.asl_cycle.specs.Acts.{is_fed};
 ghost use Rattle.asl_cycle.specs.Cycle as spec;
 
 use crate::config::{After, Applied, Intended, Related};
@@ -145,6 +146,7 @@ fn from_exec<B: BeliefBase, A: Actions>(
 ) -> Result<Finished, Starved>
     requires room { p.old.number + k.now.budgets.tries < 2 ^ 64 - 1 }
     requires asks { sofar.asks < 2 ^ 64 - 1 }
+    requires free { p.old.agenda.acting ≡ None }
     ensures made { let e = around k.now.lib.plans (B.rules p.old.beliefs) (A.solve k.now.actions) k.now.budgets in
         let old = parts (B.beliefs p.old.beliefs) p.old.agenda p.old.number in
         let new = parts (B.beliefs p.new.beliefs) p.new.agenda p.new.number in
@@ -172,6 +174,7 @@ fn from_sel_int<B: BeliefBase, A: Actions>(
 ) -> Result<Finished, Starved>
     requires room { p.old.number + k.now.budgets.tries < 2 ^ 64 - 1 }
     requires asks { sofar.asks < 2 ^ 64 - 1 }
+    requires free { p.old.agenda.acting ≡ None }
     ensures made { let e = around k.now.lib.plans (B.rules p.old.beliefs) (A.solve k.now.actions) k.now.budgets in
         let old = parts (B.beliefs p.old.beliefs) p.old.agenda p.old.number in
         let new = parts (B.beliefs p.new.beliefs) p.new.agenda p.new.number in
@@ -200,6 +203,7 @@ fn from_sel_appl<B: BeliefBase, A: Actions>(
 ) -> Result<Finished, Starved>
     requires room { intended.next + k.now.budgets.tries < 2 ^ 64 - 1 }
     requires asks { sofar.asks < 2 ^ 64 - 1 }
+    requires free { p.old.agenda.acting ≡ None }
     ensures made { let e = around k.now.lib.plans (B.rules p.old.beliefs) (A.solve k.now.actions) k.now.budgets in
         let old = parts (B.beliefs p.old.beliefs) p.old.agenda p.old.number in
         let new = parts (B.beliefs p.new.beliefs) p.new.agenda p.new.number in
@@ -224,6 +228,7 @@ fn from_appl_pl<B: BeliefBase, A: Actions>(
 ) -> Result<Finished, Starved>
     requires room { p.old.number + 2 * k.now.budgets.tries < 2 ^ 64 - 1 }
     requires asks { sofar.asks < 2 ^ 64 - 1 }
+    requires free { p.old.agenda.acting ≡ None }
     ensures made { let e = around k.now.lib.plans (B.rules p.old.beliefs) (A.solve k.now.actions) k.now.budgets in
         let old = parts (B.beliefs p.old.beliefs) p.old.agenda p.old.number in
         let new = parts (B.beliefs p.new.beliefs) p.new.agenda p.new.number in
@@ -251,6 +256,7 @@ fn from_rel_pl<B: BeliefBase, A: Actions>(
     requires tries { k.now.budgets.tries ≤ 10000000 }
     requires room { p.old.number ≤ 2 ^ 63 }
     requires asks { sofar.asks < 2 ^ 64 - 1 }
+    requires free { p.old.agenda.acting ≡ None }
     ensures made { let e = around k.now.lib.plans (B.rules p.old.beliefs) (A.solve k.now.actions) k.now.budgets in
         let old = parts (B.beliefs p.old.beliefs) p.old.agenda p.old.number in
         let new = parts (B.beliefs p.new.beliefs) p.new.agenda p.new.number in
@@ -276,6 +282,7 @@ fn from_sel_ev<B: BeliefBase, A: Actions>(
     requires tries { k.now.budgets.tries ≤ 10000000 }
     requires room { p.old.number ≤ 2 ^ 63 }
     requires asks { sofar.asks < 2 ^ 64 - 1 }
+    requires free { p.old.agenda.acting ≡ None }
     ensures made { let e = around k.now.lib.plans (B.rules p.old.beliefs) (A.solve k.now.actions) k.now.budgets in
         let old = parts (B.beliefs p.old.beliefs) p.old.agenda p.old.number in
         let new = parts (B.beliefs p.new.beliefs) p.new.agenda p.new.number in
@@ -302,6 +309,7 @@ fn from_msg<B: BeliefBase, A: Actions>(
     requires tries { k.now.budgets.tries ≤ 10000000 }
     requires room { p.old.number < 2 ^ 63 }
     requires asks { sofar.asks < 2 ^ 64 - 1 }
+    requires free { p.old.agenda.acting ≡ None }
     ensures made { let e = around k.now.lib.plans (B.rules p.old.beliefs) (A.solve k.now.actions) k.now.budgets in
         let old = parts (B.beliefs p.old.beliefs) p.old.agenda p.old.number in
         let new = parts (B.beliefs p.new.beliefs) p.new.agenda p.new.number in
@@ -317,8 +325,8 @@ fn from_msg<B: BeliefBase, A: Actions>(
     Ok(spends(sofar))
 }
 
-/// A whole cycle, with the number of the next ask, and the feedback that was told since the one before. The counter rises by
-/// at most two and twice the tries, and at most one number of an ask is used.
+/// A whole cycle, with the number of the next ask, and the feedback that was told since the one before: where a stack waits
+/// for its action, there is some. The counter rises by at most two and twice the tries, and at most one number of an ask is used.
 pub fn cycle<B: BeliefBase, A: Actions>(
     alloc: Global,
     k: &Around<A>,
@@ -332,6 +340,7 @@ pub fn cycle<B: BeliefBase, A: Actions>(
     requires tries { k.now.budgets.tries ≤ 10000000 }
     requires room { p.old.number < 2 ^ 63 }
     requires asks { asks < 2 ^ 63 }
+    requires fed { is_fed p.old.agenda.acting kept ≡ true }
     ensures made { let e = around k.now.lib.plans (B.rules p.old.beliefs) (A.solve k.now.actions) k.now.budgets in
         let old = parts (B.beliefs p.old.beliefs) p.old.agenda p.old.number in
         let new = parts (B.beliefs p.new.beliefs) p.new.agenda p.new.number in

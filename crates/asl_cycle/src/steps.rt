@@ -1,10 +1,11 @@
 //! The steps of a cycle: each makes the one row of its table that applies.
 
-ghost use Rattle.std.specs.Prelude.{◌≡◌, ◌<◌, ◌≤◌, ◌+◌, ◌-◌, ◌*◌, ◌^◌, ◌++◌, [], ◌∷◌, true, IfOk, OnOk};
+ghost use Rattle.std.specs.Prelude.{◌≡◌, ◌<◌, ◌≤◌, ◌+◌, ◌-◌, ◌*◌, ◌^◌, ◌++◌, [], ◌∷◌, true, None, IfOk, OnOk};
 ghost use Rattle.asl_beliefs.specs.Bases.{all_ground};
 ghost use Rattle.asl_cycle.specs.declared.rows.Line.TheVariants as line;
 ghost use Rattle.asl_exec.specs.Parts.{around, parts};
 ghost use Rattle.asl_goals.specs.Inside.{did, act_inside};
+ghost use Rattle.asl_cycle.specs.Acts.{is_fed};
 ghost use Rattle.asl_cycle.specs.Steps as spec;
 ghost use Rattle.asl_cycle.specs.Steps.{Wrought};
 ghost use Rattle.asl_cycle.specs.inner.Choosing.{AppliedAtMost};
@@ -79,6 +80,7 @@ fn no_plan<B: BeliefBase, A: Actions>(
         OnOk result (Wrought (spec.no_plan e row old event other (tt {0})) new sofar.old sofar.new (tt {0})) }
     ensures beliefs { p.new.beliefs ≡ p.old.beliefs }
     ensures number { p.new.number ≡ p.old.number }
+    ensures acting { OnOk result (p.new.agenda.acting ≡ p.old.agenda.acting) }
 {
     let error = error_of(event.error, other);
     let mut stack = virtual_stack(alloc, event)?;
@@ -103,6 +105,7 @@ fn drop_or_fail<B: BeliefBase, A: Actions>(
         OnOk result (Wrought (spec.dropped_or_fails e rows.0 rows.1 old event event.trigger.kind other (tt {0})) new sofar.old sofar.new (tt {0})) }
     ensures beliefs { p.new.beliefs ≡ p.old.beliefs }
     ensures number { p.new.number ≡ p.old.number }
+    ensures acting { OnOk result (p.new.agenda.acting ≡ p.old.agenda.acting) }
 {
     let (dropped, failed) = rows;
     match event.trigger.kind {
@@ -133,6 +136,7 @@ pub fn percept<B: BeliefBase>(
         OnOk result (Wrought (spec.percept old percepts.now) new sofar.old sofar.new (tt {0})) }
     ensures rules { B.rules p.new.beliefs ≡ B.rules p.old.beliefs }
     ensures number { p.new.number ≡ p.old.number }
+    ensures acting { OnOk result (p.new.agenda.acting ≡ p.old.agenda.acting) }
 {
     match p.beliefs.update_percepts(alloc, percepts) {
         Ok(events) => {
@@ -155,6 +159,7 @@ fn feed_done<B: BeliefBase>(
         OnOk result (Wrought (spec.feed_done old waits) new sofar.old sofar.new (tt {0})) }
     ensures beliefs { p.new.beliefs ≡ p.old.beliefs }
     ensures number { p.new.number ≡ p.old.number }
+    ensures free { OnOk result (p.new.agenda.acting ≡ None) }
 {
     let Acting { stack, action } = waits;
     let mut stack = stack;
@@ -179,6 +184,7 @@ fn feed_fail<B: BeliefBase, A: Actions>(
         OnOk result (Wrought (spec.feed_fail e old waits) new sofar.old sofar.new (tt {0})) }
     ensures beliefs { p.new.beliefs ≡ p.old.beliefs }
     ensures number { p.new.number ≡ p.old.number }
+    ensures free { OnOk result (p.new.agenda.acting ≡ None) }
 {
     let Acting { stack, action } = waits;
     let mut stack = stack;
@@ -198,12 +204,14 @@ pub fn feed<B: BeliefBase, A: Actions>(
     sofar: &mut Sofar,
     kept: Option<Feedback>,
 ) -> Result<(), Starved>
+    requires { is_fed p.old.agenda.acting kept ≡ true }
     ensures made { let e = around k.now.lib.plans (B.rules p.old.beliefs) (A.solve k.now.actions) k.now.budgets in
         let old = parts (B.beliefs p.old.beliefs) p.old.agenda p.old.number in
         let new = parts (B.beliefs p.new.beliefs) p.new.agenda p.new.number in
         OnOk result (Wrought (spec.feed e old kept) new sofar.old sofar.new (tt {0})) }
     ensures beliefs { p.new.beliefs ≡ p.old.beliefs }
     ensures number { p.new.number ≡ p.old.number }
+    ensures free { OnOk result (p.new.agenda.acting ≡ None) }
 {
     let Some(feedback) = kept else {
         return rule(sofar, Row::Feed0);
@@ -233,6 +241,7 @@ pub fn msg<B: BeliefBase, A: Actions>(
         IfOk result (λ next. spec.msg e peers.now old sofar.old message.now ≡ spec.moved new sofar.new next) }
     ensures rules { B.rules p.new.beliefs ≡ B.rules p.old.beliefs }
     ensures number { p.new.number ≤ p.old.number + 1 }
+    ensures acting { OnOk result (p.new.agenda.acting ≡ p.old.agenda.acting) }
     ensures asks { OnOk result (sofar.new.asks ≡ sofar.old.asks) }
 {
     match message {
@@ -254,6 +263,7 @@ pub fn sel_ev<B: BeliefBase>(p: &mut Parts<B>, sofar: &mut Sofar) -> Result<Opti
         IfOk result (Wrought (spec.sel_ev old) new sofar.old sofar.new) }
     ensures beliefs { p.new.beliefs ≡ p.old.beliefs }
     ensures number { p.new.number ≡ p.old.number }
+    ensures acting { OnOk result (p.new.agenda.acting ≡ p.old.agenda.acting) }
 {
     match p.agenda.events.remove(0) {
         Some(event) => {
@@ -291,6 +301,7 @@ pub fn rel_pl<B: BeliefBase, A: Actions>(
         IfOk result (Wrought (spec.rel_pl e old event) new sofar.old sofar.new) }
     ensures beliefs { p.new.beliefs ≡ p.old.beliefs }
     ensures number { p.new.number ≤ p.old.number + 1 }
+    ensures acting { OnOk result (p.new.agenda.acting ≡ p.old.agenda.acting) }
 {
     let number = p.number;
     let choices = k.lib.relevant(alloc, &event.trigger, number)?;
@@ -323,6 +334,7 @@ pub fn appl_pl<B: BeliefBase, A: Actions>(
         IfOk result (Wrought (spec.appl_pl e old related) new sofar.old sofar.new) }
     ensures beliefs { p.new.beliefs ≡ p.old.beliefs }
     ensures number { p.new.number ≡ p.old.number }
+    ensures acting { OnOk result (p.new.agenda.acting ≡ p.old.agenda.acting) }
     ensures next { IfOk result (AppliedAtMost (p.old.number + k.now.budgets.tries)) }
 {
     let Related {
@@ -330,22 +342,35 @@ pub fn appl_pl<B: BeliefBase, A: Actions>(
         choices,
         number,
     } = related;
-    match choose(alloc, k, p, number, choices.as_slice())? {
-        Chosen::Plan(means, subst, next) => {
-            rule(sofar, Row::Appl1)?;
-            Ok(Applied::Plan(Intended {
+    let chosen = choose(alloc, k, p, number, choices.as_slice());
+    drop(choices);
+    match chosen {
+        Err(starved) => {
+            drop(event);
+            Err(starved)
+        }
+        Ok(Chosen::Plan(means, subst, next)) => {
+            let intended = Intended {
                 event,
                 means,
                 subst,
                 next,
-            }))
+            };
+            match rule(sofar, Row::Appl1) {
+                Ok(()) => Ok(Applied::Plan(intended)),
+                Err(starved) => {
+                    drop(intended);
+                    Err(starved)
+                }
+            }
         }
-        Chosen::Nothing => {
+        Ok(Chosen::Nothing) => {
             let rows = (Row::Appl2, Row::Appl3);
             drop_or_fail(alloc, k, p, sofar, rows, event, Error::NoApplicable)?;
             Ok(Applied::Nothing)
         }
-        Chosen::Spent(spent) => {
+        Ok(Chosen::Spent(spent)) => {
+            drop(event);
             rule(sofar, Row::ApplSpent)?;
             sofar.lines.push(Line::Spent(spent))?;
             Ok(Applied::Spent)
@@ -364,6 +389,7 @@ pub fn sel_appl<B: BeliefBase>(
         OnOk result (Wrought (spec.sel_appl old intended.now) new sofar.old sofar.new (tt {0})) }
     ensures beliefs { p.new.beliefs ≡ p.old.beliefs }
     ensures number { p.new.number ≡ intended.now.next }
+    ensures acting { OnOk result (p.new.agenda.acting ≡ p.old.agenda.acting) }
 {
     p.number = intended.next;
     rule(sofar, Row::SelAppl)
@@ -380,6 +406,7 @@ pub fn add_im<B: BeliefBase>(
         OnOk result (Wrought (spec.add_im old intended) new sofar.old sofar.new (tt {0})) }
     ensures beliefs { p.new.beliefs ≡ p.old.beliefs }
     ensures number { p.new.number ≡ p.old.number }
+    ensures acting { OnOk result (p.new.agenda.acting ≡ p.old.agenda.acting) }
 {
     let Intended {
         event,
@@ -409,6 +436,7 @@ pub fn sel_int<B: BeliefBase>(p: &mut Parts<B>, sofar: &mut Sofar) -> Result<Opt
         IfOk result (Wrought (spec.sel_int old) new sofar.old sofar.new) }
     ensures beliefs { p.new.beliefs ≡ p.old.beliefs }
     ensures number { p.new.number ≡ p.old.number }
+    ensures acting { OnOk result (p.new.agenda.acting ≡ p.old.agenda.acting) }
 {
     match p.agenda.running.remove(0) {
         Some(stack) => {
@@ -563,6 +591,7 @@ pub fn exec_step<B: BeliefBase, A: Actions>(
 ) -> Result<After, Starved>
     requires room { p.old.number + k.now.budgets.tries < 2 ^ 64 - 1 }
     requires asks { sofar.old.asks < 2 ^ 64 - 1 }
+    requires free { p.old.agenda.acting ≡ None }
     ensures made { let e = around k.now.lib.plans (B.rules p.old.beliefs) (A.solve k.now.actions) k.now.budgets in
         let old = parts (B.beliefs p.old.beliefs) p.old.agenda p.old.number in
         let new = parts (B.beliefs p.new.beliefs) p.new.agenda p.new.number in

@@ -1,6 +1,6 @@
 //! The lines of a trace as text.
 
-ghost use Rattle.std.specs.Prelude.{◌≡◌, ◌++◌, OnOk};
+ghost use Rattle.std.specs.Prelude.{◌≡◌, ◌++◌, OnOk, OnErr};
 ghost use Rattle.asl_term.specs.Exprs.{literal_text};
 ghost use Rattle.asl_cycle.specs.Trace as spec;
 ghost use Rattle.asl_fail.specs.Fails as errors;
@@ -9,9 +9,9 @@ use crate::rows::{Line, Mail};
 use asl_exec::rows::Row;
 use asl_intend::agenda::Error;
 use asl_resolve::answers::Spent;
-use asl_term::printing::{write, write_number};
-use asl_term::printing_expr::write_literal;
-use asl_term::sequence::Starved;
+use asl_term::printing::{print, write_number};
+use asl_term::printing_expr::print_literal;
+use asl_term::sequence::{Seq, Starved};
 use asl_term::syntax::{Literal, Text};
 use mas_mind::mind::{Level, verb_text};
 use std::alloc::Global;
@@ -114,14 +114,14 @@ fn two(out: &mut Text, word: &[u8], text: &[u8]) -> Result<(), Starved>
     out.append(text)
 }
 
-fn write_act(alloc: Global, out: &mut Text, word: &[u8], l: &Literal) -> Result<(), Starved>
+fn write_act(out: &mut Text, word: &[u8], l: &Literal) -> Result<(), Starved>
     ensures { OnOk result (out.new ≡ out.old ++ (word.now ++ literal_text l.now)) }
 {
     out.append(word)?;
-    write_literal(alloc, l, out)
+    print_literal(l, out)
 }
 
-fn write_mail(alloc: Global, out: &mut Text, word: &[u8], m: &Mail) -> Result<(), Starved>
+fn write_mail(out: &mut Text, word: &[u8], m: &Mail) -> Result<(), Starved>
     ensures { OnOk result (out.new ≡ out.old ++ (word.now ++ spec.mail_text m.now)) }
 {
     out.append(word)?;
@@ -129,20 +129,20 @@ fn write_mail(alloc: Global, out: &mut Text, word: &[u8], m: &Mail) -> Result<()
     out.append(b" ")?;
     out.append(verb_text(m.verb).as_bytes())?;
     out.append(b" ")?;
-    write(alloc, &m.content, out)
+    print(&m.content, out)
 }
 
-fn write_line(alloc: Global, out: &mut Text, line: &Line) -> Result<(), Starved>
+fn write_line(out: &mut Text, line: &Line) -> Result<(), Starved>
     ensures { OnOk result (out.new ≡ out.old ++ spec.line_text line.now) }
 {
     match line {
         Line::Rule(row) => two(out, b"rule ", row_name(*row)),
         Line::Say(text) => two(out, b"say ", text.as_slice()),
-        Line::Took(mail) => write_mail(alloc, out, b"took ", mail),
-        Line::Does(l) => write_act(alloc, out, b"does ", l),
-        Line::Done(l) => write_act(alloc, out, b"done ", l),
-        Line::Failed(l) => write_act(alloc, out, b"failed ", l),
-        Line::Sends(mail) => write_mail(alloc, out, b"sends ", mail),
+        Line::Took(mail) => write_mail(out, b"took ", mail),
+        Line::Does(l) => write_act(out, b"does ", l),
+        Line::Done(l) => write_act(out, b"done ", l),
+        Line::Failed(l) => write_act(out, b"failed ", l),
+        Line::Sends(mail) => write_mail(out, b"sends ", mail),
         Line::Drops(error) => two(out, b"drops ", error_name(*error)),
         Line::Spent(spent) => two(out, b"spent ", spent_name(*spent)),
         Line::Stops => out.append(b"stops"),
@@ -191,12 +191,11 @@ fn write_shown(
     }
     write_number(alloc, cycle, out)?;
     out.append(b" ")?;
-    write_line(alloc, out, line)?;
+    write_line(out, line)?;
     out.append(b"\n")
 }
 
-/// Puts those of the lines last that the level shows. After `Starved` a part of them may stand there.
-pub fn write_lines(
+fn write_all(
     alloc: Global,
     out: &mut Text,
     level: Level,
@@ -209,4 +208,20 @@ pub fn write_lines(
         write_shown(alloc, out, level, cycle, line)?;
     }
     Ok(())
+}
+
+/// Puts those of the lines last that the level shows, all of them or none.
+pub fn write_lines(
+    alloc: Global,
+    out: &mut Text,
+    level: Level,
+    cycle: u64,
+    lines: &[Line],
+) -> Result<(), Starved>
+    ensures ok { OnOk result (out.new ≡ out.old ++ spec.shown level cycle lines.now) }
+    ensures err { OnErr result (out.new ≡ out.old) }
+{
+    let mut text = Seq::new(alloc);
+    write_all(alloc, &mut text, level, cycle, lines)?;
+    out.append(text.as_slice())
 }

@@ -104,7 +104,12 @@ fn popped<B: BeliefBase, A: Actions>(
     ensures number { p.new.number ≡ p.old.number }
 {
     match cur.head(alloc) {
-        Ok(head) => done_below(alloc, p, cur, l, &head),
+        Ok(head) => {
+            let went = done_below(alloc, p, cur, l, &head);
+            // A tree given away is cheaper to prove than one that ends in place.
+            drop(head);
+            went
+        }
         Err(TermFault::TermLimit) => { fails_as(alloc, k, p, cur, Row::ClrLimit, Error::TermLimit) }
         Err(TermFault::Memory) => Err(Starved),
     }

@@ -1,6 +1,6 @@
 //! The row for the first formula of the current stack.
 
-ghost use Rattle.std.specs.Prelude.{◌≡◌, ◌+◌, ◌<◌, ◌≤◌, ◌-◌, ◌^◌, [], IfOk, IfErr};
+ghost use Rattle.std.specs.Prelude.{◌≡◌, ◌+◌, ◌<◌, ◌≤◌, ◌-◌, ◌^◌, [], None, IfOk, IfErr};
 ghost use Rattle.std.specs.List.{list_any};
 ghost use Rattle.std.specs.Str.{bytes_eq};
 ghost use Rattle.asl_unify.specs.Comparing as comparing;
@@ -40,6 +40,7 @@ fn act<B: BeliefBase, A: Actions>(
     cur: &mut Stack,
     l: &Literal,
 ) -> Result<Went, Starved>
+    requires { p.old.agenda.acting ≡ None }
     ensures made { IfOk result (λ w. rows.act
         (spec.around k.now.lib.plans (B.rules p.old.beliefs) (A.solve k.now.actions) k.now.budgets)
         (spec.parts (B.beliefs p.old.beliefs) p.old.agenda p.old.number) cur.old l.now
@@ -53,7 +54,7 @@ fn act<B: BeliefBase, A: Actions>(
     let action = copy_literal(alloc, l)?;
     let shown = copy_literal(alloc, l)?;
     let stack = mem::replace(cur, Stack::new(alloc));
-    p.agenda.acting = Some(Acting { stack, action });
+    p.agenda.hold_action(Acting { stack, action });
     Ok(Went::Action(shown))
 }
 
@@ -171,7 +172,10 @@ fn searched<B: BeliefBase, A: Actions>(
     ensures number { p.new.number ≤ p.old.number + k.now.budgets.tries }
 {
     let e = Expr::Inner(copy_call(alloc, c)?);
-    let answer = sought(alloc, k, p, &e)?;
+    let found = sought(alloc, k, p, &e);
+    // A tree given away is cheaper to prove than one that ends in place.
+    drop(e);
+    let answer = found?;
     answered(alloc, k, p, cur, answer)
 }
 
@@ -213,7 +217,8 @@ fn of_formula<B: BeliefBase, A: Actions>(
     cur: &mut Stack,
     f: &Formula,
 ) -> Result<Went, Starved>
-    requires { p.old.number + k.now.budgets.tries < 2 ^ 64 - 1 }
+    requires room { p.old.number + k.now.budgets.tries < 2 ^ 64 - 1 }
+    requires free { p.old.agenda.acting ≡ None }
     ensures made { IfOk result (λ w. rows.of_formula
         (spec.around k.now.lib.plans (B.rules p.old.beliefs) (A.solve k.now.actions) k.now.budgets)
         (spec.parts (B.beliefs p.old.beliefs) p.old.agenda p.old.number) cur.old f.now
@@ -251,7 +256,8 @@ fn of_applied<B: BeliefBase, A: Actions>(
     cur: &mut Stack,
     f: &Formula,
 ) -> Result<Went, Starved>
-    requires { p.old.number + k.now.budgets.tries < 2 ^ 64 - 1 }
+    requires room { p.old.number + k.now.budgets.tries < 2 ^ 64 - 1 }
+    requires free { p.old.agenda.acting ≡ None }
     ensures made { IfOk result (λ w. rows.of_settled
         (spec.around k.now.lib.plans (B.rules p.old.beliefs) (A.solve k.now.actions) k.now.budgets)
         (spec.parts (B.beliefs p.old.beliefs) p.old.agenda p.old.number) cur.old (settling f.now)
@@ -260,7 +266,11 @@ fn of_applied<B: BeliefBase, A: Actions>(
     ensures number { p.new.number ≤ p.old.number + k.now.budgets.tries }
 {
     match settle_formula(alloc, f) {
-        Ok(settled) => of_formula(alloc, k, p, cur, &settled),
+        Ok(settled) => {
+            let went = of_formula(alloc, k, p, cur, &settled);
+            drop(settled);
+            went
+        }
         Err(ArithFault::Arith { .. }) => {
             fails_as(alloc, k, p, cur, Row::ExecArith, Error::Arith)
         }
@@ -268,7 +278,8 @@ fn of_applied<B: BeliefBase, A: Actions>(
     }
 }
 
-/// The row for the first formula of the current stack. A search raises the counter by at most `tries`.
+/// The row for the first formula of the current stack, while no other waits for its action. A search raises the counter by
+/// at most `tries`.
 #[tactic(auto, unfolding(crate::specs::Exec::exec))]
 pub fn exec<B: BeliefBase, A: Actions>(
     alloc: Global,
@@ -276,7 +287,8 @@ pub fn exec<B: BeliefBase, A: Actions>(
     p: &mut Parts<B>,
     cur: &mut Stack,
 ) -> Result<Went, Starved>
-    requires { p.old.number + k.now.budgets.tries < 2 ^ 64 - 1 }
+    requires room { p.old.number + k.now.budgets.tries < 2 ^ 64 - 1 }
+    requires free { p.old.agenda.acting ≡ None }
     ensures made { IfOk result (λ w. rows.exec
         (spec.around k.now.lib.plans (B.rules p.old.beliefs) (A.solve k.now.actions) k.now.budgets)
         (spec.parts (B.beliefs p.old.beliefs) p.old.agenda p.old.number) cur.old
@@ -286,7 +298,11 @@ pub fn exec<B: BeliefBase, A: Actions>(
 {
     match cur.head(alloc) {
         Ok(None) => Ok(Went::Row(Row::Exec0)),
-        Ok(Some(f)) => of_applied(alloc, k, p, cur, &f),
+        Ok(Some(f)) => {
+            let went = of_applied(alloc, k, p, cur, &f);
+            drop(f);
+            went
+        }
         Err(TermFault::TermLimit) => {
             fails_as(alloc, k, p, cur, Row::ExecLimit, Error::TermLimit)
         }

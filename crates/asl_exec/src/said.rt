@@ -3,7 +3,7 @@
 ghost use Rattle.std.specs.Prelude.{◌≡◌, ◌++◌, IfOk, OnOk};
 ghost use Rattle.asl_exec.specs.Said as spec;
 
-use asl_term::printing::write;
+use asl_term::printing::print;
 use asl_term::sequence::{Seq, Starved};
 use asl_term::syntax::{Arg, ArgOf, Term, Text};
 use std::alloc::Global;
@@ -28,20 +28,20 @@ fn unquoted(s: &[u8], out: &mut Text) -> Result<(), Starved>
     Ok(())
 }
 
-fn said(alloc: Global, t: &Term, out: &mut Text) -> Result<(), Starved>
+fn said(t: &Term, out: &mut Text) -> Result<(), Starved>
     ensures { OnOk result (out.new ≡ out.old ++ spec.said t.now) }
 {
     match t {
         Term::Str(s) => unquoted(s.as_slice(), out),
-        _ => write(alloc, t, out),
+        _ => print(t, out),
     }
 }
 
-fn said_arg(alloc: Global, arg: &Arg, out: &mut Text) -> Result<(), Starved>
+fn said_arg(arg: &Arg, out: &mut Text) -> Result<(), Starved>
     ensures { OnOk result (out.new ≡ out.old ++ spec.said_arg arg.now) }
 {
     match arg {
-        ArgOf::Plain(t) => said(alloc, t, out),
+        ArgOf::Plain(t) => said(t, out),
         ArgOf::Logic(_) => Ok(()),
     }
 }
@@ -52,7 +52,7 @@ pub fn print_text(alloc: Global, args: &[Arg]) -> Result<Text, Starved>
 {
     let mut r = Seq::new(alloc);
     for arg in args {
-        said_arg(alloc, arg, &mut r)?;
+        said_arg(arg, &mut r)?;
     }
     Ok(r)
 }

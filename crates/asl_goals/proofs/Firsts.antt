@@ -6,11 +6,10 @@ use Rattle.std.proofs.lemmas.Option.{slice_get_cases}
 use Rattle.std.specs.Option.{option_map}
 use Rattle.asl_term.specs.declared.syntax.LiteralOf.{LiteralOf}
 use Rattle.asl_term.specs.declared.syntax.Term.{Term}
-use Rattle.asl_term.specs.declared.syntax.Trigger.{Trigger}
 use Rattle.asl_unify.specs.declared.subst.Pair.{Pair}
 use Rattle.asl_intend.specs.declared.entry.Means.{Means}
-use Rattle.asl_intend.specs.Stacks.{trigger_at}
-use Rattle.asl_goals.specs.Goals.{or_else, first_of, goal_match, stack_match}
+use Rattle.asl_intend.specs.Stacks.{trigger_at, match_at, goal_match}
+use Rattle.asl_goals.specs.Goals.{or_else, first_of, stack_match}
 
 module _ {A B : Type 0} (f : A → Option B) where
   next : (xs : List A) (k : ℕ) (d x : A) → k < length xs → x ≡ get_or xs k d
@@ -33,39 +32,30 @@ module _ {A B : Type 0} (f : A → Option B) where
   pub absent : (xs : List A) (k : ℕ) → length xs ≤ k → first_of f (drop k xs) ≡ first_of f xs → None ≡ first_of f xs
   absent xs k h i = sym (at_drop_all (first_of f) xs k h) ∙ i
 
--- the means at a place of a stack
-
-abbrev pub Placed : List Means → ℕ → Trigger → Type 0
-Placed stack k t = (m : Means) × (k < length stack) × (m ≡ get_or stack k m) × (t ≡ m.trigger)
-
-placed : (stack : List Means) (k : ℕ) (t : Trigger) → Some t ≡ trigger_at stack k → Placed stack k t
-placed stack k t h = go (slice_get_cases stack k).1 where
-  go : ((m : Means) × (k < length stack) × (slice_get stack k ≡ Some m) × (get_or stack k m ≡ m)) ⊎ ((length stack ≤ k) × (slice_get stack k ≡ None))
-      → Placed stack k t
-  go (inl (m, l, at, e)) =
-      let same : Some t ≡ Some m.trigger = h ∙ ap (option_map (λ n. n.trigger)) at in
-      (m, l, sym e, cc)
-  go (inr (l, at)) =
-      let same : Some t ≡ None = h ∙ ap (option_map (λ n. n.trigger)) at in cc
-
 -- a stack, from its top
 
-pub none_placed : (stack : List Means) (k : ℕ) → None ≡ trigger_at stack k → k < length stack → ⊥
-none_placed stack k h l = go (slice_get_cases stack k).1 where
+-- the means at a place
+abbrev Placed : LiteralOf Term → List Means → ℕ → Option (List Pair) → Type 0
+Placed g stack k found = (m : Means) × (m ≡ get_or stack k m) × (found ≡ goal_match g m.trigger)
+
+placed : (g : LiteralOf Term) (stack : List Means) (k : ℕ) (found : Option (List Pair)) → k < length stack → found ≡ match_at g (trigger_at stack k)
+    → Placed g stack k found
+placed g stack k found l h = go (slice_get_cases stack k).1 where
   go : ((m : Means) × (k < length stack) × (slice_get stack k ≡ Some m) × (get_or stack k m ≡ m)) ⊎ ((length stack ≤ k) × (slice_get stack k ≡ None))
-      → ⊥
-  go (inl (m, l, at, e)) = let same : None ≡ Some m.trigger = h ∙ ap (option_map (λ n. n.trigger)) at in cc
-  go (inr (m, at)) = omega arith
+      → Placed g stack k found
+  go (inl (m, l, at, e)) = (m, sym e, h ∙ ap (λ o. match_at g (option_map (λ n. n.trigger) o)) at)
+  go (inr (m, at)) = absurd (omega (arith, l, m))
 
-pub stack_passed : (g : LiteralOf Term) (stack : List Means) (k : ℕ) (t : Trigger) (found : Option (List Pair)) → Some t ≡ trigger_at stack k
-    → found ≡ goal_match g t → is_some found ≡ false → stack_match g (drop k stack) ≡ stack_match g stack
+pub stack_passed : (g : LiteralOf Term) (stack : List Means) (k : ℕ) (found : Option (List Pair)) → k < length stack
+    → found ≡ match_at g (trigger_at stack k) → is_some found ≡ false → stack_match g (drop k stack) ≡ stack_match g stack
     → stack_match g (drop (k + 1) stack) ≡ stack_match g stack
-stack_passed g stack k t found h r none i =
-    let (m, l, e, same) = placed stack k t h in
-    passed (λ n. goal_match g n.trigger) stack k m m found l e (r ∙ ap (goal_match g) same) none i
+stack_passed g stack k found l h none i =
+    let (m, e, r) = placed g stack k found l h in
+    passed (λ n. goal_match g n.trigger) stack k m m found l e r none i
 
-pub stack_here : (g : LiteralOf Term) (stack : List Means) (k : ℕ) (t : Trigger) (found : Option (List Pair)) → Some t ≡ trigger_at stack k
-    → found ≡ goal_match g t → is_some found ≡ true → stack_match g (drop k stack) ≡ stack_match g stack → found ≡ stack_match g stack
-stack_here g stack k t found h r some i =
-    let (m, l, e, same) = placed stack k t h in
-    here (λ n. goal_match g n.trigger) stack k m m found l e (r ∙ ap (goal_match g) same) some i
+pub stack_here : (g : LiteralOf Term) (stack : List Means) (k : ℕ) (found : Option (List Pair)) → k < length stack
+    → found ≡ match_at g (trigger_at stack k) → is_some found ≡ true → stack_match g (drop k stack) ≡ stack_match g stack
+    → found ≡ stack_match g stack
+stack_here g stack k found l h some i =
+    let (m, e, r) = placed g stack k found l h in
+    here (λ n. goal_match g n.trigger) stack k m m found l e r some i

@@ -4,14 +4,12 @@ use Rattle.asl_term.specs.declared.syntax.LiteralOf.{LiteralOf}
 use Rattle.asl_term.specs.declared.syntax.Term.{Term}
 use Rattle.asl_term.specs.declared.syntax.Trigger.{Trigger}
 use Rattle.asl_unify.specs.declared.subst.Pair.{Pair}
-use Rattle.asl_unify.specs.Matches.{matches}
 use Rattle.asl_intend.specs.declared.entry.Means.{Means}
 use Rattle.asl_intend.specs.declared.agenda.Event.{Event}
 use Rattle.asl_intend.specs.declared.agenda.Ask.{Ask}
 use Rattle.asl_intend.specs.declared.agenda.Agenda.{Agenda}
 use Rattle.asl_intend.specs.declared.agenda.Error.TheVariants as error
-use Rattle.asl_intend.specs.Entries.{is_achieve}
-use Rattle.asl_intend.specs.Stacks.{names_goal}
+use Rattle.asl_intend.specs.Stacks.{names_goal, goal_match}
 use Rattle.asl_exec.specs.declared.rows.Row.TheVariants as row
 use Rattle.asl_exec.specs.declared.rows.Fall.{Fall}
 use Rattle.asl_exec.specs.declared.went.Went.{Went}
@@ -33,11 +31,7 @@ first_of f (x ∷ xs) = or_else (f x) (first_of f xs)
 
 -- ---- `.intend` and `.desire`: the first match
 
--- the first match of g with h, where the trigger is +!h
-abbrev pub goal_match : LiteralOf Term → Trigger → Option (List Pair)
-goal_match g t = cond (t.add && is_achieve t.kind) (slice_get (matches g t.lit []) 0) None
-
--- that of a stack, from its top
+-- the first match with a goal of a stack, from its top
 abbrev pub stack_match : LiteralOf Term → List Means → Option (List Pair)
 stack_match g = first_of (λ m. goal_match g m.trigger)
 

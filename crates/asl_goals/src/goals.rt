@@ -16,6 +16,7 @@ use asl_resolve::actions::Actions;
 use asl_term::sequence::{Seq, Starved};
 use asl_term::syntax::Literal;
 use std::alloc::Global;
+use std::mem;
 
 /// `.drop_intention`. The current stack goes too where it has the goal.
 pub fn drop_intention<B: BeliefBase, A: Actions>(
@@ -37,7 +38,7 @@ pub fn drop_intention<B: BeliefBase, A: Actions>(
     let here = cur.has_goal(alloc, g)?;
     p.agenda.drop_intention(alloc, g)?;
     if here {
-        *cur = Stack::new(alloc);
+        drop(mem::replace(cur, Stack::new(alloc)));
         return Ok(Acted::Gone(Seq::new(alloc)));
     }
     cur.remove_head();
@@ -64,7 +65,7 @@ pub fn drop_desire<B: BeliefBase, A: Actions>(
     let here = cur.has_goal(alloc, g)?;
     p.agenda.drop_desire(alloc, g)?;
     if here {
-        *cur = Stack::new(alloc);
+        drop(mem::replace(cur, Stack::new(alloc)));
         return Ok(Acted::Gone(Seq::new(alloc)));
     }
     cur.remove_head();
@@ -92,7 +93,9 @@ pub fn looked_up<B: BeliefBase, A: Actions>(
     match first_goal(alloc, desired, g, &p.agenda, cur)? {
         None => Ok(Acted::Failed(Why::NoMatch)),
         Some(s) => {
-            cur.bind(&s)?;
+            let bound = cur.bind(&s);
+            drop(s);
+            bound?;
             cur.remove_head();
             Ok(Acted::Ok(Seq::new(alloc)))
         }

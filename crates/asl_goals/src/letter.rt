@@ -155,11 +155,15 @@ fn fits(alloc: Global, verb: Verb, t: &Term) -> Result<bool, Starved>
     match verb {
         Verb::Tell => {
             let literals = ground_literals(alloc, t)?;
-            Ok(literals.is_some())
+            let is_ground = literals.is_some();
+            drop(literals);
+            Ok(is_ground)
         }
         Verb::Untell => {
             let literals = literals_of(alloc, t)?;
-            Ok(literals.is_some())
+            let has_literals = literals.is_some();
+            drop(literals);
+            Ok(has_literals)
         }
         Verb::Achieve | Verb::Unachieve | Verb::AskOne | Verb::AskAll => {
             Ok(literal_of(t).is_some())
@@ -172,11 +176,16 @@ fn content_of(alloc: Global, verb: Verb, n: u64, t: &Term) -> Result<Result<Term
     ensures { IfOk result (λ r. r ≡ spec.content_of verb n (Some t.now)) }
 {
     let content = seal(alloc, t)?;
-    let good = fits(alloc, verb, &content)?;
-    if good {
-        Ok(Ok(content))
-    } else {
-        Ok(Err(Why::Argument(n)))
+    match fits(alloc, verb, &content) {
+        Ok(true) => Ok(Ok(content)),
+        Ok(false) => {
+            drop(content);
+            Ok(Err(Why::Argument(n)))
+        }
+        Err(starved) => {
+            drop(content);
+            Err(starved)
+        }
     }
 }
 
@@ -268,8 +277,9 @@ fn spread_verb(
     match content_at(alloc, verb, args, 1)? {
         Err(why) => Ok(Err(why)),
         Ok(content) => {
-            let messages = to_others(alloc, peers, verb, &content)?;
-            Ok(Ok(messages))
+            let messages = to_others(alloc, peers, verb, &content);
+            drop(content);
+            Ok(Ok(messages?))
         }
     }
 }

@@ -1,40 +1,25 @@
 //! The first goal that a literal names, for `.intend` and `.desire`.
 
 ghost use Rattle.std.specs.Prelude.{◌≡◌, cond, None, IfOk};
+ghost use Rattle.asl_intend.specs.Stacks as stacks;
 ghost use Rattle.asl_goals.specs.Goals as spec;
 
 use asl_intend::agenda::{Agenda, Ask, Event};
+use asl_intend::goal::goal_match;
 use asl_intend::stack::Stack;
 use asl_term::sequence::Starved;
-use asl_term::syntax::{Kind, Literal, Trigger};
-use asl_unify::matching::first_match;
-use asl_unify::subst::{Subst, no_subst};
+use asl_term::syntax::Literal;
+use asl_unify::subst::Subst;
 use std::alloc::Global;
-
-/// The first match with the goal that a trigger `+!h` is about.
-fn goal_match(alloc: Global, g: &Literal, t: &Trigger) -> Result<Option<Subst>, Starved>
-    ensures { IfOk result (λ r. r ≡ spec.goal_match g.now t.now) }
-{
-    if !t.add {
-        return Ok(None);
-    }
-    match t.kind {
-        Kind::Belief => Ok(None),
-        Kind::Test => Ok(None),
-        Kind::Achieve => first_match(alloc, g, &t.lit, &no_subst(alloc)),
-    }
-}
 
 /// The first match with a goal of a stack, from its top.
 fn stack_match(alloc: Global, g: &Literal, stack: &Stack) -> Result<Option<Subst>, Starved>
     ensures { IfOk result (λ r. r ≡ spec.stack_match g.now stack.now) }
 {
     for k in 0..stack.len() {
-        if let Some(t) = stack.trigger(alloc, k)? {
-            let found = goal_match(alloc, g, &t)?;
-            if found.is_some() {
-                return Ok(found);
-            }
+        let found = stack.goal_match(alloc, k, g)?;
+        if found.is_some() {
+            return Ok(found);
         }
     }
     Ok(None)
@@ -55,7 +40,7 @@ fn running_match(alloc: Global, g: &Literal, stacks: &[Stack]) -> Result<Option<
 
 /// The match with the goal that an event is about.
 fn own_match(alloc: Global, desired: bool, g: &Literal, e: &Event) -> Result<Option<Subst>, Starved>
-    ensures { IfOk result (λ r. r ≡ cond desired (spec.goal_match g.now e.now.trigger) None) }
+    ensures { IfOk result (λ r. r ≡ cond desired (stacks.goal_match g.now e.now.trigger) None) }
 {
     if desired {
         goal_match(alloc, g, &e.trigger)

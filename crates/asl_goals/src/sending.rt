@@ -84,16 +84,29 @@ fn asked<B: BeliefBase, A: Actions>(
     ensures asks { asks.new ≤ asks.old + 1 }
 {
     let number = *asks;
-    let answer = copy(alloc, answer)?;
+    let answer = match copy(alloc, answer) {
+        Ok(answer) => answer,
+        Err(starved) => {
+            drop(l);
+            return Err(starved);
+        }
+    };
     let stack = mem::replace(cur, Stack::new(alloc));
     let ask = Ask {
         number,
         answer,
         stack,
     };
-    p.agenda.hold_ask(ask)?;
-    *asks = number + 1;
-    Ok(Acted::Asked(posted(me, number, l)))
+    match p.agenda.hold_ask(ask) {
+        Ok(()) => {
+            *asks = number + 1;
+            Ok(Acted::Asked(posted(me, number, l)))
+        }
+        Err(starved) => {
+            drop(l);
+            Err(starved)
+        }
+    }
 }
 
 /// A letter is sent, with the term that takes the answer as the fourth argument where one is asked for.
@@ -122,9 +135,13 @@ fn sent_letter<B: BeliefBase, A: Actions>(
             if is_ask(l.verb) {
                 return asked(alloc, k, p, asks, cur, me, l, answer);
             }
+            drop(l);
             Ok(Acted::Failed(Why::Argument(3)))
         }
-        Some(ArgOf::Logic(_)) => Ok(Acted::Failed(Why::Argument(3))),
+        Some(ArgOf::Logic(_)) => {
+            drop(l);
+            Ok(Acted::Failed(Why::Argument(3)))
+        }
     }
 }
 

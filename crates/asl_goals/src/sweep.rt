@@ -1,8 +1,6 @@
 //! `.succeed_goal` and `.fail_goal`: one fold over the stacks.
 
 ghost use Rattle.std.specs.Prelude.{◌≡◌, ◌++◌, Some, None, if◌then◌else◌, false, drop, IfOk, OnOk};
-ghost use Rattle.asl_intend.specs.Agendas as agendas;
-ghost use Rattle.asl_intend.specs.Stacks as stacks;
 ghost use Rattle.asl_exec.specs.Parts as parts;
 ghost use Rattle.asl_goals.specs.Goals as goals;
 
@@ -12,7 +10,6 @@ use asl_exec::parts::{Around, Parts, fails_as};
 use asl_exec::rows::Row;
 use asl_exec::went::Went;
 use asl_intend::agenda::{Ask, Asks, Error, Event, Events, Stacks};
-use asl_intend::goal::names_goal;
 use asl_intend::stack::Stack;
 use asl_kqml::took::Falls;
 use asl_resolve::actions::Actions;
@@ -28,16 +25,6 @@ pub enum Way {
     Fail,
 }
 
-/// Whether the literal names the goal of the means at a place, that of the top being 0.
-fn named_at(alloc: Global, stack: &Stack, k: u64, g: &Literal) -> Result<bool, Starved>
-    ensures { IfOk result (λ r. r ≡ agendas.passes_at (stacks.names_goal g.now) (stacks.trigger_at stack.now k)) }
-{
-    match stack.trigger(alloc, k)? {
-        None => Ok(false),
-        Some(t) => names_goal(alloc, g, &t),
-    }
-}
-
 /// Takes away so many means from the top.
 fn pop_all(stack: &mut Stack, n: u64)
     ensures { stack.new ≡ drop n stack.old }
@@ -48,7 +35,7 @@ fn pop_all(stack: &mut Stack, n: u64)
 }
 
 /// Pops what stands above the lowest means whose goal the literal names. False where there is none, and then nothing
-/// is popped. The triggers are built one by one from below, until one is named, as by `Stack::trigger`.
+/// is popped.
 pub fn cut_to_goal(alloc: Global, stack: &mut Stack, g: &Literal) -> Result<bool, Starved>
     ensures has { IfOk result (λ has. goals.from_lowest g.now stack.old ≡ (if has then Some stack.new else None)) }
     ensures none { IfOk result (λ has. has ≡ false → stack.new ≡ stack.old) }
@@ -56,7 +43,7 @@ pub fn cut_to_goal(alloc: Global, stack: &mut Stack, g: &Literal) -> Result<bool
     let all = stack.len();
     for tested in 0..all {
         let above = all - 1 - tested;
-        let named = named_at(alloc, stack, above, g)?;
+        let named = stack.is_named(alloc, above, g)?;
         if named {
             pop_all(stack, above);
             return Ok(true);
@@ -123,6 +110,7 @@ fn put_left(list: &mut Stacks, stack: Stack) -> Result<(), Starved>
     ensures { OnOk result (list.new ≡ list.old ++ goals.what_is_left stack) }
 {
     if stack.len() == 0 {
+        drop(stack);
         return Ok(());
     }
     list.push(stack)
@@ -146,8 +134,41 @@ fn treat_to_back<B: BeliefBase, A: Actions>(
     ensures number { p.new.number ≡ p.old.number }
 {
     let mut stack = cut;
-    treat(alloc, k, p, way, &mut stack, falls)?;
-    put_left(&mut p.agenda.running, stack)
+    match treat(alloc, k, p, way, &mut stack, falls) {
+        Ok(()) => put_left(&mut p.agenda.running, stack),
+        Err(starved) => {
+            drop(stack);
+            Err(starved)
+        }
+    }
+}
+
+/// Treats a stack with the goal, and puts what is left of it last in a list.
+fn treat_in_place<B: BeliefBase, A: Actions>(
+    alloc: Global,
+    k: &Around<A>,
+    p: &mut Parts<B>,
+    way: Way,
+    cut: Stack,
+    left: &mut Stacks,
+    falls: &mut Falls,
+) -> Result<(), Starved>
+    ensures made { let x = goals.treated
+        (parts.around k.now.lib.plans (B.rules p.old.beliefs) (A.solve k.now.actions) k.now.budgets) way
+        (parts.parts (B.beliefs p.old.beliefs) p.old.agenda p.old.number) cut in
+        OnOk result ((parts.parts (B.beliefs p.new.beliefs) p.new.agenda p.new.number ≡ x.parts)
+        × (left.new ≡ left.old ++ goals.what_is_left x.cur) × (falls.new ≡ falls.old ++ goals.falls_of x.went)) }
+    ensures beliefs { p.new.beliefs ≡ p.old.beliefs }
+    ensures number { p.new.number ≡ p.old.number }
+{
+    let mut stack = cut;
+    match treat(alloc, k, p, way, &mut stack, falls) {
+        Ok(()) => put_left(left, stack),
+        Err(starved) => {
+            drop(stack);
+            Err(starved)
+        }
+    }
 }
 
 /// One of the stacks that run: what is left of it keeps its place.
@@ -170,12 +191,14 @@ fn sweep_stack<B: BeliefBase, A: Actions>(
     ensures number { p.new.number ≡ p.old.number }
 {
     let mut stack = stack;
-    let has = cut_to_goal(alloc, &mut stack, g)?;
-    if !has {
-        return left.push(stack);
+    match cut_to_goal(alloc, &mut stack, g) {
+        Ok(true) => treat_in_place(alloc, k, p, way, stack, left, falls),
+        Ok(false) => left.push(stack),
+        Err(starved) => {
+            drop(stack);
+            Err(starved)
+        }
     }
-    treat(alloc, k, p, way, &mut stack, falls)?;
-    put_left(left, stack)
 }
 
 /// One of the events: it stays, or what is left of its stack goes to the back of those that run.
@@ -203,15 +226,22 @@ fn sweep_event<B: BeliefBase, A: Actions>(
         error,
     } = e;
     let mut stack = stack;
-    let has = cut_to_goal(alloc, &mut stack, g)?;
-    if has {
-        return treat_to_back(alloc, k, p, way, stack, falls);
+    match cut_to_goal(alloc, &mut stack, g) {
+        Ok(true) => {
+            drop(trigger);
+            treat_to_back(alloc, k, p, way, stack, falls)
+        }
+        Ok(false) => left.push(Event {
+            trigger,
+            stack,
+            error,
+        }),
+        Err(starved) => {
+            drop(trigger);
+            drop(stack);
+            Err(starved)
+        }
     }
-    left.push(Event {
-        trigger,
-        stack,
-        error,
-    })
 }
 
 /// One of the asks, in the same way.
@@ -239,15 +269,22 @@ fn sweep_ask<B: BeliefBase, A: Actions>(
         stack,
     } = a;
     let mut stack = stack;
-    let has = cut_to_goal(alloc, &mut stack, g)?;
-    if has {
-        return treat_to_back(alloc, k, p, way, stack, falls);
+    match cut_to_goal(alloc, &mut stack, g) {
+        Ok(true) => {
+            drop(answer);
+            treat_to_back(alloc, k, p, way, stack, falls)
+        }
+        Ok(false) => left.push(Ask {
+            number,
+            answer,
+            stack,
+        }),
+        Err(starved) => {
+            drop(answer);
+            drop(stack);
+            Err(starved)
+        }
     }
-    left.push(Ask {
-        number,
-        answer,
-        stack,
-    })
 }
 
 /// The stacks that run.

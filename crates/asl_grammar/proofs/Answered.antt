@@ -115,7 +115,7 @@ unfolding pieces
 none_empty [] = no_piece
 none_empty (t ∷ ts) = cut_some (is_end (words.word t)) t (pieces is_end ts) (none_empty ts)
 
-answers : (ts : List Tok) → Answers 1 (pieces is_end ts) (answer_by 1 (pieces is_end ts))
+pub answers : (ts : List Tok) → Answers 1 (pieces is_end ts) (answer_by 1 (pieces is_end ts))
 answers ts = answer_is 1 (pieces is_end ts) (none_empty ts)
 
 pub ok_is : {X Y : Type 0} {x y : X} → ◌≡◌ {A = Result X Y} (Ok x) (Ok y) → x ≡ y
@@ -139,7 +139,7 @@ are_said bytes ts said l e = record { tokens = ts; lexed = l; read = told_ok ts 
 pub is_refused : (bytes : List ℕ) (ts : List Tok) (fault : TextFault) → AreTokens bytes ts → behind [] (answer_by 1 (pieces is_end ts)) ≡ Err fault → IsRefused bytes fault
 is_refused bytes ts fault l e = record { tokens = ts; lexed = l; refused = told_err ts (answer_by 1 (pieces is_end ts)) (answers ts) fault e }
 
-never_lex : {k : ℕ} {ps : List (List Tok)} {fault : LexFault} → Answers k ps (Err (Lex fault)) → ⊥
+pub never_lex : {k : ℕ} {ps : List (List Tok)} {fault : LexFault} → Answers k ps (Err (Lex fault)) → ⊥
 never_lex (is_later h r e a) = never_lex a
 
 pub is_none_of : (bytes : List ℕ) (ts : List Tok) (r : Result (List Sentence) TextFault) → AreTokens bytes ts → Told r (behind [] (answer_by 1 (pieces is_end ts))) → IfErr r (IsNone bytes)

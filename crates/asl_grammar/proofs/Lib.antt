@@ -7,5 +7,6 @@ pub mod Answered
 pub mod Once
 pub mod Body
 pub mod Single
+pub mod Total
 pub mod Together
 pub mod Ground

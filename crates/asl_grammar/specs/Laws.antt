@@ -18,6 +18,10 @@ OneSentence = (m n : ℕ) (xs : List Lexeme) (r s : Sentence) → too_deep 250 0
 abbrev pub OneAnswer : Type 0
 OneAnswer = (bytes : List ℕ) (r s : Result (List Sentence) TextFault) → IsAnswer bytes r → IsAnswer bytes s → r ≡ s
 
+-- and they have one
+abbrev pub SomeAnswer : Type 0
+SomeAnswer = (bytes : List ℕ) → (r : Result (List Sentence) TextFault) × IsAnswer bytes r
+
 -- bytes are the source of one agent at most
 abbrev pub OneAgent : Type 0
 OneAgent = (bytes : List ℕ) (a b : AgentText) → IsAgent bytes a → IsAgent bytes b → a ≡ b

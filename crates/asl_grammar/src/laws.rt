@@ -1,6 +1,6 @@
 //! What is true of the grammar of clauses.
 
-ghost use Rattle.asl_grammar.specs.Laws.{OneSentence, OneAnswer, OneAgent, GroundBeliefs};
+ghost use Rattle.asl_grammar.specs.Laws.{OneSentence, OneAnswer, SomeAnswer, OneAgent, GroundBeliefs};
 
 /// A clause says one thing at most.
 #[tactic(auto, using(crate::proofs::Answered::one_sentence))]
@@ -8,10 +8,12 @@ pub fn one_sentence()
     ensures { OneSentence }
 {}
 
-/// A source has one answer: what its clauses say, or one fault, and not both. So it is the source of one agent at most.
-#[tactic(auto, using(crate::proofs::Single::one_answer))]
+/// Each list of bytes has one answer: what its clauses say, or one fault, and not both. So it is the source of one
+/// agent at most.
+#[tactic(auto, using(crate::proofs::Single::one_answer, crate::proofs::Total::some_answer))]
 pub fn one_answer()
     ensures answer { OneAnswer }
+    ensures some { SomeAnswer }
     ensures agent { OneAgent }
 {}
 

@@ -3,7 +3,7 @@ use Rattle.std.proofs.Common.{◌≡◌, ◌≤◌, ◌<◌, ℕ, ◌+◌, ◌-�
 use Rattle.std.proofs.Common.{List, [], ◌∷◌, ◌++◌, map, drop, length, Option, Some, None, is_some, slice_get, refl, sym, ap, ◌∙◌, arith}
 use Rattle.std.proofs.Math.Seq.{drop-length}
 use Rattle.std.proofs.lemmas.Bool.{false≢true}
-use Rattle.std.proofs.lemmas.List.{at_drop_more, length-map, drop-append-le, length-append, reverse-append}
+use Rattle.std.proofs.lemmas.List.{append-nil, at_drop_more, length-map, drop-append-le, length-append, reverse-append}
 use Rattle.std.specs.List.{AllByRecursion}
 use Rattle.std.specs.Option.{option_map}
 use Rattle.std.proofs.lemmas.Option.{slice_get-map}
@@ -18,7 +18,7 @@ use Rattle.std.specs.Str.{bytes_eq}
 use Rattle.asl_term.specs.declared.syntax.Kind.{Kind}
 use Rattle.asl_term.specs.declared.syntax.Kind.TheVariants as kind
 use Rattle.asl_unify.specs.Compare.{same_sign, same_frame, asks}
-use Rattle.asl_unify.specs.Matches.{on_unified, annots}
+use Rattle.asl_unify.specs.Matches.{on_unified, annots, matches}
 use Rattle.asl_unify.specs.Unified.{unified}
 use Rattle.asl_unify.specs.Puts.{put, value_of}
 use Rattle.asl_unify.specs.Applied.{put_literal, put_formula, put_trigger}
@@ -284,6 +284,52 @@ goal_missed g l h true kind.Achieve e =
 pub not_named : (log : List (List Pair)) (e : Entry) (g : LiteralOf Term) → entry.can_name g e.trigger ≡ false
     → stacks.names_goal g (seen log e).trigger ≡ false
 not_named log e g h = goal_missed g e.trigger.lit (value_in e.own (drop e.since log)) e.trigger.add e.trigger.kind h
+
+match_missed : (g l : LiteralOf Term) (h : Var → Term) (add : Bool) (k : Kind) → (add && entry.is_achieve k && same_frame g l) ≡ false
+    → cond (add && entry.is_achieve k) (slice_get (matches g (put_literal h l) []) 0) None ≡ None
+match_missed g l h false k e = refl
+match_missed g l h true kind.Belief e = refl
+match_missed g l h true kind.Test e = refl
+match_missed g l h true kind.Achieve e =
+    ap (λ b. slice_get (cond b (on_unified (annots g.annots (map (put h) l.annots)) (unified [] (asks g.args (map (put h) l.args) []))) []) 0)
+    (frame_put g l h ∙ e)
+
+-- what may be named is named where the literals match
+pub named_by_match : (log : List (List Pair)) (e : Entry) (g : LiteralOf Term) → entry.can_name g e.trigger ≡ true
+    → stacks.matched_at g [] (Some (seen log e).trigger) ≡ stacks.names_goal g (seen log e).trigger
+named_by_match log e g h =
+    let l = put_literal (value_in e.own (drop e.since log)) e.trigger.lit in
+    ap (λ a. stacks.any_match (matches g (record l { annots = a }) [])) (append-nil l.annots) ∙ go e.trigger.add e.trigger.kind l h
+  where
+    go : (add : Bool) (k : Kind) (l : LiteralOf Term) → (add && entry.is_achieve k && same_frame g e.trigger.lit) ≡ true
+        → stacks.any_match (matches g l []) ≡ stacks.is_goal g add k l
+    go true kind.Achieve l h = refl
+    go true kind.Belief l h = cc
+    go true kind.Test l h = cc
+    go false k l h = cc
+
+-- no match is found where there is none
+none_first : (ms : List (List Pair)) → stacks.any_match ms ≡ false → slice_get ms 0 ≡ None
+none_first [] e = refl
+none_first (m ∷ ms) e = cc
+
+pub none_matched : (log : List (List Pair)) (e : Entry) (g : LiteralOf Term) → stacks.matched_at g [] (Some (seen log e).trigger) ≡ false
+    → stacks.goal_match g (seen log e).trigger ≡ None
+none_matched log e g h = go (e.trigger.add && entry.is_achieve e.trigger.kind) where
+  l : LiteralOf Term
+  l = put_literal (value_in e.own (drop e.since log)) e.trigger.lit
+
+  none : stacks.any_match (matches g l []) ≡ false
+  none = ap (λ a. stacks.any_match (matches g (record l { annots = a }) [])) (sym (append-nil l.annots)) ∙ h
+
+  go : (b : Bool) → cond b (slice_get (matches g l []) 0) None ≡ None
+  go true = none_first (matches g l []) none
+  go false = refl
+
+-- and no match is found
+pub not_matched : (log : List (List Pair)) (e : Entry) (g : LiteralOf Term) → entry.can_name g e.trigger ≡ false
+    → stacks.goal_match g (seen log e).trigger ≡ None
+not_matched log e g h = match_missed g e.trigger.lit (value_in e.own (drop e.since log)) e.trigger.add e.trigger.kind h
 
 module _ (g : LiteralOf Term) where
   has_joined : (xs ys : List Means) → stacks.has_goal g (xs ++ ys) ≡ (stacks.has_goal g xs || stacks.has_goal g ys)

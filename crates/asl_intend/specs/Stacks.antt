@@ -1,5 +1,5 @@
 -- Stacks as lists of means, the top first.
-use Rattle.std.specs.Prelude.{◌≡◌, ◌≤◌, ℕ, Bool, true, false, ◌||◌, List, [], ◌∷◌, map, drop, slice_get, Option, None, Some, is_some}
+use Rattle.std.specs.Prelude.{◌≡◌, ◌≤◌, ℕ, Bool, true, false, ◌&&◌, ◌||◌, cond, List, [], ◌∷◌, ◌++◌, map, drop, slice_get, Option, None, Some, is_some}
 use Rattle.std.specs.Option.{option_map}
 use Rattle.asl_term.specs.Trees.{size, depth}
 use Rattle.asl_term.specs.declared.syntax.LiteralOf.{LiteralOf}
@@ -9,11 +9,13 @@ use Rattle.asl_term.specs.declared.syntax.Formula.{Formula}
 use Rattle.asl_term.specs.declared.syntax.Kind.{Kind}
 use Rattle.asl_term.specs.declared.syntax.Kind.TheVariants as kind
 use Rattle.asl_term.specs.declared.syntax.Trigger.{Trigger}
+use Rattle.asl_term.specs.declared.syntax.Var.{Var}
 use Rattle.asl_unify.specs.declared.subst.Pair.{Pair}
-use Rattle.asl_unify.specs.Applied.{merged_formula, within_literal, within_formula}
+use Rattle.asl_unify.specs.Applied.{merged_formula, put_trigger, within_literal, within_formula}
 use Rattle.asl_unify.specs.Matches.{matches}
 use Rattle.asl_intend.specs.declared.entry.Means.{Means}
 use Rattle.asl_intend.specs.Means.{applied_means}
+use Rattle.asl_intend.specs.Entries.{is_achieve}
 
 -- a substitution put into all means
 abbrev pub bound : List Pair → List Means → List Means
@@ -63,6 +65,10 @@ has_means (m ∷ below) = true
 abbrev pub trigger_at : List Means → ℕ → Option Trigger
 trigger_at stack k = option_map (λ m. m.trigger) (slice_get stack k)
 
+-- the trigger at a place is this one, with terms put in place of variables
+abbrev pub ComesFrom : Trigger → Option Trigger → Type 0
+ComesFrom pushed t = (h : Var → Term) × (t ≡ Some (put_trigger h pushed))
+
 -- whether what is there stays within the limits
 
 abbrev pub is_bounded : Option Formula → Bool
@@ -89,6 +95,10 @@ BoundedAt t = is_bounded_at t ≡ true
 abbrev pub IsBuildable : Trigger → Type 0
 IsBuildable t = (size (term.Lit t.lit) ≤ 1000000) × (depth (term.Lit t.lit) ≤ 1000)
 
+-- a literal with more annotations behind its own
+abbrev pub with_annots : List Term → LiteralOf Term → LiteralOf Term
+with_annots more l = record { neg = l.neg; functor = l.functor; args = l.args; annots = l.annots ++ more }
+
 abbrev pub any_match : List (List Pair) → Bool
 any_match [] = false
 any_match (s ∷ more) = true
@@ -107,3 +117,22 @@ names_goal g t = is_goal g t.add t.kind t.lit
 abbrev pub has_goal : LiteralOf Term → List Means → Bool
 has_goal g [] = false
 has_goal g (m ∷ below) = names_goal g m.trigger || has_goal g below
+
+-- whether it names that of the means at a place
+abbrev pub names_at : LiteralOf Term → Option Trigger → Bool
+names_at g None = false
+names_at g (Some t) = names_goal g t
+
+-- the first match of g with h, where the trigger is +!h
+abbrev pub goal_match : LiteralOf Term → Trigger → Option (List Pair)
+goal_match g t = cond (t.add && is_achieve t.kind) (slice_get (matches g t.lit []) 0) None
+
+-- that of the means at a place
+abbrev pub match_at : LiteralOf Term → Option Trigger → Option (List Pair)
+match_at g None = None
+match_at g (Some t) = goal_match g t
+
+-- whether a literal matches that of the means at a place, with more annotations behind its own
+abbrev pub matched_at : LiteralOf Term → List Term → Option Trigger → Bool
+matched_at g more None = false
+matched_at g more (Some t) = any_match (matches g (with_annots more t.lit) [])

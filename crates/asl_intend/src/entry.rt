@@ -1,18 +1,21 @@
 //! Means with the substitutions that are still to be put into them.
 
-ghost use Rattle.std.specs.Prelude.{◌≡◌, IfOk, IfErr, drop};
+ghost use Rattle.std.specs.Prelude.{◌≡◌, IfOk, IfErr, Some, drop};
 ghost use Rattle.asl_unify.specs.Limits.{Passes};
 ghost use Rattle.asl_intend.specs.Entries as spec;
 ghost use Rattle.asl_intend.specs.Stacks as stacks;
 
-use crate::goal::{can_name, names_goal};
+use crate::goal::{can_name, goal_match, some_match};
+use crate::unbuilt::matches_under;
+use asl_term::copying::copy_all;
 use asl_term::sequence::Starved;
-use asl_term::syntax::{Formula, Formulas, Literal, Trigger};
+use asl_term::syntax::{Formula, Formulas, Literal, Term, Trigger};
 use asl_unify::apply::apply_formula;
 use asl_unify::build::build_literal;
 use asl_unify::limits::{TermFault, apply_literal, fits_literal};
 use asl_unify::subst::Subst;
 use std::alloc::Global;
+use std::mem;
 
 /// What is treated, and the formulas that are left to do for it.
 #[derive(Drop)]
@@ -72,10 +75,17 @@ impl Entry {
         ensures rest { self.new ≡ spec.without_first self.old }
     {
         if self.first.is_some() {
-            self.first = None;
+            // A tree given away is cheaper to prove than one that ends in place.
+            drop(self.first.take());
             return true;
         }
-        self.body.remove(0).is_some()
+        match self.body.remove(0) {
+            Some(formula) => {
+                drop(formula);
+                true
+            }
+            None => false,
+        }
     }
 
     /// Puts a formula in the place of the first one. False where there is none.
@@ -84,9 +94,10 @@ impl Entry {
         ensures rest { self.new ≡ spec.with_first formula since self.old }
     {
         if !self.remove_first() {
+            drop(formula);
             return false;
         }
-        self.first = Some(First { formula, since });
+        drop(mem::replace(&mut self.first, Some(First { formula, since })));
         true
     }
 
@@ -144,15 +155,87 @@ impl Entry {
         })
     }
 
-    /// Whether the literal names the goal of the trigger, which is built only where it may be named.
+    /// Whether the trigger stays within the limits of a term.
+    fn is_small(&self, log: &[Subst]) -> bool
+        ensures { result ≡ stacks.is_bounded_trigger (spec.seen log.now self.now).trigger }
+    {
+        let rest = bound_since(log, self.since);
+        match fits_literal(&self.trigger.lit, self.own.pairs(), rest, 250, 10_000) {
+            Some(_) => true,
+            None => false,
+        }
+    }
+
+    /// The same as `is_matched`, of a trigger that is built.
+    fn is_built_matched(
+        &self,
+        alloc: Global,
+        log: &[Subst],
+        g: &Literal,
+        more: &[Term],
+    ) -> Result<bool, Starved>
+        ensures { IfOk result (λ r. r ≡ stacks.matched_at g.now more.now (Some (spec.seen log.now self.now).trigger)) }
+    {
+        let annots = copy_all(alloc, more)?;
+        let mut t = self.full_trigger(alloc, log)?;
+        let r = match t.lit.annots.append_all(annots) {
+            Ok(()) => some_match(alloc, g, &t.lit),
+            Err(e) => Err(e),
+        };
+        drop(t);
+        r
+    }
+
+    /// Whether a literal matches that of the trigger, with more annotations behind its own. A trigger that passes the
+    /// limits of a term is not built, unless a list in it or in what is bound has a tail and no items.
+    pub fn is_matched(
+        &self,
+        alloc: Global,
+        log: &[Subst],
+        g: &Literal,
+        more: &[Term],
+    ) -> Result<bool, Starved>
+        ensures { IfOk result (λ r. r ≡ stacks.matched_at g.now more.now (Some (spec.seen log.now self.now).trigger)) }
+    {
+        if self.is_small(log) {
+            return self.is_built_matched(alloc, log, g, more);
+        }
+        let rest = bound_since(log, self.since);
+        match matches_under(alloc, g, &self.trigger.lit, self.own.pairs(), rest, more)? {
+            Some(r) => Ok(r),
+            None => self.is_built_matched(alloc, log, g, more),
+        }
+    }
+
+    /// Whether the literal names the goal of the trigger.
     pub fn is_named(&self, alloc: Global, log: &[Subst], g: &Literal) -> Result<bool, Starved>
         ensures { IfOk result (λ r. r ≡ stacks.names_goal g.now (spec.seen log.now self.now).trigger) }
     {
         if !can_name(g, &self.trigger) {
             return Ok(false);
         }
+        self.is_matched(alloc, log, g, &[])
+    }
+
+    /// The first match of the literal with the goal of the trigger, which is built only where it is small or matches.
+    pub fn goal_match(
+        &self,
+        alloc: Global,
+        log: &[Subst],
+        g: &Literal,
+    ) -> Result<Option<Subst>, Starved>
+        ensures { IfOk result (λ r. r ≡ stacks.goal_match g.now (spec.seen log.now self.now).trigger) }
+    {
+        if !can_name(g, &self.trigger) {
+            return Ok(None);
+        }
+        if !self.is_small(log) && !self.is_matched(alloc, log, g, &[])? {
+            return Ok(None);
+        }
         let t = self.full_trigger(alloc, log)?;
-        names_goal(alloc, g, &t)
+        let found = goal_match(alloc, g, &t);
+        drop(t);
+        found
     }
 
     /// The trigger, with what is bound put into it. One that passes the limits of a term is not built.

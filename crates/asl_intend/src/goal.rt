@@ -1,6 +1,7 @@
 //! Goals named by a literal.
 
-ghost use Rattle.std.specs.Prelude.{◌≡◌, IfOk};
+ghost use Rattle.std.specs.Prelude.{◌≡◌, [], IfOk};
+ghost use Rattle.asl_unify.specs.Matches.{matches};
 ghost use Rattle.asl_intend.specs.Entries as spec;
 ghost use Rattle.asl_intend.specs.Stacks as stacks;
 
@@ -8,7 +9,7 @@ use asl_term::sequence::Starved;
 use asl_term::syntax::{Kind, Literal, Trigger};
 use asl_unify::layers::same_frames;
 use asl_unify::matching::first_match;
-use asl_unify::subst::no_subst;
+use asl_unify::subst::{Subst, no_subst};
 use std::alloc::Global;
 
 /// Whether the literal may name the goal of a trigger into which substitutions are still to be put.
@@ -23,8 +24,25 @@ pub fn can_name(g: &Literal, t: &Trigger) -> bool
     t.add && achieve && same_frames(g, &t.lit)
 }
 
-/// Whether the literal matches the goal that a trigger `+!h` is about. One match is sought, and no other.
+/// Whether two literals match. One match is sought, and no other.
 #[tactic(auto, using(crate::proofs::Logs::first_is_any))]
+pub fn some_match(alloc: Global, p: &Literal, q: &Literal) -> Result<bool, Starved>
+    ensures { IfOk result (λ r. r ≡ stacks.any_match (matches p.now q.now [])) }
+{
+    let empty = no_subst(alloc);
+    let found = first_match(alloc, p, q, &empty);
+    drop(empty);
+    match found {
+        Ok(s) => {
+            let there = s.is_some();
+            drop(s);
+            Ok(there)
+        }
+        Err(e) => Err(e),
+    }
+}
+
+/// Whether the literal matches the goal that a trigger `+!h` is about.
 pub fn names_goal(alloc: Global, g: &Literal, t: &Trigger) -> Result<bool, Starved>
     ensures { IfOk result (λ r. r ≡ stacks.names_goal g.now t.now) }
 {
@@ -34,9 +52,25 @@ pub fn names_goal(alloc: Global, g: &Literal, t: &Trigger) -> Result<bool, Starv
     match t.kind {
         Kind::Belief => Ok(false),
         Kind::Test => Ok(false),
+        Kind::Achieve => some_match(alloc, g, &t.lit),
+    }
+}
+
+/// The first match of the literal with the goal that a trigger `+!h` is about.
+pub fn goal_match(alloc: Global, g: &Literal, t: &Trigger) -> Result<Option<Subst>, Starved>
+    ensures { IfOk result (λ r. r ≡ stacks.goal_match g.now t.now) }
+{
+    if !t.add {
+        return Ok(None);
+    }
+    match t.kind {
+        Kind::Belief => Ok(None),
+        Kind::Test => Ok(None),
         Kind::Achieve => {
-            let found = first_match(alloc, g, &t.lit, &no_subst(alloc))?;
-            Ok(found.is_some())
+            let empty = no_subst(alloc);
+            let found = first_match(alloc, g, &t.lit, &empty);
+            drop(empty);
+            found
         }
     }
 }

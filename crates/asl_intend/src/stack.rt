@@ -8,7 +8,7 @@ ghost use Rattle.asl_intend.specs.Stacks as stacks;
 
 use crate::entry::{Entry, Means};
 use asl_term::sequence::{Seq, Starved};
-use asl_term::syntax::{Formula, Literal, Trigger};
+use asl_term::syntax::{Formula, Literal, Term, Trigger};
 use asl_unify::limits::TermFault;
 use asl_unify::subst::{Subst, copy_subst};
 use std::alloc::Global;
@@ -59,7 +59,11 @@ fn put_last(entries: &mut Vec<Entry>, e: Entry) -> Result<(), Starved>
 {
     match entries.push(e) {
         Ok(()) => Ok(()),
-        Err(_) => Err(Starved),
+        Err(refused) => {
+            // A tree given away is cheaper to prove than one that ends in place.
+            drop(refused);
+            Err(Starved)
+        }
     }
 }
 
@@ -82,6 +86,7 @@ fn set_last_first(entries: &mut Vec<Entry>, f: Formula, since: u64) -> bool
 {
     let n = entries.len();
     if n == 0 {
+        drop(f);
         return false;
     }
     entries[n - 1].set_first(f, since)
@@ -139,8 +144,9 @@ impl Stack {
         ensures value { result ≡ stacks.has_means self.old }
         ensures rest { self.new ≡ drop 1 self.old }
     {
-        if self.entries.pop().is_none() {
-            return false;
+        match self.entries.pop() {
+            Some(top) => drop(top),
+            None => return false,
         }
         if self.entries.len() == 0 {
             self.log.truncate(0);
@@ -225,7 +231,54 @@ impl Stack {
         }
     }
 
-    /// Whether the literal names the goal of some means. A trigger that may be the one is built as by `trigger`.
+    /// The trigger of the means at a place as it was pushed: nothing is put into it.
+    pub fn pushed_trigger(&self, k: u64) -> Option<&Trigger>
+        ensures { MatchOption result (stacks.trigger_at self.now k ≡ None) (λ t. stacks.ComesFrom t.now (stacks.trigger_at self.now k)) }
+    {
+        match from_top(&self.entries, k) {
+            None => None,
+            Some(e) => Some(&e.trigger),
+        }
+    }
+
+    /// Whether a literal matches that of the means at a place, with more annotations behind its own. It is not built where
+    /// it passes the limits of a term.
+    pub fn is_matched(
+        &self,
+        alloc: Global,
+        k: u64,
+        g: &Literal,
+        more: &[Term],
+    ) -> Result<bool, Starved>
+        ensures { IfOk result (λ r. r ≡ stacks.matched_at g.now more.now (stacks.trigger_at self.now k)) }
+    {
+        match from_top(&self.entries, k) {
+            None => Ok(false),
+            Some(e) => e.is_matched(alloc, self.log.as_slice(), g, more),
+        }
+    }
+
+    /// Whether the literal names the goal of the means at a place.
+    pub fn is_named(&self, alloc: Global, k: u64, g: &Literal) -> Result<bool, Starved>
+        ensures { IfOk result (λ r. r ≡ stacks.names_at g.now (stacks.trigger_at self.now k)) }
+    {
+        match from_top(&self.entries, k) {
+            None => Ok(false),
+            Some(e) => e.is_named(alloc, self.log.as_slice(), g),
+        }
+    }
+
+    /// The first match of the literal with the goal of the means at a place.
+    pub fn goal_match(&self, alloc: Global, k: u64, g: &Literal) -> Result<Option<Subst>, Starved>
+        ensures { IfOk result (λ r. r ≡ stacks.match_at g.now (stacks.trigger_at self.now k)) }
+    {
+        match from_top(&self.entries, k) {
+            None => Ok(None),
+            Some(e) => e.goal_match(alloc, self.log.as_slice(), g),
+        }
+    }
+
+    /// Whether the literal names the goal of some means. No trigger that passes the limits of a term is built.
     pub fn has_goal(&self, alloc: Global, g: &Literal) -> Result<bool, Starved>
         ensures { IfOk result (λ r. r ≡ stacks.has_goal g.now self.now) }
     {

@@ -1,11 +1,14 @@
 //! The rows AskOne, AskAll and AskSpent.
 
-ghost use Rattle.std.specs.Prelude.{◌≡◌, ◌+◌, ◌<◌, ◌^◌, ◌-◌, cond, map, Some, None, IfOk};
-ghost use Rattle.std.specs.List.{list_all};
+ghost use Rattle.std.specs.Prelude.{◌≡◌, ◌+◌, ◌<◌, ◌^◌, ◌-◌, cond, None, IfOk};
+ghost use Rattle.asl_term.specs.declared.syntax.Expr.TheVariants as expr;
 ghost use Rattle.asl_term.specs.declared.syntax.Term.TheVariants as term;
 ghost use Rattle.asl_unify.specs.Applied.{applied_literal, within_literal};
+ghost use Rattle.asl_exec.specs.Exec as rows;
 ghost use Rattle.asl_exec.specs.Parts as parts;
+ghost use Rattle.asl_resolve.specs.Listed.{list_of};
 ghost use Rattle.asl_kqml.specs.Receive as spec;
+ghost use Rattle.asl_kqml.specs.inner.Asks as inner;
 
 use crate::content::is_nothing;
 use crate::took::{Took, by};
@@ -14,14 +17,14 @@ use asl_exec::goals::sought;
 use asl_exec::parts::{Around, Parts};
 use asl_exec::rows::Row;
 use asl_resolve::actions::Actions;
-use asl_resolve::all::all;
-use asl_resolve::answers::{Answer, Answers};
+use asl_resolve::all::all_listed;
+use asl_resolve::answers::{Answer, Listed};
 use asl_term::copying::{copy_literal, text_of};
 use asl_term::sequence::{Seq, Starved};
 use asl_term::syntax::{Expr, ListingOf, Literal, LiteralOf, Term, Terms};
-use asl_unify::limits::{TermFault, within};
+use asl_unify::limits::TermFault;
 use asl_unify::seal::seal;
-use asl_unify::subst::{Subst, no_subst};
+use asl_unify::subst::Subst;
 use asl_unify::tree::Tree;
 use mas_mind::mind::{Message, Verb};
 use std::alloc::Global;
@@ -94,29 +97,17 @@ fn ask_one(
         Answer::Spent(b) => Ok(Took::Spent(*b)),
         Answer::Found { subst, next: _ } => {
             let t = found_one(alloc, g, subst)?;
-            replies(alloc, Row::AskOne, me, m, &t)
+            let took = replies(alloc, Row::AskOne, me, m, &t);
+            drop(t);
+            took
         }
         Answer::Nothing | Answer::Arith | Answer::TermLimit => {
             let t = no(alloc)?;
-            replies(alloc, Row::AskOne, me, m, &t)
+            let took = replies(alloc, Row::AskOne, me, m, &t);
+            drop(t);
+            took
         }
     }
-}
-
-/// What each solution makes of a goal. None where some result passes the limits.
-fn each_applied(alloc: Global, g: &Literal, found: &[Subst]) -> Result<Option<Terms>, Starved>
-    ensures { let ls = map (λ s. applied_literal s g.now) found.now in
-        IfOk result (λ r. r ≡ cond (list_all within_literal ls) (Some (map term.Lit ls)) None) }
-{
-    let mut items = Seq::new(alloc);
-    for s in found {
-        match g.apply(alloc, s) {
-            Ok(l) => items.push(Term::Lit(l))?,
-            Err(TermFault::TermLimit) => return Ok(None),
-            Err(TermFault::Memory) => return Err(Starved),
-        }
-    }
-    Ok(Some(items))
 }
 
 /// A list of these items.
@@ -126,68 +117,78 @@ fn list(items: Terms) -> Term
     Term::List(ListingOf { items, tail: None })
 }
 
-/// The results of a goal as a list, which is empty where one of them or the list passes the limits.
-fn found_list(alloc: Global, g: &Literal, found: &[Subst]) -> Result<Term, Starved>
-    ensures { IfOk result (λ t. t ≡ spec.limited_list (map (λ s. applied_literal s g.now) found.now)) }
-{
-    match each_applied(alloc, g, found)? {
-        None => Ok(list(Seq::new(alloc))),
-        Some(items) => {
-            let t = list(items);
-            if within(&t) {
-                Ok(t)
-            } else {
-                Ok(list(Seq::new(alloc)))
-            }
-        }
-    }
-}
-
-/// AskAll or AskSpent, by the answer of the search.
-fn ask_all(
-    alloc: Global,
-    me: u32,
-    m: &Message,
-    g: &Literal,
-    answer: &Answers,
-) -> Result<Took, Starved>
-    ensures { IfOk result (λ t. (p : parts.Parts) → spec.ask_all me m.now p g.now answer.now ≡ spec.received p t) }
+/// AskAll or AskSpent, by the list of the goal over all solutions. Where the search or the list passes the limits, it is
+/// empty.
+fn ask_all(alloc: Global, me: u32, m: &Message, answer: &Listed) -> Result<Took, Starved>
+    ensures { IfOk result (λ t. (p : parts.Parts) → inner.ask_listed me m.now p answer.now ≡ spec.received p t) }
 {
     match answer {
-        Answers::Spent(b) => Ok(Took::Spent(*b)),
-        Answers::All(found) => {
-            let t = found_list(alloc, g, found.as_slice())?;
-            replies(alloc, Row::AskAll, me, m, &t)
-        }
-        Answers::Arith | Answers::TermLimit => {
+        Listed::Spent(b) => Ok(Took::Spent(*b)),
+        Listed::List(t) => replies(alloc, Row::AskAll, me, m, t),
+        Listed::Arith | Listed::TermLimit => {
             let t = list(Seq::new(alloc));
-            replies(alloc, Row::AskAll, me, m, &t)
+            let took = replies(alloc, Row::AskAll, me, m, &t);
+            drop(t);
+            took
         }
     }
 }
 
-/// What the search for all solutions of a goal answers.
-fn sought_all<B: BeliefBase, A: Actions>(
+/// What the search for one solution of a goal answers.
+fn sought_one<B: BeliefBase, A: Actions>(
     alloc: Global,
     k: &Around<A>,
     p: &Parts<B>,
     g: &Literal,
-) -> Result<Answers, Starved>
+) -> Result<Answer, Starved>
     requires { p.now.number + k.now.budgets.tries < 2 ^ 64 - 1 }
-    ensures { IfOk result (λ r. r ≡ spec.sought_all
+    ensures { IfOk result (λ r. r ≡ rows.sought
         (parts.around k.now.lib.plans (B.rules p.now.beliefs) (A.solve k.now.actions) k.now.budgets)
-        (parts.parts (B.beliefs p.now.beliefs) p.now.agenda p.now.number) g.now) }
+        (parts.parts (B.beliefs p.now.beliefs) p.now.agenda p.now.number) (expr.Holds g.now)) }
 {
     let e = Expr::Holds(copy_literal(alloc, g)?);
-    all(
-        alloc,
-        &p.beliefs,
-        &k.actions,
-        &e,
-        &no_subst(alloc),
-        p.number,
-        &k.budgets,
-    )
+    let answer = sought(alloc, k, p, &e);
+    drop(e);
+    answer
+}
+
+/// The list of a term over all solutions of a goal.
+fn listed_by<B: BeliefBase, A: Actions>(
+    alloc: Global,
+    k: &Around<A>,
+    p: &Parts<B>,
+    g: &Literal,
+    item: &Term,
+) -> Result<Listed, Starved>
+    requires { p.now.number + k.now.budgets.tries < 2 ^ 64 - 1 }
+    ensures { IfOk result (λ r. r ≡ list_of item.now (spec.sought_all
+        (parts.around k.now.lib.plans (B.rules p.now.beliefs) (A.solve k.now.actions) k.now.budgets)
+        (parts.parts (B.beliefs p.now.beliefs) p.now.agenda p.now.number) g.now)) }
+{
+    let e = Expr::Holds(copy_literal(alloc, g)?);
+    let answer = all_listed(
+        alloc, &p.beliefs, &k.actions, &e, p.number, &k.budgets, item,
+    );
+    drop(e);
+    answer
+}
+
+/// The list of a goal over all its solutions. No more of it is kept than a reply may have.
+fn listed_all<B: BeliefBase, A: Actions>(
+    alloc: Global,
+    k: &Around<A>,
+    p: &Parts<B>,
+    g: &Literal,
+) -> Result<Listed, Starved>
+    requires { p.now.number + k.now.budgets.tries < 2 ^ 64 - 1 }
+    ensures { IfOk result (λ r. r ≡ list_of (term.Lit g.now) (spec.sought_all
+        (parts.around k.now.lib.plans (B.rules p.now.beliefs) (A.solve k.now.actions) k.now.budgets)
+        (parts.parts (B.beliefs p.now.beliefs) p.now.agenda p.now.number) g.now)) }
+{
+    let item = Term::Lit(copy_literal(alloc, g)?);
+    let answer = listed_by(alloc, k, p, g, &item);
+    drop(item);
+    answer
 }
 
 /// AskOne or AskSpent, or Ignore where there is no goal.
@@ -207,9 +208,10 @@ pub fn asks_one<B: BeliefBase, A: Actions>(
     match g {
         None => Ok(by(alloc, Row::Ignore)),
         Some(g) => {
-            let e = Expr::Holds(copy_literal(alloc, g)?);
-            let answer = sought(alloc, k, p, &e)?;
-            ask_one(alloc, me, m, g, &answer)
+            let answer = sought_one(alloc, k, p, g)?;
+            let took = ask_one(alloc, me, m, g, &answer);
+            drop(answer);
+            took
         }
     }
 }
@@ -231,8 +233,10 @@ pub fn asks_all<B: BeliefBase, A: Actions>(
     match g {
         None => Ok(by(alloc, Row::Ignore)),
         Some(g) => {
-            let answer = sought_all(alloc, k, p, g)?;
-            ask_all(alloc, me, m, g, &answer)
+            let answer = listed_all(alloc, k, p, g)?;
+            let took = ask_all(alloc, me, m, &answer);
+            drop(answer);
+            took
         }
     }
 }

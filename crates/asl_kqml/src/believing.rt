@@ -81,7 +81,9 @@ pub fn tell<B: BeliefBase>(
         None => Ok(by(alloc, Row::Ignore)),
         Some(ls) => {
             let named = all_sourced(alloc, name, ls)?;
-            add_all(alloc, p, named.as_slice())?;
+            let added = add_all(alloc, p, named.as_slice());
+            drop(named);
+            added?;
             Ok(by(alloc, Row::Tell))
         }
     }
@@ -103,7 +105,9 @@ pub fn untell<B: BeliefBase>(
         None => Ok(by(alloc, Row::Ignore)),
         Some(ls) => {
             let named = all_only_from(alloc, name, ls)?;
-            remove_all(alloc, p, named.as_slice())?;
+            let removed = remove_all(alloc, p, named.as_slice());
+            drop(named);
+            removed?;
             Ok(by(alloc, Row::Untell))
         }
     }

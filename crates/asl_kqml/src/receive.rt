@@ -65,9 +65,24 @@ fn of_verb<B: BeliefBase, A: Actions>(
         Verb::Tell => tells(alloc, k, name, p, m, content),
         Verb::Untell => untell(alloc, name, p, literals_of(alloc, content)?),
         Verb::Achieve => achieve(alloc, name, p, literal_of(alloc, content)?),
-        Verb::Unachieve => unachieve(alloc, p, &literal_of(alloc, content)?),
-        Verb::AskOne => asks_one(alloc, k, me, p, m, &literal_of(alloc, content)?),
-        Verb::AskAll => asks_all(alloc, k, me, p, m, &literal_of(alloc, content)?),
+        Verb::Unachieve => {
+            let g = literal_of(alloc, content)?;
+            let took = unachieve(alloc, p, &g);
+            drop(g);
+            took
+        }
+        Verb::AskOne => {
+            let g = literal_of(alloc, content)?;
+            let took = asks_one(alloc, k, me, p, m, &g);
+            drop(g);
+            took
+        }
+        Verb::AskAll => {
+            let g = literal_of(alloc, content)?;
+            let took = asks_all(alloc, k, me, p, m, &g);
+            drop(g);
+            took
+        }
     }
 }
 
@@ -91,6 +106,10 @@ pub fn receive<B: BeliefBase, A: Actions>(
     let number = p.number;
     p.number += 1;
     let content = rename_term(alloc, &m.content, number)?;
-    let name = agent_name(alloc, &peers.names, m.from)?;
-    of_verb(alloc, k, peers.me, &name, p, m, &content)
+    let took = match agent_name(alloc, &peers.names, m.from) {
+        Ok(name) => of_verb(alloc, k, peers.me, &name, p, m, &content),
+        Err(starved) => Err(starved),
+    };
+    drop(content);
+    took
 }

@@ -34,10 +34,17 @@ fn goes_on<B: BeliefBase>(
     ensures beliefs { p.new.beliefs ≡ p.old.beliefs }
     ensures number { p.new.number ≡ p.old.number }
 {
-    stack.bind(s)?;
-    stack.remove_head();
-    p.agenda.ready(stack)?;
-    Ok(by(alloc, Row::Reply))
+    match stack.bind(s) {
+        Ok(()) => {
+            stack.remove_head();
+            p.agenda.ready(stack)?;
+            Ok(by(alloc, Row::Reply))
+        }
+        Err(starved) => {
+            drop(stack);
+            Err(starved)
+        }
+    }
 }
 
 /// Reply or ReplyFail, by what unifies the answer with what takes it.
@@ -59,9 +66,13 @@ fn answered<B: BeliefBase, A: Actions>(
         Some(s) => goes_on(alloc, p, stack, s),
         None => {
             let error = Error::IaFailed;
-            let fell = fail(alloc, &mut p.agenda, &k.lib, &mut stack, error, p.number)?;
+            let failed = fail(alloc, &mut p.agenda, &k.lib, &mut stack, error, p.number);
+            drop(stack);
             let mut falls = Seq::new(alloc);
-            falls.push(Fall { error, fell })?;
+            falls.push(Fall {
+                error,
+                fell: failed?,
+            })?;
             Ok(Took::Row {
                 row: Row::ReplyFail,
                 reply: None,
@@ -95,8 +106,15 @@ pub fn answers_ask<B: BeliefBase, A: Actions>(
                 stack,
             } = a;
             let work = Work::Two(View::Whole(&answer), View::Whole(content));
-            let s = attempt(alloc, work, &no_subst(alloc))?;
-            answered(alloc, k, p, stack, &s)
+            let s = attempt(alloc, work, &no_subst(alloc));
+            drop(answer);
+            match s {
+                Ok(s) => answered(alloc, k, p, stack, &s),
+                Err(starved) => {
+                    drop(stack);
+                    Err(starved)
+                }
+            }
         }
     }
 }

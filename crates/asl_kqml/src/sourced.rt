@@ -15,7 +15,9 @@ fn others(alloc: Global, annots: Terms) -> Result<Terms, Starved>
 {
     let mut r = Seq::new(alloc);
     for a in annots.into_vec() {
-        if !is_source(&a) {
+        if is_source(&a) {
+            drop(a);
+        } else {
             r.push(a)?;
         }
     }
@@ -50,8 +52,9 @@ fn only_from(alloc: Global, name: &Text, l: Literal) -> Result<Literal, Starved>
         neg,
         functor,
         args,
-        annots: _,
+        annots: others,
     } = l;
+    drop(others);
     let mut annots = Seq::new(alloc);
     annots.push(source(alloc, name.as_slice())?)?;
     Ok(LiteralOf {

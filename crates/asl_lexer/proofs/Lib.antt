@@ -10,6 +10,7 @@ pub mod QuoteFacts
 pub mod Faults
 pub mod Rest
 pub mod One
+pub mod Total
 pub mod Known
 pub mod Seams
 pub mod SignTexts

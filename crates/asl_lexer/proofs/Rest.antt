@@ -37,7 +37,7 @@ starts bytes = record { goes = λ r h. subst (Lexes start bytes) (sym (behind_ni
 pub blank_more : (front : List Tok) (p : Place) (ts bytes : List ℕ) (n : ℕ) → Rest front p ts bytes → blank_at ts ≡ blanks.Bytes n → Rest front (after p (take n ts)) (drop n ts) bytes
 blank_more front p ts bytes n h e = record { goes = λ r k. h.goes r (behind_blank n (is_blank_at ts n e) k) }
 
-found_some : (ts : List ℕ) (kind : TokKind) (n : ℕ) → token_at ts ≡ Some (kind, n) → IsLongest ts kind n
+pub found_some : (ts : List ℕ) (kind : TokKind) (n : ℕ) → token_at ts ≡ Some (kind, n) → IsLongest ts kind n
 found_some ts kind n e = subst (Found ts) e (token_found ts)
 
 pub token_more : (front : List Tok) (p : Place) (ts bytes : List ℕ) (kind : TokKind) (n : ℕ) → Rest front p ts bytes → blank_at ts ≡ blanks.None → token_at ts ≡ Some (kind, n) → is_allowed kind (take n ts) ≡ true → Rest (front ++ tok_of kind (take n ts) p ∷ []) (after p (take n ts)) (drop n ts) bytes

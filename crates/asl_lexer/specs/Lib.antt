@@ -3,6 +3,7 @@ pub mod Blanks
 pub mod Quotes
 pub mod Scan
 pub mod Lexing
+pub mod Total
 pub mod Words
 pub mod Bare
 pub mod Seams

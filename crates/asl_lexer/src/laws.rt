@@ -3,6 +3,7 @@
 ghost use Rattle.asl_lexer.specs.Bare.{TokensSpelled};
 ghost use Rattle.asl_lexer.specs.Seams.{SignsGive, NamesGive, VariablesGive, InnersGive, NumbersGive, StringsGive, StopGives, BlanksGive, WholesHave};
 ghost use Rattle.asl_lexer.specs.Seams.{SignsSpelled, SignsRead, NumbersRead};
+ghost use Rattle.asl_lexer.specs.Total.{SomeAnswer};
 
 /// What each text gives before other bytes; what a whole text gives is all that it has.
 pub fn texts_give()
@@ -31,4 +32,10 @@ pub fn numbers_read()
 /// The tokens of bytes have texts of their kinds.
 pub fn tokens_spelled()
     ensures { TokensSpelled }
+{}
+
+/// Each list of bytes has tokens, or a fault: the reader has an answer to all of them.
+#[tactic(auto, using(crate::proofs::Total::some_answer))]
+pub fn some_answer()
+    ensures { SomeAnswer }
 {}

@@ -6,32 +6,31 @@ ghost use Rattle.std.specs.Prelude.{◌≡◌, ◌++◌, OnOk, OnErr};
 ghost use Rattle.std.specs.List.{flat_map};
 ghost use Rattle.asl_print.specs.Agents as spec;
 
-use asl_term::printing_expr::{write_expr, write_formula, write_literal};
+use asl_term::printing_expr::{print_expr, print_formula, print_literal};
 use asl_term::sequence::{Seq, Starved};
 use asl_term::syntax::{AgentText, Clause, Expr, Formula, Kind, Literal, Plan, Text, Trigger};
-use std::alloc::Global;
 
-fn write_belief(alloc: Global, l: &Literal, out: &mut Text) -> Result<(), Starved>
+fn write_belief(l: &Literal, out: &mut Text) -> Result<(), Starved>
     ensures { OnOk result (out.new ≡ out.old ++ spec.belief_text l.now) }
 {
-    write_literal(alloc, l, out)?;
+    print_literal(l, out)?;
     out.append(b".\n")
 }
 
-fn write_rule(alloc: Global, r: &Clause, out: &mut Text) -> Result<(), Starved>
+fn write_rule(r: &Clause, out: &mut Text) -> Result<(), Starved>
     ensures { OnOk result (out.new ≡ out.old ++ spec.rule_text r.now) }
 {
-    write_literal(alloc, &r.head, out)?;
+    print_literal(&r.head, out)?;
     out.append(b" :- ")?;
-    write_expr(alloc, &r.body, out)?;
+    print_expr(&r.body, out)?;
     out.append(b".\n")
 }
 
-fn write_goal(alloc: Global, l: &Literal, out: &mut Text) -> Result<(), Starved>
+fn write_goal(l: &Literal, out: &mut Text) -> Result<(), Starved>
     ensures { OnOk result (out.new ≡ out.old ++ spec.goal_text l.now) }
 {
     out.append(b"!")?;
-    write_literal(alloc, l, out)?;
+    print_literal(l, out)?;
     out.append(b".\n")
 }
 
@@ -68,96 +67,96 @@ fn write_kind(kind: Kind, out: &mut Text) -> Result<(), Starved>
     }
 }
 
-fn write_trigger(alloc: Global, t: &Trigger, out: &mut Text) -> Result<(), Starved>
+fn write_trigger(t: &Trigger, out: &mut Text) -> Result<(), Starved>
     ensures { OnOk result (out.new ≡ out.old ++ spec.trigger_text t.now) }
 {
     write_change(t.add, out)?;
     write_kind(t.kind, out)?;
-    write_literal(alloc, &t.lit, out)
+    print_literal(&t.lit, out)
 }
 
-fn write_context(alloc: Global, e: &Expr, out: &mut Text) -> Result<(), Starved>
+fn write_context(e: &Expr, out: &mut Text) -> Result<(), Starved>
     ensures { OnOk result (out.new ≡ out.old ++ spec.context_text e.now) }
 {
     match e {
         Expr::True => Ok(()),
         _ => {
             out.append(b" : ")?;
-            write_expr(alloc, e, out)
+            print_expr(e, out)
         }
     }
 }
 
-fn write_body(alloc: Global, body: &[Formula], out: &mut Text) -> Result<(), Starved>
+fn write_body(body: &[Formula], out: &mut Text) -> Result<(), Starved>
     ensures { OnOk result (out.new ≡ out.old ++ spec.body_text body.now) }
 {
     match body.split_first() {
         None => Ok(()),
         Some((first, rest)) => {
             out.append(b" <- ")?;
-            write_formula(alloc, first, out)?;
+            print_formula(first, out)?;
             'items: for f in rest {
                 out.append(b"; ")?;
-                write_formula(alloc, f, out)?;
+                print_formula(f, out)?;
             }
             Ok(())
         }
     }
 }
 
-fn write_plan(alloc: Global, p: &Plan, out: &mut Text) -> Result<(), Starved>
+fn write_plan(p: &Plan, out: &mut Text) -> Result<(), Starved>
     ensures { OnOk result (out.new ≡ out.old ++ spec.plan_text p.now) }
 {
     write_label(&p.label, out)?;
-    write_trigger(alloc, &p.trigger, out)?;
-    write_context(alloc, &p.context, out)?;
-    write_body(alloc, p.body.as_slice(), out)?;
+    write_trigger(&p.trigger, out)?;
+    write_context(&p.context, out)?;
+    write_body(p.body.as_slice(), out)?;
     out.append(b".\n")
 }
 
-fn write_beliefs(alloc: Global, all: &[Literal], out: &mut Text) -> Result<(), Starved>
+fn write_beliefs(all: &[Literal], out: &mut Text) -> Result<(), Starved>
     ensures { OnOk result (out.new ≡ out.old ++ flat_map spec.belief_text all.now) }
 {
     'beliefs: for l in all {
-        write_belief(alloc, l, out)?;
+        write_belief(l, out)?;
     }
     Ok(())
 }
 
-fn write_rules(alloc: Global, all: &[Clause], out: &mut Text) -> Result<(), Starved>
+fn write_rules(all: &[Clause], out: &mut Text) -> Result<(), Starved>
     ensures { OnOk result (out.new ≡ out.old ++ flat_map spec.rule_text all.now) }
 {
     'rules: for r in all {
-        write_rule(alloc, r, out)?;
+        write_rule(r, out)?;
     }
     Ok(())
 }
 
-fn write_goals(alloc: Global, all: &[Literal], out: &mut Text) -> Result<(), Starved>
+fn write_goals(all: &[Literal], out: &mut Text) -> Result<(), Starved>
     ensures { OnOk result (out.new ≡ out.old ++ flat_map spec.goal_text all.now) }
 {
     'goals: for l in all {
-        write_goal(alloc, l, out)?;
+        write_goal(l, out)?;
     }
     Ok(())
 }
 
-fn write_plans(alloc: Global, all: &[Plan], out: &mut Text) -> Result<(), Starved>
+fn write_plans(all: &[Plan], out: &mut Text) -> Result<(), Starved>
     ensures { OnOk result (out.new ≡ out.old ++ flat_map spec.plan_text all.now) }
 {
     'plans: for p in all {
-        write_plan(alloc, p, out)?;
+        write_plan(p, out)?;
     }
     Ok(())
 }
 
-fn write_agent(alloc: Global, a: &AgentText, out: &mut Text) -> Result<(), Starved>
+fn write_agent(a: &AgentText, out: &mut Text) -> Result<(), Starved>
     ensures { OnOk result (out.new ≡ out.old ++ spec.agent_text a.now) }
 {
-    write_beliefs(alloc, a.beliefs.as_slice(), out)?;
-    write_rules(alloc, a.rules.as_slice(), out)?;
-    write_goals(alloc, a.goals.as_slice(), out)?;
-    write_plans(alloc, a.plans.as_slice(), out)
+    write_beliefs(a.beliefs.as_slice(), out)?;
+    write_rules(a.rules.as_slice(), out)?;
+    write_goals(a.goals.as_slice(), out)?;
+    write_plans(a.plans.as_slice(), out)
 }
 
 /// Appends the text of an agent, whole or not at all.
@@ -167,6 +166,6 @@ pub fn print_agent(a: &AgentText, out: &mut Text) -> Result<(), Starved>
 {
     let alloc = out.alloc();
     let mut text = Seq::new(alloc);
-    write_agent(alloc, a, &mut text)?;
+    write_agent(a, &mut text)?;
     out.append(text.as_slice())
 }

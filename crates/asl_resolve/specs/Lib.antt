@@ -1,5 +1,6 @@
 pub mod Calls
 pub mod Base
 pub mod Marks
+pub mod Listed
 pub mod Solves
 pub mod inner

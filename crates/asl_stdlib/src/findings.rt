@@ -47,6 +47,16 @@ pub fn meet(alloc: Global, x: &Term, found: &Term, s: &Subst) -> Result<Substs, 
     Ok(out)
 }
 
+/// The same of a result that is made for it.
+pub fn meet_made(alloc: Global, x: &Term, found: Term, s: &Subst) -> Result<Substs, Starved>
+    ensures { IfOk result (λ r. r ≡ spec.solutions (spec.Gives x.now (found ∷ [])) s.now) }
+{
+    let met = meet(alloc, x, &found, s);
+    // A tree given away is cheaper to prove than one that ends in place.
+    drop(found);
+    met
+}
+
 /// Unifies a term with each result, in order.
 pub fn meet_each(alloc: Global, x: &Term, results: &[Term], s: &Subst) -> Result<Substs, Starved>
     ensures { IfOk result (λ r. r ≡ spec.solutions (spec.Gives x.now results.now) s.now) }

@@ -5,7 +5,7 @@ ghost use Rattle.std.specs.Option.{option_copied, option_map};
 ghost use Rattle.asl_stdlib.specs.Findings.{solutions};
 ghost use Rattle.asl_stdlib.specs.Rows as spec;
 
-use crate::findings::{hold, meet, meet_each};
+use crate::findings::{hold, meet, meet_each, meet_made};
 use crate::kinds::{Test, items_of, passes, string_of};
 use asl_term::copying::{copy_all, copy_text};
 use asl_term::sequence::{Seq, Starved};
@@ -46,7 +46,7 @@ pub fn my_name_row(alloc: Global, me: &Text, args: &[Term], s: &Subst) -> Result
     match args {
         [x] => {
             let name = atom_term(alloc, me)?;
-            meet(alloc, x, &name, s)
+            meet_made(alloc, x, name, s)
         }
         _ => Ok(Seq::new(alloc)),
     }
@@ -84,7 +84,7 @@ pub fn length_row(alloc: Global, args: &[Term], s: &Subst) -> Result<Substs, Sta
 {
     match args {
         [l, n] => match length_of(l) {
-            Some(k) => meet(alloc, n, &Term::Num(k), s),
+            Some(k) => meet_made(alloc, n, Term::Num(k), s),
             None => Ok(Seq::new(alloc)),
         },
         _ => Ok(Seq::new(alloc)),
@@ -131,7 +131,7 @@ pub fn reverse_row(alloc: Global, args: &[Term], s: &Subst) -> Result<Substs, St
         [l, r] => match items_of(l) {
             Some(items) => {
                 let items = reversed(alloc, items)?;
-                meet(alloc, r, &Term::List(ListingOf { items, tail: None }), s)
+                meet_made(alloc, r, Term::List(ListingOf { items, tail: None }), s)
             }
             None => Ok(Seq::new(alloc)),
         },

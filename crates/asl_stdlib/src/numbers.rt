@@ -6,7 +6,7 @@ ghost use Rattle.std.specs.Option.{option_map};
 ghost use Rattle.asl_stdlib.specs.Findings.{solutions};
 ghost use Rattle.asl_stdlib.specs.Rows as spec;
 
-use crate::findings::meet;
+use crate::findings::meet_made;
 use crate::kinds::items_of;
 use asl_term::sequence::{Seq, Starved};
 use asl_term::syntax::Term;
@@ -66,7 +66,7 @@ pub fn best_row(alloc: Global, e: Extreme, args: &[Term], s: &Subst) -> Result<S
     match args {
         [l, x] => match items_of(l) {
             Some(items) => match best_of(e, items) {
-                Some(n) => meet(alloc, x, &Term::Num(n), s),
+                Some(n) => meet_made(alloc, x, Term::Num(n), s),
                 None => Ok(Seq::new(alloc)),
             },
             None => Ok(Seq::new(alloc)),

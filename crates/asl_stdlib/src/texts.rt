@@ -6,10 +6,10 @@ ghost use Rattle.asl_stdlib.specs.Findings.{solutions};
 ghost use Rattle.asl_stdlib.specs.Kinds as kind;
 ghost use Rattle.asl_stdlib.specs.Rows as spec;
 
-use crate::findings::meet;
+use crate::findings::meet_made;
 use crate::kinds::{items_of, string_of};
 use asl_term::copying::copy_all;
-use asl_term::printing::write;
+use asl_term::printing::print;
 use asl_term::sequence::{Seq, Starved};
 use asl_term::syntax::{ListingOf, Term, Terms, Text};
 use asl_unify::matching::Substs;
@@ -49,12 +49,12 @@ fn joined_items(alloc: Global, ts: &[Term]) -> Result<Terms, Starved>
 }
 
 /// Appends the text of a term, a string unquoted.
-fn put_text(alloc: Global, t: &Term, out: &mut Text) -> Result<(), Starved>
+fn put_text(t: &Term, out: &mut Text) -> Result<(), Starved>
     ensures { OnOk result (out.new ≡ out.old ++ spec.plain_text t.now) }
 {
     match string_of(t) {
         Some(bytes) => out.append(bytes.as_slice()),
-        None => write(alloc, t, out),
+        None => print(t, out),
     }
 }
 
@@ -64,7 +64,7 @@ fn joined_text(alloc: Global, ts: &[Term]) -> Result<Text, Starved>
 {
     let mut out = Seq::new(alloc);
     for t in ts {
-        put_text(alloc, t, &mut out)?;
+        put_text(t, &mut out)?;
     }
     Ok(out)
 }
@@ -91,5 +91,5 @@ pub fn concat_row(alloc: Global, args: &[Term], s: &Subst) -> Result<Substs, Sta
     }
     let last = args.len() - 1;
     let r = joined(alloc, &args[..last])?;
-    meet(alloc, &args[last], &r, s)
+    meet_made(alloc, &args[last], r, s)
 }

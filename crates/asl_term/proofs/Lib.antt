@@ -6,3 +6,4 @@ pub mod Commas
 pub mod Places
 pub mod Args
 pub mod Noted
+pub mod Sends

@@ -11,7 +11,8 @@ use std::alloc::Global;
 
 /// Appends a number in decimal.
 pub fn write_number(alloc: Global, n: u64, out: &mut Text) -> Result<(), Starved>
-    ensures { OnOk result (out.new ≡ out.old ++ decimal n) }
+    ensures ok { OnOk result (out.new ≡ out.old ++ decimal n) }
+    ensures err { OnErr result (out.new ≡ out.old) }
 {
     match format!(in alloc; "{n}") {
         Ok(s) => out.append(s.as_bytes()),
@@ -85,7 +86,7 @@ fn operator(op: Op, out: &mut Text) -> Result<(), Starved>
 
 /// Appends its text. After `Starved` a part of it may stand in `out`.
 #[cycle(write)]
-pub fn write(alloc: Global, t: &Term, out: &mut Text) -> Result<(), Starved>
+pub(crate) fn write(alloc: Global, t: &Term, out: &mut Text) -> Result<(), Starved>
     ensures { OnOk result (out.new ≡ out.old ++ spec.text t.now) }
 {
     match t {
@@ -139,7 +140,7 @@ fn commas(alloc: Global, ts: &[Term], out: &mut Text) -> Result<(), Starved>
 }
 
 #[cycle(write)]
-pub fn between(
+pub(crate) fn between(
     alloc: Global,
     open_mark: u8,
     ts: &[Term],

@@ -1,6 +1,6 @@
 //! The texts of literals, expressions and formulas.
 //!
-//! After `Starved` a `write` may leave a part of its text in `out`; a `print` leaves `out` as it was.
+//! After `Starved` a `write` of this crate may leave a part of its text in `out`; a `print` leaves `out` as it was.
 
 ghost use Rattle.std.specs.Prelude.{◌≡◌, ◌++◌, map, OnOk, OnErr};
 ghost use Rattle.asl_term.specs.Texts as texts;
@@ -12,7 +12,7 @@ use crate::syntax::{Arg, ArgOf, Call, Expr, Formula, Literal, RelOp, Relation, T
 use std::alloc::Global;
 
 /// Appends the text of a literal.
-pub fn write_literal(alloc: Global, l: &Literal, out: &mut Text) -> Result<(), Starved>
+fn write_literal(alloc: Global, l: &Literal, out: &mut Text) -> Result<(), Starved>
     ensures { OnOk result (out.new ≡ out.old ++ spec.literal_text l.now) }
 {
     if l.neg {
@@ -38,7 +38,7 @@ fn rel_operator(op: RelOp, out: &mut Text) -> Result<(), Starved>
 }
 
 /// Appends the text of a relation.
-pub fn write_relation(alloc: Global, r: &Relation, out: &mut Text) -> Result<(), Starved>
+fn write_relation(alloc: Global, r: &Relation, out: &mut Text) -> Result<(), Starved>
     ensures { OnOk result (out.new ≡ out.old ++ spec.relation_text r.now) }
 {
     out.push(b'(')?;
@@ -53,7 +53,7 @@ pub fn write_relation(alloc: Global, r: &Relation, out: &mut Text) -> Result<(),
 /// Appends the text of an expression.
 #[cycle(write_expr)]
 #[tactic(auto, using(crate::proofs::Args::texts_of, std::proofs::lemmas::Grind::common_steps))]
-pub fn write_expr(alloc: Global, e: &Expr, out: &mut Text) -> Result<(), Starved>
+fn write_expr(alloc: Global, e: &Expr, out: &mut Text) -> Result<(), Starved>
     ensures { OnOk result (out.new ≡ out.old ++ spec.text e.now) }
 {
     match e {
@@ -113,7 +113,7 @@ fn write_args(alloc: Global, args: &[Arg], out: &mut Text) -> Result<(), Starved
 
 /// Appends the text of a call.
 #[tactic(auto, using(crate::proofs::Args::text_inner, std::proofs::lemmas::Grind::common_steps))]
-pub fn write_call(alloc: Global, c: &Call, out: &mut Text) -> Result<(), Starved>
+fn write_call(alloc: Global, c: &Call, out: &mut Text) -> Result<(), Starved>
     ensures { OnOk result (out.new ≡ out.old ++ spec.call_text c.now) }
 {
     out.push(b'.')?;
@@ -129,7 +129,7 @@ fn signed_literal(alloc: Global, sign: &[u8], l: &Literal, out: &mut Text) -> Re
 }
 
 /// Appends the text of a formula of a body.
-pub fn write_formula(alloc: Global, f: &Formula, out: &mut Text) -> Result<(), Starved>
+fn write_formula(alloc: Global, f: &Formula, out: &mut Text) -> Result<(), Starved>
     ensures { OnOk result (out.new ≡ out.old ++ spec.formula_text f.now) }
 {
     match f {

@@ -3,11 +3,13 @@
 ghost use Rattle.std.specs.Prelude.{◌≤◌, ◌<◌, ◌^◌, [], ◌∷◌, IfOk};
 ghost use Rattle.asl_resolve.specs.declared.actions.Inner.TheVariants as gives;
 
+use crate::answering::Asked;
 use crate::given::given_beliefs;
-use crate::lines::{Fault, done};
-use crate::reading::{Raws, bind_from, check_count, number_at, put_expr, term_at};
+use crate::lines::Fault;
+use crate::reading::{expr_of, number_at};
 use crate::showing::{put_between, put_counted};
 use asl_beliefs::beliefs::Beliefs;
+use asl_reading::places::Raw;
 use asl_resolve::actions::{Actions, Inner};
 use asl_resolve::all::all;
 use asl_resolve::answers::{Answer, Answers, Budgets, Spent};
@@ -16,7 +18,7 @@ use asl_term::printing::print;
 use asl_term::sequence::{Seq, Starved};
 use asl_term::syntax::{Call, Expr, Term, Text};
 use asl_unify::limits::TermFault;
-use asl_unify::subst::{Subst, copy_subst, no_subst};
+use asl_unify::subst::{Subst, copy_subst};
 use asl_unify::tree::Tree;
 use std::alloc::Global;
 
@@ -59,37 +61,26 @@ fn put_shown(alloc: Global, term: &Term, subst: &Subst, out: &mut Text) -> Resul
     }
 }
 
-fn spent_name(spent: Spent) -> &'static str {
+fn put_spent(spent: Spent, out: &mut Text) -> Result<(), Starved> {
     match spent {
-        Spent::Depth => "spent depth",
-        Spent::Tries => "spent tries",
+        Spent::Depth => out.append(b"spent depth"),
+        Spent::Tries => out.append(b"spent tries"),
     }
 }
 
 /// The first solution, and the next fresh number.
-fn put_first(
-    alloc: Global,
-    base: &Beliefs,
-    question: &Question<'_>,
-    out: &mut Text,
-) -> Result<(), Starved>
-    requires { question.now.budgets.tries < 2 ^ 32 }
+fn put_first(alloc: Global, base: &Beliefs, q: &Question<'_>, out: &mut Text) -> Result<(), Starved>
+    requires { q.now.budgets.tries < 2 ^ 32 }
 {
-    match first(
-        alloc,
-        base,
-        &Twice,
-        question.asked,
-        question.subst,
-        1,
-        &question.budgets,
-    )? {
+    match first(alloc, base, &Twice, q.asked, q.subst, 1, &q.budgets)? {
         Answer::Found { subst, next } => {
-            put_shown(alloc, question.shown, &subst, out)?;
+            let outcome = put_shown(alloc, q.shown, &subst, out);
+            drop(subst);
+            outcome?;
             put_counted(alloc, b" next", next, out)
         }
         Answer::Nothing => out.append(b"nothing"),
-        Answer::Spent(spent) => out.append(spent_name(spent).as_bytes()),
+        Answer::Spent(spent) => put_spent(spent, out),
         Answer::Arith => out.append(b"arith"),
         Answer::TermLimit => out.append(b"limit"),
     }
@@ -112,32 +103,23 @@ fn put_solutions(
 }
 
 /// All solutions.
-fn put_all(
-    alloc: Global,
-    base: &Beliefs,
-    question: &Question<'_>,
-    out: &mut Text,
-) -> Result<(), Starved>
-    requires { question.now.budgets.tries < 2 ^ 32 }
+fn put_all(alloc: Global, base: &Beliefs, q: &Question<'_>, out: &mut Text) -> Result<(), Starved>
+    requires { q.now.budgets.tries < 2 ^ 32 }
 {
-    match all(
-        alloc,
-        base,
-        &Twice,
-        question.asked,
-        question.subst,
-        1,
-        &question.budgets,
-    )? {
-        Answers::All(found) => put_solutions(alloc, question.shown, found.as_slice(), out),
-        Answers::Spent(spent) => out.append(spent_name(spent).as_bytes()),
+    match all(alloc, base, &Twice, q.asked, q.subst, 1, &q.budgets)? {
+        Answers::All(found) => {
+            let outcome = put_solutions(alloc, q.shown, found.as_slice(), out);
+            drop(found);
+            outcome
+        }
+        Answers::Spent(spent) => put_spent(spent, out),
         Answers::Arith => out.append(b"arith"),
         Answers::TermLimit => out.append(b"limit"),
     }
 }
 
 /// The budgets of a search: its third and its fourth argument, or the usual ones.
-fn budgets_of(raws: &Raws) -> Result<Budgets, Fault>
+fn budgets_of(raws: &[Raw]) -> Result<Budgets, Fault>
     ensures { IfOk result (λ b. b.tries ≤ 10_000_000) }
 {
     let depth = number_at(raws, 2, 10_000, 500)?;
@@ -145,72 +127,44 @@ fn budgets_of(raws: &Raws) -> Result<Budgets, Fault>
     Ok(Budgets { depth, tries })
 }
 
-/// Searches for the first solution or for all of them.
-fn put_search(
+/// Searches for the first solution of a formula, or for all of them.
+fn search_for(
     alloc: Global,
-    base: &Beliefs,
-    question: &Question<'_>,
-    is_first: bool,
-    out: &mut Text,
-) -> Result<(), Starved>
-    requires { question.now.budgets.tries < 2 ^ 32 }
-{
-    if is_first {
-        put_first(alloc, base, question, out)
-    } else {
-        put_all(alloc, base, question, out)
-    }
-}
-
-fn search_with(
-    alloc: Global,
-    raws: &Raws,
-    base: &Beliefs,
-    subst: &Subst,
+    asked: &Asked<'_>,
+    shown: &Term,
+    formula: &Expr,
     is_first: bool,
     out: &mut Text,
 ) -> Result<(), Fault> {
-    let budgets = budgets_of(raws)?;
-    let shown = term_at(raws, 0)?;
-    let mut exprs = Seq::new(alloc);
-    put_expr(alloc, raws, 1, &mut exprs)?;
-    let Some(asked) = exprs.at(0) else {
-        return Ok(());
-    };
+    let budgets = budgets_of(asked.raws)?;
+    let base = given_beliefs(alloc, asked.given)?;
     let question = Question {
         shown,
-        asked,
-        subst,
+        asked: formula,
+        subst: asked.subst,
         budgets,
     };
-    done(put_search(alloc, base, &question, is_first, out))
+    let outcome = if is_first {
+        put_first(alloc, &base, &question, out)
+    } else {
+        put_all(alloc, &base, &question, out)
+    };
+    drop(base);
+    Ok(outcome?)
 }
 
-fn search(
+/// Searches for the first solution of the second argument, or for all of them; the first argument is what is shown of each.
+pub fn search(
     alloc: Global,
-    raws: &Raws,
-    given: &[u8],
+    asked: &Asked<'_>,
     is_first: bool,
     out: &mut Text,
 ) -> Result<(), Fault> {
-    check_count(raws, 2, u64::MAX)?;
-    let mut subst = no_subst(alloc);
-    bind_from(alloc, raws, 4, &mut subst)?;
-    let base = given_beliefs(alloc, given)?;
-    search_with(alloc, raws, &base, &subst, is_first, out)
-}
-
-/// The calls of asl_resolve, where the name is of one.
-pub fn answer_search(
-    alloc: Global,
-    name: &str,
-    raws: &Raws,
-    given: &[u8],
-    out: &mut Text,
-) -> Option<Result<(), Fault>> {
-    match name {
-        "first" => Some(search(alloc, raws, given, true, out)),
-        "all" => Some(search(alloc, raws, given, false, out)),
-        _ => None,
-    }
+    let [Raw::Plain(shown), formula, ..] = asked.raws else {
+        return Err(Fault::Unread("an argument is no term"));
+    };
+    let formula = expr_of(alloc, formula)?;
+    let outcome = search_for(alloc, asked, shown, &formula, is_first, out);
+    drop(formula);
+    outcome
 }

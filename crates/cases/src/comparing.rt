@@ -3,7 +3,7 @@
 ghost use Rattle.std.specs.Prelude.{◌≡◌, ◌≢◌, ◌+◌, ◌==◌, ◌↔◌, IsNone, IfSome, IsTrue, count_by, take, slice_get};
 
 use crate::form::{Mode, Place, Plain, Wanted};
-use crate::lines::is_feed;
+use crate::lines::{is_feed, line_of};
 use asl_term::sequence::Starved;
 use asl_term::syntax::Text;
 
@@ -92,11 +92,33 @@ pub fn agent_lines(report: &[u8], lines: &mut Text) -> Result<(), Starved> {
     Ok(())
 }
 
+/// A line up to its last blank.
+fn front_of(line: &[u8]) -> &[u8] {
+    let mut end = 0usize;
+    for at in 0..line.len() {
+        if line[at] == b' ' {
+            end = at;
+        }
+    }
+    line.get(..end).unwrap_or(&[])
+}
+
+/// Whether a line is the wanted one, in which `#` stands for any first or any last word.
+fn is_like(wanted: &[u8], line: &[u8]) -> bool {
+    if wanted.starts_with(b"# ") {
+        return line_of(0, wanted).rest == line_of(0, line).rest;
+    }
+    if wanted.ends_with(b" #\n") {
+        return front_of(wanted) == front_of(line);
+    }
+    wanted == line
+}
+
 /// The first of these lines that the text does not have behind those before it.
 fn order_difference<'a>(lines: &'a [u8], text: &'a [u8]) -> Option<Difference<'a>> {
     let mut number = 1u64;
     for line in text.split_inclusive(is_feed) {
-        if line == line_at(lines, number) {
+        if is_like(line_at(lines, number), line) {
             number = number.saturating_add(1);
         }
     }

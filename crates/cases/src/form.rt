@@ -1,11 +1,9 @@
 //! What a file of cases holds.
 
 ghost use Rattle.std.specs.Prelude.{◌≤◌};
-ghost use Rattle.mas_report.specs.Limits.{IsWithin};
 
 use asl_term::sequence::{Seq, Starved};
 use asl_term::syntax::{Files, Numbers, Text};
-use mas_report::options::Options;
 use std::alloc::Global;
 
 /// A line of a file: its number, from 1, its first word, and what stands behind the blank that ends this word.
@@ -49,13 +47,6 @@ impl From<Starved> for Fault {
     }
 }
 
-/// Options within their limits.
-#[derive(Clone, Copy)]
-pub struct Permitted {
-    pub options: Options,
-    ghost within: { IsWithin options },
-}
-
 /// A place of what is wanted: a line of the output, or the line of a number among those that stand in order.
 #[derive(Clone, Copy)]
 pub enum Place {
@@ -73,30 +64,27 @@ pub enum Mode {
     InOrder,
 }
 
-/// What a case says in numbers and words: the most bytes a put takes, the free places of the sink, the status,
-/// whether it is the call of a project, and the place, if any, at which the call has to differ first.
+/// What a case says in numbers and words: the most bytes a put takes, the free places of the sink, the status, and the place,
+/// if any, at which the call has to differ first.
 #[derive(Clone, Copy)]
 pub struct Plain {
     pub short: u64,
     pub room: u64,
     pub status: u64,
-    pub is_project: bool,
-    pub permitted: Permitted,
     pub mode: Mode,
     pub differs: Option<Place>,
     ghost some: { 1 ≤ short },
 }
 
-/// The files of the shelf, which calls of shelf and sink fail, the words, and the names of the project and of the schedule along
-/// which it is run, empty where there is none.
+/// The files of the shelf, which calls of shelf and sink fail, the words, and the numbers of workers with each of which they are
+/// called; the words alone are called where there is none.
 #[derive(Drop)]
 pub struct Given {
     pub files: Files,
     pub shelf_fails: Numbers,
     pub sink_fails: Numbers,
     pub words: Vec<String>,
-    pub project: Text,
-    pub schedule: Text,
+    pub workers: Numbers,
 }
 
 impl Given {
@@ -106,8 +94,7 @@ impl Given {
             shelf_fails: Seq::new(alloc),
             sink_fails: Seq::new(alloc),
             words: Vec::new(alloc),
-            project: Seq::new(alloc),
-            schedule: Seq::new(alloc),
+            workers: Seq::new(alloc),
         }
     }
 }

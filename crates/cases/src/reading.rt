@@ -2,17 +2,17 @@
 
 ghost use Rattle.std.specs.Prelude.{◌≡◌, ◌≢◌, ◌++◌, ◌∷◌, [], OnOk};
 
-use crate::form::{Entry, Fault, Given, Line, Mode, Permitted, Place, Plain, Section, Wanted};
+use crate::form::{Entry, Fault, Given, Line, Mode, Place, Plain, Section, Wanted};
 use crate::lines::{
     check_case, check_name, check_refused, entry_at, fault_at, find, has_word, is_feed, is_head,
     line_of, section_at,
 };
 use crate::values::{
-    calls_into, lines_into, number, number_at, put_named, put_pieces, text_at, text_into,
+    lines_into, number, number_at, numbers_into, put_named, put_pieces, text_at, text_into,
 };
 use asl_term::copying::text_of;
 use asl_term::sequence::{Seq, Starved};
-use asl_term::syntax::{Filed, Files, Text};
+use asl_term::syntax::{Filed, Files, Numbers, Text};
 use mas_mind::mind::Level;
 use mas_report::options::Options;
 use std::alloc::Global;
@@ -29,6 +29,15 @@ const PROJECT_TEXT: &str = "MAS m { environment: w agents: solo a.asl; }";
 
 /// The name of the file that `schedule` makes.
 const SCHEDULE_NAME: &str = "s.txt";
+
+/// The keys of the options of a run, with their words.
+const OPTIONS: [(&str, &str); 5] = [
+    ("cycles", "--cycles"),
+    ("lead", "--lead"),
+    ("depth", "--depth"),
+    ("tries", "--tries"),
+    ("level", "--level"),
+];
 
 /// The keys of which each makes a case the call of a project.
 const PROJECT_KEYS: [&str; 7] = [
@@ -51,19 +60,27 @@ fn level_of(section: &Section<'_>) -> Result<Level, Fault> {
 }
 
 /// The options that the case has, and the usual ones for those that it leaves out.
-fn options_of(section: &Section<'_>) -> Result<Permitted, Fault> {
-    let options = Options {
+fn options_of(section: &Section<'_>) -> Result<Options, Fault> {
+    Ok(Options {
         cycles: number_at(section, "cycles", 1, 1_000_000, 1000)?,
         lead: number_at(section, "lead", 1, 1000, 8)?,
         depth: number_at(section, "depth", 1, 10_000, 500)?,
         tries: number_at(section, "tries", 1, 10_000_000, 100_000)?,
         level: level_of(section)?,
-    };
-    Ok(Permitted { options })
+    })
 }
 
 fn put_word(alloc: Global, word: &str, words: &mut Vec<String>) -> Result<(), Starved> {
     words.push(word.to_string(alloc)?)?;
+    Ok(())
+}
+
+/// The word of these bytes.
+fn put_bytes(alloc: Global, line: u64, bytes: &[u8], words: &mut Vec<String>) -> Result<(), Fault> {
+    match std::str::from_utf8(bytes) {
+        Ok(word) => put_word(alloc, word, words)?,
+        Err(_) => return Err(fault_at(line, "a word is no text")),
+    }
     Ok(())
 }
 
@@ -95,10 +112,7 @@ fn words_into(alloc: Global, section: &Section<'_>, words: &mut Vec<String>) -> 
     let mut text = Seq::new(alloc);
     lines_into(&entry, &mut text)?;
     for line in text.as_slice().split_inclusive(is_feed) {
-        match std::str::from_utf8(without_feed(line)) {
-            Ok(word) => put_word(alloc, word, words)?,
-            Err(_) => return Err(fault_at(entry.number, "a word is no text")),
-        }
+        put_bytes(alloc, entry.number, without_feed(line), words)?;
     }
     Ok(())
 }
@@ -112,23 +126,63 @@ fn is_of_project(section: &Section<'_>) -> bool {
     false
 }
 
-/// Whether the case is the call of a project, with its words or its name.
-fn ask_into(alloc: Global, section: &Section<'_>, given: &mut Given) -> Result<bool, Fault> {
+/// The word of a project: what stands under `project`, or the usual name.
+fn project_into(
+    alloc: Global,
+    section: &Section<'_>,
+    words: &mut Vec<String>,
+) -> Result<(), Fault> {
+    let mut name = Seq::new(alloc);
+    if find(section, "project").is_none() {
+        name.append(usual_project(section).as_bytes())?;
+    }
+    text_at(section, "project", &mut name)?;
+    put_bytes(alloc, section.number, name.as_slice(), words)
+}
+
+/// The words of a run of a project, or of its replay where there is a schedule, with the options that the case has. One worker
+/// makes the run, where the case does not tell how many.
+fn project_words_into(
+    alloc: Global,
+    section: &Section<'_>,
+    words: &mut Vec<String>,
+) -> Result<(), Fault> {
+    let replays = has_word(section.body, b"schedule");
+    put_word(alloc, if replays { "replay" } else { "run" }, words)?;
+    project_into(alloc, section, words)?;
+    if replays {
+        put_word(alloc, SCHEDULE_NAME, words)?;
+    }
+    for (key, option) in &OPTIONS {
+        if let Some(entry) = find(section, *key) {
+            put_word(alloc, *option, words)?;
+            put_bytes(alloc, entry.number, entry.rest, words)?;
+        }
+    }
+    if !replays && find(section, "workers").is_none() {
+        put_word(alloc, "--workers", words)?;
+        put_word(alloc, "1", words)?;
+    }
+    Ok(())
+}
+
+/// The words that are called.
+fn ask_into(alloc: Global, section: &Section<'_>, words: &mut Vec<String>) -> Result<(), Fault> {
     if !is_of_project(section) {
-        words_into(alloc, section, &mut given.words)?;
-        return Ok(false);
+        return words_into(alloc, section, words);
     }
     if let Some(entry) = find(section, "words") {
         return Err(fault_at(entry.number, "words stand beside project or options"));
     }
-    if find(section, "project").is_none() {
-        given.project.append(usual_project(section).as_bytes())?;
+    project_words_into(alloc, section, words)
+}
+
+/// The numbers of workers, which no replay has.
+fn workers_into(section: &Section<'_>, workers: &mut Numbers) -> Result<(), Fault> {
+    match (find(section, "workers"), find(section, "schedule")) {
+        (Some(entry), Some(_)) => Err(fault_at(entry.number, "workers stand beside a schedule")),
+        _ => numbers_into(section, "workers", 64, workers),
     }
-    text_at(section, "project", &mut given.project)?;
-    if has_word(section.body, b"schedule") {
-        given.schedule.append(SCHEDULE_NAME.as_bytes())?;
-    }
-    Ok(true)
 }
 
 /// What a file holds that has a name of its own, and this name.
@@ -348,20 +402,20 @@ pub fn read_case(
     wanted: &mut Wanted,
 ) -> Result<Plain, Fault> {
     check_case(section)?;
-    let permitted = options_of(section)?;
+    let options = options_of(section)?;
     files_into(alloc, section, &mut given.files)?;
-    calls_into(section, "shelf_fails", &mut given.shelf_fails)?;
-    calls_into(section, "sink_fails", &mut given.sink_fails)?;
+    numbers_into(section, "shelf_fails", 1_000_000, &mut given.shelf_fails)?;
+    numbers_into(section, "sink_fails", 1_000_000, &mut given.sink_fails)?;
+    ask_into(alloc, section, &mut given.words)?;
+    workers_into(section, &mut given.workers)?;
     text_at(section, "fault", &mut wanted.fault)?;
     end_line(&mut wanted.fault)?;
     Ok(Plain {
         short: number_at(section, "short", 1, 1_000_000, 1_000_000)?,
         room: number_at(section, "room", 0, 10_000_000, 100_000)?,
         status: number_at(section, "status", 0, 255, 0)?,
-        is_project: ask_into(alloc, section, given)?,
-        mode: output_into(alloc, section, &permitted.options, &mut wanted.output)?,
+        mode: output_into(alloc, section, &options, &mut wanted.output)?,
         differs: differs_of(section)?,
-        permitted,
     })
 }
 

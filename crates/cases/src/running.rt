@@ -3,32 +3,24 @@
 ghost use Rattle.std.specs.Prelude.{◌≡◌, ◌≤◌, IfOk, OnOk};
 
 use crate::comparing::{Difference, Got, agent_lines, first_difference, passes};
-use crate::form::{Fault, Given, Mode, Permitted, Place, Plain, Section, Wanted};
+use crate::form::{Fault, Given, Mode, Place, Plain, Section, Wanted};
 use crate::lines::{is_feed, read_lines};
 use crate::reading::{check_file, read_case, read_refused};
 use crate::telling::{put_difference, put_fault, put_place};
+use crate::values::put_named;
 use asl_term::copying::{copy_text, text_of};
 use asl_term::room::Roomy;
 use asl_term::sequence::{Seq, Starved};
-use asl_term::syntax::{Filed, Files, Text};
-use mas_artifact::belt::Belt;
-use mas_artifact::slot::Slot;
-use mas_artifact::tally::Tally;
+use asl_term::syntax::{Filed, Files, Numbers, Text};
+use mas_artifact::opening::all_kinds;
+use mas_going::gate::OpenGate;
 use mas_io::memory::{MemoryShelf, MemorySink, memory_shelf, memory_sink};
 use mas_reading::status::{Status, code, fault_line};
-use mas_top::top::{replay_project, run_project, run_words};
+use mas_top::top::run_words;
 use mas_world::artifact::Artifact;
 use std::alloc::Global;
 use std::sync::Wait;
 use std::thread::Threads;
-
-/// What is asked for: words, or a project and the schedule along which it is run.
-#[derive(Drop)]
-struct Asked {
-    words: Vec<String>,
-    project: Text,
-    schedule: Text,
-}
 
 /// Takes free places with blanks, until so many are left.
 fn fill(room: &mut Roomy<u8>, places: u64) -> Result<(), Starved>
@@ -51,50 +43,22 @@ fn room_of(alloc: Global, places: u64) -> Result<Roomy<u8>, Starved>
     Ok(room)
 }
 
-/// The name, where there is one.
-fn name_if(name: &Text) -> Option<&Text> {
-    if name.len() == 0 { None } else { Some(name) }
-}
+/// The name of the file of the schedule that a report prints.
+const PRINTED: &str = "the printed schedule";
 
-/// A call: that of words, or of a project, or of one along a schedule.
-#[derive(Clone, Copy)]
-enum Call<'a> {
-    Words(&'a [String]),
-    Run(&'a Text),
-    Replay(&'a Text, &'a Text),
-}
-
-fn call_of<'a>(plain: &Plain, asked: &'a Asked) -> Call<'a> {
-    if !plain.is_project {
-        return Call::Words(asked.words.as_slice());
-    }
-    match name_if(&asked.schedule) {
-        None => Call::Run(&asked.project),
-        Some(schedule) => Call::Replay(&asked.project, schedule),
-    }
-}
-
-/// Makes the call, with a tally, a slot and a belt.
+/// Calls the words, with a tally, a slot and a belt.
 fn make<R: Threads + Wait + Sync>(
     rt: &R,
     alloc: Global,
-    permitted: &Permitted,
-    call: Call<'_>,
+    words: &[String],
     shelf: &mut MemoryShelf,
     sink: &mut MemorySink,
 ) -> Result<Status, Starved> {
     let mut all: Vec<Box<dyn Artifact + Send>> = Vec::new(alloc);
-    all.push(Box::new(alloc, Tally::new(alloc)?)?)?;
-    all.push(Box::new(alloc, Slot::new(alloc)?)?)?;
-    all.push(Box::new(alloc, Belt::new(alloc)?)?)?;
-    let o = &permitted.options;
-    Ok(match call {
-        Call::Words(words) => run_words(rt, alloc, words, shelf, sink, all),
-        Call::Run(project) => run_project(rt, alloc, o, project, shelf, sink, all),
-        Call::Replay(project, schedule) => {
-            replay_project(rt, alloc, o, project, schedule, shelf, sink, all)
-        }
-    })
+    for kind in all_kinds(alloc)? {
+        all.push(Box::new(alloc, kind)?)?;
+    }
+    Ok(run_words(rt, alloc, words, shelf, sink, &OpenGate, all))
 }
 
 /// What of the output is compared.
@@ -196,43 +160,84 @@ fn schedule_of(report: &[u8]) -> &[u8] {
     report.get(before..).unwrap_or(&[])
 }
 
-/// The project that was run, where one was and its report was written whole.
-fn project_run(
-    alloc: Global,
-    plain: &Plain,
-    asked: Asked,
-    status: u8,
-) -> Result<Option<Text>, Starved> {
-    if status != 0 && status != 8 {
+fn copy_numbers(alloc: Global, numbers: &Numbers) -> Result<Numbers, Starved> {
+    let mut all = Seq::new(alloc);
+    for number in numbers.as_slice() {
+        all.push(*number)?;
+    }
+    Ok(all)
+}
+
+fn put_copy(alloc: Global, word: &str, words: &mut Vec<String>) -> Result<(), Starved> {
+    words.push(word.to_string(alloc)?)?;
+    Ok(())
+}
+
+/// These words, and then how many workers there are.
+fn with_workers(alloc: Global, words: &[String], workers: u64) -> Result<Vec<String>, Starved> {
+    let mut all = Vec::new(alloc);
+    for word in words {
+        put_copy(alloc, word.as_str(), &mut all)?;
+    }
+    let mut digits = Seq::new(alloc);
+    put_named(alloc, "", workers, &mut digits)?;
+    put_copy(alloc, "--workers", &mut all)?;
+    if let Ok(digits) = std::str::from_utf8(digits.as_slice()) {
+        put_copy(alloc, digits, &mut all)?;
+    }
+    Ok(all)
+}
+
+/// The options among the words of a run, but for the number of workers, which a replay has not.
+fn put_options(alloc: Global, options: &[String], words: &mut Vec<String>) -> Result<(), Starved> {
+    let mut passes = false;
+    for option in options {
+        let option = option.as_str();
+        if option == "--workers" {
+            passes = true;
+        } else if passes {
+            passes = false;
+        } else if !option.starts_with("--workers=") {
+            put_copy(alloc, option, words)?;
+        }
+    }
+    Ok(())
+}
+
+/// The words of the replay along the schedule that is printed, of words that name the project first, and then options.
+fn replay_words(alloc: Global, words: &[String]) -> Result<Option<Vec<String>>, Starved> {
+    let (project, options) = match words {
+        [command, project, options @ ..] if command.as_str() == "run" => (project, options),
+        [command, project, _, options @ ..] if command.as_str() == "replay" => (project, options),
+        _ => return Ok(None),
+    };
+    if project.as_str().starts_with("-") {
         return Ok(None);
     }
-    if plain.is_project {
-        return Ok(Some(asked.project));
-    }
-    match asked.words.as_slice() {
-        [command, project] if command.as_str() == "run" => Ok(Some(text_of(
-            alloc,
-            project.as_str().as_bytes(),
-        )?)),
-        _ => Ok(None),
-    }
+    let mut all = Vec::new(alloc);
+    put_copy(alloc, "replay", &mut all)?;
+    put_copy(alloc, project.as_str(), &mut all)?;
+    put_copy(alloc, PRINTED, &mut all)?;
+    put_options(alloc, options, &mut all)?;
+    Ok(Some(all))
 }
 
 /// Whether a run along the schedule that the report prints writes the report again, and ends as the run did; if not, why, in `reason`.
 fn is_again<R: Threads + Wait + Sync>(
     rt: &R,
     alloc: Global,
-    plain: &Plain,
-    asked: Asked,
-    files: Files,
+    words: &[String],
+    files: &Files,
     done: &Done<'_>,
     reason: &mut Text,
 ) -> Result<bool, Starved> {
-    let Some(project) = project_run(alloc, plain, asked, done.status)? else {
+    if done.status != 0 && done.status != 8 {
+        return Ok(true);
+    }
+    let Some(words) = replay_words(alloc, words)? else {
         return Ok(true);
     };
-    let name = text_of(alloc, b"the printed schedule")?;
-    let again = replayed(rt, alloc, plain, &project, &name, files, done)?;
+    let again = replayed(rt, alloc, words.as_slice(), files, done)?;
     if !again {
         reason.append(b"its replay differs")?;
     }
@@ -242,54 +247,40 @@ fn is_again<R: Threads + Wait + Sync>(
 fn replayed<R: Threads + Wait + Sync>(
     rt: &R,
     alloc: Global,
-    plain: &Plain,
-    project: &Text,
-    name: &Text,
-    files: Files,
+    words: &[String],
+    files: &Files,
     done: &Done<'_>,
 ) -> Result<bool, Starved> {
-    let mut files = files;
+    let mut files = copy_files(alloc, files)?;
     files.push(Filed {
-        name: copy_text(alloc, name)?,
+        name: text_of(alloc, PRINTED.as_bytes())?,
         bytes: text_of(alloc, schedule_of(done.written))?,
     })?;
     let mut shelf = memory_shelf(files, Seq::new(alloc));
     let mut room = Roomy::new(alloc);
     room.reserve(done.written.len() as u64)?;
     let mut sink = memory_sink(room, 1_000_000, Seq::new(alloc));
-    let call = Call::Replay(project, name);
-    let status = make(rt, alloc, &plain.permitted, call, &mut shelf, &mut sink)?;
+    let status = make(rt, alloc, words, &mut shelf, &mut sink)?;
     Ok(code(&status) == done.status && sink.written() == done.written)
 }
 
-fn run<R: Threads + Wait + Sync>(
+/// Whether the call of these words does what the case wants, and so does the replay of its schedule.
+fn run_once<R: Threads + Wait + Sync>(
     rt: &R,
     alloc: Global,
     plain: &Plain,
-    given: Given,
+    given: &Given,
+    words: &[String],
     wanted: &Wanted,
     reason: &mut Text,
 ) -> Result<bool, Starved> {
     let room = room_of(alloc, plain.room)?;
     let blanks = room.len() as usize;
-    let Given {
-        files,
-        shelf_fails,
-        sink_fails,
-        words,
-        project,
-        schedule,
-    } = given;
-    let asked = Asked {
-        words,
-        project,
-        schedule,
-    };
-    let again = copy_files(alloc, &files)?;
-    let mut shelf = memory_shelf(files, shelf_fails);
-    let mut sink = memory_sink(room, plain.short, sink_fails);
-    let call = call_of(plain, &asked);
-    let status = make(rt, alloc, &plain.permitted, call, &mut shelf, &mut sink)?;
+    let fails = copy_numbers(alloc, &given.shelf_fails)?;
+    let mut shelf = memory_shelf(copy_files(alloc, &given.files)?, fails);
+    let fails = copy_numbers(alloc, &given.sink_fails)?;
+    let mut sink = memory_sink(room, plain.short, fails);
+    let status = make(rt, alloc, words, &mut shelf, &mut sink)?;
     let written = sink.written().get(blanks..).unwrap_or(&[]);
     if !judge_end(alloc, plain, wanted, &status, written, reason)? {
         return Ok(false);
@@ -298,7 +289,32 @@ fn run<R: Threads + Wait + Sync>(
         status: code(&status),
         written,
     };
-    is_again(rt, alloc, plain, asked, again, &done, reason)
+    is_again(rt, alloc, words, &given.files, &done, reason)
+}
+
+/// Calls the words, with each of the numbers of workers where the case tells some.
+fn run<R: Threads + Wait + Sync>(
+    rt: &R,
+    alloc: Global,
+    plain: &Plain,
+    given: &Given,
+    wanted: &Wanted,
+    reason: &mut Text,
+) -> Result<bool, Starved> {
+    let words = given.words.as_slice();
+    if given.workers.len() == 0 {
+        return run_once(rt, alloc, plain, given, words, wanted, reason);
+    }
+    for workers in given.workers.as_slice() {
+        reason.truncate(0);
+        put_named(alloc, "workers ", *workers, reason)?;
+        reason.append(b": ")?;
+        let words = with_workers(alloc, words, *workers)?;
+        if !run_once(rt, alloc, plain, given, words.as_slice(), wanted, reason)? {
+            return Ok(false);
+        }
+    }
+    Ok(true)
 }
 
 /// Runs a case, and tells whether it passed; if not, why, in `reason`.
@@ -310,7 +326,7 @@ pub fn run_case<R: Threads + Wait + Sync>(
 ) -> Result<bool, Fault> {
     let (mut given, mut wanted) = (Given::new(alloc), Wanted::new(alloc));
     let plain = read_case(alloc, section, &mut given, &mut wanted)?;
-    match run(rt, alloc, &plain, given, &wanted, reason) {
+    match run(rt, alloc, &plain, &given, &wanted, reason) {
         Ok(is_passed) => Ok(is_passed),
         Err(starved) => Err(Fault::from(starved)),
     }

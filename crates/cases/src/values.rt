@@ -54,13 +54,18 @@ pub fn number_at(
     }
 }
 
-/// The numbers of the calls that fail.
-pub fn calls_into(section: &Section<'_>, key: &str, calls: &mut Numbers) -> Result<(), Fault> {
+/// The numbers under this key, if any, with a blank between two.
+pub fn numbers_into(
+    section: &Section<'_>,
+    key: &str,
+    high: u64,
+    numbers: &mut Numbers,
+) -> Result<(), Fault> {
     let Some(entry) = find(section, key) else {
         return Ok(());
     };
     for digits in entry.rest.split(is_blank) {
-        calls.push(number(entry.number, digits, 1, 1_000_000)?)?;
+        numbers.push(number(entry.number, digits, 1, high)?)?;
     }
     Ok(())
 }

@@ -130,7 +130,7 @@ one_statement m n xs r s h p q = within_is r s (some_is (hold_statement unlimite
 
 -- ---- the whole
 
-answers : (artifacts : List (List ℕ)) (ts : List Tok) → Answers artifacts 1 nothing (pieces is_end ts) (answer_by artifacts 1 nothing (pieces is_end ts))
+pub answers : (artifacts : List (List ℕ)) (ts : List Tok) → Answers artifacts 1 nothing (pieces is_end ts) (answer_by artifacts 1 nothing (pieces is_end ts))
 answers artifacts ts = answer_is artifacts 1 nothing (pieces is_end ts) (none_empty ts)
 
 given : (artifacts : List (List ℕ)) (bytes : List ℕ) (ts : List Tok) → AreTokens bytes ts → (r : Result WorldText WorldFault) → answer_by artifacts 1 nothing (pieces is_end ts) ≡ r → HasAnswer artifacts bytes r
@@ -157,7 +157,7 @@ module _ (w : WorldText) (k : ℕ) (t : Tok) (fault : LexFault) where
   made_lex artifacts (statement.Use name) e = use_lex name (has_name w.uses name) (has_name artifacts name) e
   made_lex artifacts (statement.Act a) e = bound_lex a (said_parts a.guard) (unbound a (said_parts a.guard)) e
 
-never_lex : {artifacts : List (List ℕ)} {k : ℕ} {w : WorldText} {ps : List (List Tok)} {fault : LexFault} → Answers artifacts k w ps (Err (Lex fault)) → ⊥
+pub never_lex : {artifacts : List (List ℕ)} {k : ℕ} {w : WorldText} {ps : List (List Tok)} {fault : LexFault} → Answers artifacts k w ps (Err (Lex fault)) → ⊥
 never_lex {artifacts} {k} {w} {fault = fault} (is_refused {t = t} {s = s} h r e m) = made_lex w k t fault artifacts s m
 never_lex (is_read h r e m a) = never_lex a
 

@@ -7,8 +7,12 @@ pub mod Bounded
 pub mod Effects
 pub mod Answered
 pub mod Single
+pub mod Total
 pub mod Lists
 pub mod Facts
 pub mod Ground
 pub mod Bare
 pub mod Opened
+pub mod Values
+pub mod Known
+pub mod Unbound

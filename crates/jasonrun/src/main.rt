@@ -2,9 +2,8 @@
 #![tactic(auto)]
 
 use asl_term::sequence::Starved;
-use mas_artifact::belt::Belt;
-use mas_artifact::slot::Slot;
-use mas_artifact::tally::Tally;
+use mas_artifact::opening::all_kinds;
+use mas_going::gate::OpenGate;
 use mas_io::real::{FileShelf, OutSink};
 use mas_reading::status::{Status, code, fault_line};
 use mas_top::top::run_words;
@@ -42,19 +41,19 @@ fn tell(rt: &HostRuntime, status: &Status) {
     }
 }
 
-/// Does what the words ask for, over real files and output, with a tally, a slot and a belt.
+/// Does what the words ask for, over real files and output, with a tally, a slot and a belt, and the gate that lets pass.
 fn run<R: Files + Print + AllocGlobal + Threads + Wait + Sync>(
     rt: &R,
     words: &[String],
 ) -> Result<Status, Starved> {
     let alloc = rt.alloc();
     let mut all: Vec<Box<dyn Artifact + Send>> = Vec::new(alloc);
-    all.push(Box::new(alloc, Tally::new(alloc)?)?)?;
-    all.push(Box::new(alloc, Slot::new(alloc)?)?)?;
-    all.push(Box::new(alloc, Belt::new(alloc)?)?)?;
+    for kind in all_kinds(alloc)? {
+        all.push(Box::new(alloc, kind)?)?;
+    }
     let mut shelf = FileShelf::new(rt);
     let mut sink = OutSink::new(rt);
-    Ok(run_words(rt, alloc, words, &mut shelf, &mut sink, all))
+    Ok(run_words(rt, alloc, words, &mut shelf, &mut sink, &OpenGate, all))
 }
 
 fn main(rt: HostRuntime) -> ExitCode {

@@ -2,10 +2,10 @@
 
 ghost use Rattle.std.specs.Prelude.{◌≡◌, ◌∷◌, ◌++◌, [], codes, is_some, IfOk, OnErr};
 ghost use Rattle.asl_unify.specs.Puts.{list_of};
+ghost use Rattle.mas_artifact.specs.Opening.{first_belt};
 ghost use Rattle.mas_artifact.specs.States as states;
 ghost use Rattle.mas_artifact.specs.Tables as tables;
 ghost use Rattle.mas_world.specs.Guards as guards;
-ghost use Rattle.mas_world.specs.Worlds as spec;
 
 use crate::frames::{is_call, unary};
 use asl_term::boxed::Boxed;
@@ -47,8 +47,8 @@ impl Model for Belt {
 impl Belt {
     /// A belt with nothing on it.
     #[tactic(auto, using(crate::proofs::Rows::none_kept))]
-    pub fn new(alloc: Global) -> Result<Belt, Starved>
-        ensures { IfOk result (λ s. s ≡ spec.used (codes "belt") tables.belt_table (tables.belt (tables.list []) ∷ [])) }
+    pub(crate) fn new(alloc: Global) -> Result<Belt, Starved>
+        ensures { IfOk result (λ s. s ≡ first_belt) }
     {
         let name = text_of(alloc, b"belt")?;
         Ok(Belt {

@@ -3,5 +3,7 @@
 
 pub mod belt;
 pub mod frames;
+pub mod kinds;
+pub mod opening;
 pub mod slot;
 pub mod tally;

@@ -1,9 +1,8 @@
 //! A slot: idle, or held by an agent.
 
-ghost use Rattle.std.specs.Prelude.{◌≡◌, ◌∷◌, [], codes, None, IfOk, OnErr};
+ghost use Rattle.std.specs.Prelude.{◌≡◌, IfOk, OnErr};
+ghost use Rattle.mas_artifact.specs.Opening.{first_slot};
 ghost use Rattle.mas_artifact.specs.States as states;
-ghost use Rattle.mas_artifact.specs.Tables as tables;
-ghost use Rattle.mas_world.specs.Worlds as spec;
 
 use crate::frames::{atom, is_call, unary};
 use asl_term::compare::same_text;
@@ -39,8 +38,8 @@ impl Model for Slot {
 
 impl Slot {
     /// An idle slot.
-    pub fn new(alloc: Global) -> Result<Slot, Starved>
-        ensures { IfOk result (λ s. s ≡ spec.used (codes "slot") tables.slot_table (tables.slot tables.idle ∷ [])) }
+    pub(crate) fn new(alloc: Global) -> Result<Slot, Starved>
+        ensures { IfOk result (λ s. s ≡ first_slot) }
     {
         let name = text_of(alloc, b"slot")?;
         Ok(Slot { name, holder: None })

@@ -1,11 +1,11 @@
 //! A tally: a number that grows.
 
-ghost use Rattle.std.specs.Prelude.{◌≡◌, ◌≤ℤ◌, ◌∷◌, [], codes, pos, IfOk, OnErr};
+ghost use Rattle.std.specs.Prelude.{◌≡◌, ◌≤ℤ◌, IfOk, OnErr};
 ghost use Rattle.asl_term.specs.declared.syntax.Term.TheVariants as term;
 ghost use Rattle.std.specs.Option.{option_and_then};
+ghost use Rattle.mas_artifact.specs.Opening.{first_tally};
 ghost use Rattle.mas_artifact.specs.States as states;
 ghost use Rattle.mas_artifact.specs.Tables as tables;
-ghost use Rattle.mas_world.specs.Worlds as spec;
 
 use crate::frames::{is_call, unary};
 use asl_term::boxed::Boxed;
@@ -47,8 +47,8 @@ impl Model for Tally {
 
 impl Tally {
     /// A tally of nothing.
-    pub fn new(alloc: Global) -> Result<Tally, Starved>
-        ensures { IfOk result (λ s. s ≡ spec.used (codes "tally") tables.tally_table (tables.tally (term.Num (pos 0)) ∷ [])) }
+    pub(crate) fn new(alloc: Global) -> Result<Tally, Starved>
+        ensures { IfOk result (λ s. s ≡ first_tally) }
     {
         let name = text_of(alloc, b"tally")?;
         Ok(Tally { name, count: 0 })

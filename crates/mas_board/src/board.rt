@@ -9,7 +9,7 @@ ghost use Rattle.mas_board.specs.Seating as kept;
 ghost use Rattle.mas_board.specs.declared.seats.Phase.TheVariants.{Idle, Busy};
 
 use crate::mail::{look_round, make_room, put_all};
-use crate::seats::{Phase, Seat, Sensed, open_seats, seat_of, set_seat};
+use crate::seats::{Phase, Place, Sensed, open_seats, seat_of, set_seat};
 use asl_term::names::Names;
 use asl_term::room::Roomy;
 use asl_term::sequence::{Seq, Starved};
@@ -25,8 +25,7 @@ use std::mem;
 
 /// What all agents of a run share: their names, the world, their mail, and where each of them stands; and the
 /// schedule of the turns that were made. An agent is idle at first; a Sense makes it busy, or it leaves; an Emit
-/// makes a busy agent idle again, and a Leave ends its part. There is no mark yet that halts all agents.
-#[derive(Drop)]
+/// makes a busy agent idle again, and a Leave ends its part. Once the board is halted no Sense makes a turn.
 pub struct Board<A: Artifact> {
     names: Names,
     world: World<A>,
@@ -35,8 +34,27 @@ pub struct Board<A: Artifact> {
     stop: bool,
     cycles: u64,
     lead: u64,
-    seats: Seq<Seat>,
+    seats: Seq<Place>,
     schedule: Roomy<u64>,
+    halted: bool,
+}
+
+/// By hand, so that a crate above that lets a board go proves nothing of its parts.
+impl<A: Artifact> Drop for Board<A> {
+    fn drop(self) {
+        let Board {
+            names: _,
+            world: _,
+            mail: _,
+            version: _,
+            stop: _,
+            cycles: _,
+            lead: _,
+            seats: _,
+            schedule: _,
+            halted: _,
+        } = self;
+    }
 }
 
 impl<A: Artifact> Model for Board<A> {
@@ -63,6 +81,7 @@ impl<A: Artifact> Model for Board<A> {
         seats = b.seats;
       };
       schedule = b.schedule.list;
+      halted = b.halted;
     } };
 
     ghost invariant = { λ b. IsBoard (record {
@@ -77,6 +96,7 @@ impl<A: Artifact> Model for Board<A> {
         seats = b.seats;
       };
       schedule = b.schedule.list;
+      halted = b.halted;
     }) b.schedule.spare };
 }
 
@@ -125,10 +145,10 @@ fn version_after(version: u64, feedback: Option<Feedback>, messages: &[Message])
 }
 
 /// The seat of an agent after its Emit.
-fn rested(seat: Seat, quiet: bool) -> Seat
+fn rested(seat: Place, quiet: bool) -> Place
     ensures { result ≡ spec.rested seat quiet }
 {
-    Seat {
+    Place {
         phase: Phase::Idle,
         cycle: seat.cycle,
         mark: if quiet { Some(seat.kept) } else { None },
@@ -159,7 +179,7 @@ pub fn open_board<A: Artifact>(
     lead: u64,
 ) -> Result<Board<A>, Starved>
     requires { kept.AreLimits (length names) cycles lead }
-    ensures { IfOk result (λ b. b ≡ record { state = spec.opening names world cycles lead; schedule = [] }) }
+    ensures { IfOk result (λ b. b ≡ record { state = spec.opening names world cycles lead; schedule = []; halted = false }) }
 {
     let agents = names.len();
     let mail = post(alloc, agents)?;
@@ -176,6 +196,7 @@ pub fn open_board<A: Artifact>(
         lead,
         seats,
         schedule,
+        halted: false,
     })
 }
 
@@ -188,7 +209,7 @@ impl<A: Artifact> Board<A> {
     {
         note(&mut self.schedule, a);
         let seat = seat_of(&self.seats, a);
-        let left = Seat {
+        let left = Place {
             phase: Phase::Left(end),
             cycle: seat.cycle,
             mark: seat.mark,
@@ -205,6 +226,7 @@ impl<A: Artifact> Board<A> {
         ensures given { IfOk result (λ i. i ≡ spec.input_of self.old.state a) }
         ensures begun { IfOk result (kept.HasBegun self.old.state self.new.state a) }
         ensures schedule { OnOk result (self.new.schedule ≡ self.old.schedule ++ a ∷ []) }
+        ensures halted { OnOk result (self.new.halted ≡ self.old.halted) }
         ensures refused { OnErr result (self.new ≡ self.old) }
     {
         let Some(name) = self.names.at(a) else {
@@ -215,7 +237,7 @@ impl<A: Artifact> Board<A> {
         note(&mut self.schedule, a);
         let message = self.mail.take(a);
         let seat = seat_of(&self.seats, a);
-        let busy = Seat {
+        let busy = Place {
             phase: Phase::Busy,
             cycle: seat.cycle + 1,
             mark: None,
@@ -225,16 +247,19 @@ impl<A: Artifact> Board<A> {
         Ok(Input { percepts, message })
     }
 
-    /// The turn of an idle agent: it is given its input, it leaves, or it has to wait. Where it is given no input no
-    /// memory is taken.
+    /// The turn of an idle agent: it is given its input, it leaves, or it has to wait; on a halted board nothing
+    /// happens. Where it is given no input no memory is taken.
     #[tactic(auto, using(crate::proofs::Soundness::below_limit))]
     pub fn sense(&mut self, alloc: Global, a: u32) -> Result<Sensed, Starved>
         requires idle { kept.IsAt self.old.state a Idle }
         ensures sensed { IfOk result (kept.HasSensed self.old self.new a) }
-        ensures leaves { IfOk result (kept.SenseLeaves self.old.state self.new.state a) }
-        ensures memory { kept.is_input (spec.sense self.old.state a).0 ≡ false → IsOk result }
+        ensures leaves { IfOk result (kept.SenseLeaves self.old self.new a) }
+        ensures memory { kept.is_input (kept.sense self.old a).0 ≡ false → IsOk result }
         ensures refused { OnErr result (self.new ≡ self.old) }
     {
+        if self.halted {
+            return Ok(Sensed::Halted);
+        }
         let seat = seat_of(&self.seats, a);
         if seat.cycle == self.cycles {
             self.go(a, End::Cycles);
@@ -303,6 +328,13 @@ impl<A: Artifact> Board<A> {
         ensures { kept.HasLeft self.old self.new a End.Budget }
     {
         self.go(a, End::Budget);
+    }
+
+    /// Halts the board. It takes no memory.
+    pub fn halt(&mut self)
+        ensures { self.new ≡ kept.halt self.old }
+    {
+        self.halted = true;
     }
 
     /// Where an agent is.

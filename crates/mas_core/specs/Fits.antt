@@ -3,9 +3,10 @@ use Rattle.std.specs.Prelude.{ℕ, ◌≡◌, ◌-◌, Bool, true, false, if◌t
 use Rattle.mas_mind.specs.declared.mind.Input.{Input}
 use Rattle.mas_mind.specs.declared.mind.Thought.{Thought}
 use Rattle.mas_mind.specs.Minds.{Kind, IsAgent, AreLawful, asks_feedback}
+use Rattle.mas_mind.specs.Thoughts.{Thinks}
 use Rattle.mas_board.specs.declared.seats.Phase.{Phase}
 use Rattle.mas_board.specs.declared.seats.Phase.TheVariants.{Idle, Busy, Left as Gone}
-use Rattle.mas_board.specs.declared.seats.Seat.{Seat}
+use Rattle.mas_board.specs.declared.seats.Place.{Place}
 use Rattle.mas_board.specs.Boards.{State, Noted, seat_at, seat_of}
 use Rattle.mas_core.specs.Platform.{Platform}
 
@@ -24,9 +25,10 @@ pub record AreMindsOf {V : Type 0} (k : Kind V) (s : State) (minds : List V) : T
   pub number : length minds ≡ length s.seats
   pub each : (a : ℕ) → IsAgent (length s.seats) a → IfSome (slice_get minds (a - 1)) (IsMindOf k s a)
 
--- a board on which no turn was made, and the minds of its agents
+-- a board on which no turn was made, and which was not halted, and the minds of its agents
 pub record Start {V : Type 0} (k : Kind V) (b : Noted) (minds : List V) : Type 0 where
   pub unplayed : b.schedule ≡ []
+  pub running : b.halted ≡ false
   pub fit : AreMindsOf k b.state minds
 
 -- ---- minds and thoughts during a run
@@ -38,20 +40,25 @@ ThoughtFits k agents a Busy m None = ⊥
 ThoughtFits k agents a Busy m (Some t) = (k.awaits m ≡ asks_feedback t) × AreLawful a agents t
 ThoughtFits k agents a (Gone end) m t = Unit {0}
 
-pub record MindFits {V : Type 0} (k : Kind V) (agents a : ℕ) (seat : Seat) (m : V) (t : Option Thought) : Type 0 where
+pub record MindFits {V : Type 0} (k : Kind V) (agents a : ℕ) (seat : Place) (m : V) (t : Option Thought) : Type 0 where
   pub me : k.me m ≡ a
   pub agents_are : k.agents m ≡ agents
   pub made : k.made m ≡ seat.cycle
   pub thought : ThoughtFits k agents a seat.phase m t
 
-abbrev pub FitsAt : {V : Type 0} → Kind V → ℕ → ℕ → Seat → Option V → Option (Option Thought) → Type 0
+abbrev pub FitsAt : {V : Type 0} → Kind V → ℕ → ℕ → Place → Option V → Option (Option Thought) → Type 0
 FitsAt k agents a seat (Some m) (Some t) = MindFits k agents a seat m t
 FitsAt k agents a seat _ _ = ⊥
 
-pub record AllFit {V : Type 0} (k : Kind V) (seats : List Seat) (minds : List V) (thoughts : List (Option Thought)) : Type 0 where
+pub record AllFit {V : Type 0} (k : Kind V) (seats : List Place) (minds : List V) (thoughts : List (Option Thought)) : Type 0 where
   pub minds_are : length minds ≡ length seats
   pub thoughts_are : length thoughts ≡ length seats
   pub each : (a : ℕ) → IsAgent (length seats) a → FitsAt k (length seats) a (seat_of seats a) (slice_get minds (a - 1)) (slice_get thoughts (a - 1))
+
+-- what holds of a board with minds and thoughts
+pub record IsPlay {V : Type 0} (k : Kind V) (b : Noted) (minds : List V) (thoughts : List (Option Thought)) : Type 0 where
+  pub fit : AllFit k b.state.seats minds thoughts
+  pub running : b.halted ≡ false
 
 -- ---- a turn, and the calls that it is made of
 
@@ -69,7 +76,7 @@ pub record TurnMade {V : Type 0} (turned : Option (Platform V)) (old new : Playe
 -- the mind of an agent made a cycle on the input, with this thought
 pub record HasThought {V : Type 0} (k : Kind V) (old new : List V) (a : ℕ) (input : Input) (t : Thought) : Type 0 where
   pub mind : V
+  pub after : V
   pub is : slice_get old (a - 1) ≡ Some mind
-  pub thought : t ≡ (k.cycle mind input).thought
-  pub minds : new ≡ slice_set old (a - 1) (k.cycle mind input).mind
-  pub lawful : AreLawful (k.me mind) (k.agents mind) t
+  pub thinks : Thinks k mind input after t
+  pub minds : new ≡ slice_set old (a - 1) after

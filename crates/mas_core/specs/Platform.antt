@@ -8,9 +8,9 @@ use Rattle.mas_mind.specs.declared.mind.Thought.TheVariants.{Outs as Acts, Spent
 use Rattle.mas_mind.specs.Minds.{Cycled, Kind}
 use Rattle.mas_board.specs.declared.seats.Phase.{Phase}
 use Rattle.mas_board.specs.declared.seats.Phase.TheVariants.{Idle, Busy, Left as Gone}
-use Rattle.mas_board.specs.declared.seats.Seat.{Seat}
+use Rattle.mas_board.specs.declared.seats.Place.{Place}
 use Rattle.mas_board.specs.declared.seats.Sensed.{Sensed}
-use Rattle.mas_board.specs.declared.seats.Sensed.TheVariants.{Input as Given, Left, Ahead}
+use Rattle.mas_board.specs.declared.seats.Sensed.TheVariants.{Input as Given, Left}
 use Rattle.mas_board.specs.Boards.{State, sense, emit, leave, seat_at, is_gone}
 
 -- the board, and for each agent its mind and, while it is busy, the thought of its last cycle: the outs of a cycle, or
@@ -37,7 +37,7 @@ think k p a board input (Some m) = Some (thought_by p a board (k.cycle m input))
 abbrev pub after_sense : {V : Type 0} → Kind V → Platform V → ℕ → Sensed × State → Option (Platform V)
 after_sense k p a (Given input, board) = think k p a board input (slice_get p.minds (a - 1))
 after_sense k p a (Left end, board) = Some (with_board p board)
-after_sense k p a (Ahead cycle lowest, board) = None
+after_sense k p a (waits, board) = None
 
 -- ---- the turn of a busy agent
 
@@ -85,12 +85,12 @@ run k p [] = Some p
 run k p (a ∷ schedule) = and_run (λ q. run k q schedule) (turn k p a)
 
 -- every agent has left
-abbrev pub ended : List Seat → Bool
+abbrev pub ended : List Place → Bool
 ended [] = true
 ended (seat ∷ seats) = is_gone seat.phase && ended seats
 
 -- the number, counted from this one, of the first agent that has not left
-abbrev pub first_here : ℕ → List Seat → Option ℕ
+abbrev pub first_here : ℕ → List Place → Option ℕ
 first_here a [] = None
 first_here a (seat ∷ seats) = if is_gone seat.phase then first_here (a + 1) seats else Some a
 

@@ -5,11 +5,11 @@ use Rattle.std.proofs.lemmas.List.Sums.{sum_by-cons}
 use Rattle.asl_term.specs.declared.syntax.LiteralOf.{LiteralOf}
 use Rattle.asl_term.specs.declared.syntax.Term.{Term}
 use Rattle.asl_term.specs.Texts.{text}
-use Rattle.mas_board.specs.declared.seats.Seat.{Seat}
+use Rattle.mas_board.specs.declared.seats.Place.{Place}
 use Rattle.mas_board.specs.Boards.{State, seat_at, seat_of, seat_or_none}
 use Rattle.mas_demo.specs.Lines.{is_quiet, quiet_ends, counted, text_or, tally_text}
 
-first_at : (seats : List Seat) (n : ℕ) → n < length seats → drop n seats ≡ seat_or_none (slice_get seats n) ∷ drop (n + 1) seats
+first_at : (seats : List Place) (n : ℕ) → n < length seats → drop n seats ≡ seat_or_none (slice_get seats n) ∷ drop (n + 1) seats
 first_at [] n l = absurd (omega (arith, l))
 first_at (seat ∷ seats) zero l = refl
 first_at (seat ∷ seats) (suc k) l =
@@ -17,7 +17,7 @@ first_at (seat ∷ seats) (suc k) l =
     let same : suc (k + 1) ≡ suc k + 1 = omega arith in
     first_at seats k less ∙ ap (λ n. seat_or_none (slice_get seats k) ∷ drop n (seat ∷ seats)) same
 
-first_of : (seats : List Seat) (a : ℕ) → 1 ≤ a → a ≤ length seats → drop (a - 1) seats ≡ seat_of seats a ∷ drop (a + 1 - 1) seats
+first_of : (seats : List Place) (a : ℕ) → 1 ≤ a → a ≤ length seats → drop (a - 1) seats ≡ seat_of seats a ∷ drop (a + 1 - 1) seats
 first_of seats a l h =
     let less : a - 1 < length seats = omega (arith, l, h) in
     let same : a - 1 + 1 ≡ a + 1 - 1 = omega (arith, l) in
@@ -28,7 +28,7 @@ one b = cond b 1 0
 
 count_first : (s : State) (a : ℕ) → 1 ≤ a → a ≤ length s.seats
     → quiet_ends (drop (a - 1) s.seats) ≡ one (is_quiet (seat_at s a).phase) + quiet_ends (drop (a + 1 - 1) s.seats)
-count_first s a l h = ap quiet_ends (first_of s.seats a l h) ∙ sum_by-cons (λ (seat : Seat). one (is_quiet seat.phase)) (seat_at s a) (drop (a + 1 - 1) s.seats)
+count_first s a l h = ap quiet_ends (first_of s.seats a l h) ∙ sum_by-cons (λ (seat : Place). one (is_quiet seat.phase)) (seat_at s a) (drop (a + 1 - 1) s.seats)
 
 -- one end more
 pub quiet_next : (s : State) (a n all : ℕ) → 1 ≤ a → a ≤ length s.seats → n + quiet_ends (drop (a - 1) s.seats) ≡ all

@@ -8,7 +8,7 @@ use Rattle.mas_mind.specs.declared.mind.End.TheVariants.{Quiet}
 use Rattle.mas_world.specs.Worlds.{facts}
 use Rattle.mas_board.specs.declared.seats.Phase.{Phase}
 use Rattle.mas_board.specs.declared.seats.Phase.TheVariants.{Left as Gone}
-use Rattle.mas_board.specs.declared.seats.Seat.{Seat}
+use Rattle.mas_board.specs.declared.seats.Place.{Place}
 use Rattle.mas_board.specs.Boards.{State}
 
 -- ---- the tally
@@ -44,7 +44,7 @@ is_quiet (Gone Quiet) = true
 is_quiet other = false
 
 -- how many agents have left with it
-abbrev pub quiet_ends : List Seat → ℕ
+abbrev pub quiet_ends : List Place → ℕ
 quiet_ends seats = count_by (λ seat. is_quiet seat.phase) seats
 
 -- ---- the lines

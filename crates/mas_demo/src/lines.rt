@@ -4,7 +4,7 @@ ghost use Rattle.std.specs.Prelude.{◌≡◌, ◌++◌, if◌then◌else◌, de
 ghost use Rattle.mas_world.specs.Worlds.{facts};
 ghost use Rattle.mas_demo.specs.Lines as spec;
 
-use asl_term::printing::{write, write_number};
+use asl_term::printing::{print, write_number};
 use asl_term::sequence::{Seq, Starved};
 use asl_term::syntax::{Literal, Term, Text};
 use mas_board::board::Board;
@@ -33,12 +33,12 @@ fn counted(fact: &Literal) -> Option<&Term>
 }
 
 /// Appends the first such term, or `0`.
-fn put_tally(alloc: Global, out: &mut Text, all: &[Literal]) -> Result<(), Starved>
+fn put_tally(out: &mut Text, all: &[Literal]) -> Result<(), Starved>
     ensures { OnOk result (out.new ≡ out.old ++ spec.tally_text all.now) }
 {
     'facts: for fact in all {
         if let Some(term) = counted(fact) {
-            return write(alloc, term, out);
+            return print(term, out);
         }
     }
     out.append(b"0")
@@ -91,7 +91,7 @@ fn tally_text(alloc: Global, all: &[Literal]) -> Result<Text, Starved>
     ensures { IfOk result (λ text. text ≡ spec.tally_text all.now) }
 {
     let mut text = Seq::new(alloc);
-    put_tally(alloc, &mut text, all)?;
+    put_tally(&mut text, all)?;
     Ok(text)
 }
 

@@ -1,6 +1,6 @@
 //! A shelf of which no call fails.
 
-ghost use Rattle.std.specs.Prelude.{◌≡◌, ◌≢◌, ◌≤◌, Some, IfOk, OnErr};
+ghost use Rattle.std.specs.Prelude.{ℕ, ◌≡◌, ◌≢◌, ◌≤◌, Some, IfOk, OnErr};
 ghost use Rattle.mas_io.specs.Shelf.{FetchFits, IsCopy, fetched};
 ghost use Rattle.mas_io.specs.declared.shelf.Fetched.TheVariants.{Failed};
 
@@ -32,6 +32,7 @@ impl Shelf for SureShelf {
         ensures same { Some self.new.files ≡ Some self.old.files }
         ensures later { 0 ≤ 0 }
         ensures fits { IfOk result (FetchFits (Some self.old.files) name.now most 0 0) }
+        ensures starved_counted { OnErr result (◌≡◌ {A = ℕ} 0 0) }
         ensures answer { IfOk result (λ f. f ≡ fetched self.old.files name.now most) }
         ensures no_failure { IfOk result (λ f. f ≢ Failed) }
         ensures starved { OnErr result (IsCopy (fetched self.old.files name.now most)) }

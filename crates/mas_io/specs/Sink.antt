@@ -9,11 +9,12 @@ abbrev pub grown : Option (List ℕ) → List ℕ → Option (List ℕ)
 grown None text = None
 grown (Some written) text = Some (written ++ text)
 
--- the first `n` bytes of the piece were written, at least one
-pub record PutTook (old new : Option (List ℕ)) (piece : List ℕ) (n : ℕ) : Type 0 where
+-- the first `n` bytes of the piece were written, at least one, and the count stayed
+pub record PutTook (old new : Option (List ℕ)) (piece : List ℕ) (before now n : ℕ) : Type 0 where
   pub some : 0 < n
   pub most : n ≤ length piece
   pub written : new ≡ grown old (take n piece)
+  pub counted : now ≡ before
 
 -- nothing was written, and the count rose
 pub record PutFailed (old new : Option (List ℕ)) (before now : ℕ) : Type 0 where
@@ -21,5 +22,5 @@ pub record PutFailed (old new : Option (List ℕ)) (before now : ℕ) : Type 0 w
   pub written : new ≡ old
 
 abbrev pub PutFits : Option (List ℕ) → Option (List ℕ) → List ℕ → ℕ → ℕ → Put → Type 0
-PutFits old new piece before now (Took n) = PutTook old new piece n
+PutFits old new piece before now (Took n) = PutTook old new piece before now n
 PutFits old new piece before now Failed = PutFailed old new before now

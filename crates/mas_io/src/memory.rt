@@ -2,7 +2,7 @@
 
 ghost use Rattle.std.specs.Prelude.{◌≡◌, ◌≢◌, ◌≤◌, ◌<◌, Some, IfOk, OnOk, OnErr, length};
 ghost use Rattle.mas_io.specs.declared.shelf.Fetched.TheVariants.{Failed};
-ghost use Rattle.mas_io.specs.Shelf.{FetchFits, IsCopy, fetched};
+ghost use Rattle.mas_io.specs.Shelf.{FetchFits, IsCopy, IsShort, fetched};
 ghost use Rattle.mas_io.specs.Sink.{PutFits};
 ghost use Rattle.mas_io.specs.Memory.{called, filled, is_refused, no_calls, put_answer, shelf_after, shelf_answer, sink_after, taken_len};
 
@@ -71,6 +71,7 @@ pub fn memory_shelf(files: Files, fail: Numbers) -> MemoryShelf
 /// What the first file of that name gives: its bytes, where they are no more than `most`.
 pub fn find_file(alloc: Global, files: &[Filed], name: &Text, most: u64) -> Result<Fetched, Starved>
     ensures answer { IfOk result (λ f. f ≡ fetched files.now name.now most) }
+    ensures short { IfOk result (IsShort most) }
     ensures no_failure { IfOk result (λ f. f ≢ Failed) }
     ensures starved { OnErr result (IsCopy (fetched files.now name.now most)) }
 {
@@ -94,6 +95,7 @@ impl Shelf for MemoryShelf {
         ensures same { Some self.new.files ≡ Some self.old.files }
         ensures later { self.old.calls.faults ≤ self.new.calls.faults }
         ensures fits { IfOk result (FetchFits (Some self.old.files) name.now most self.old.calls.faults self.new.calls.faults) }
+        ensures starved_counted { OnErr result (self.new.calls.faults ≡ self.old.calls.faults) }
         ensures answer { IfOk result (λ f. f ≡ shelf_answer self.old name.now most) }
         ensures after { OnOk result (self.new ≡ shelf_after self.old) }
         ensures starved { OnErr result (IsCopy (shelf_answer self.old name.now most)) }

@@ -1,7 +1,7 @@
 //! Files and standard output, of whose bytes nothing is told.
 
 ghost use Rattle.std.specs.Prelude.{◌≡◌, ◌≢◌, None, IfOk, IfSome};
-ghost use Rattle.mas_io.specs.Shelf.{limited};
+ghost use Rattle.mas_io.specs.Shelf.{IsShort, limited};
 ghost use Rattle.mas_io.specs.declared.shelf.Fetched.TheVariants.{Failed};
 
 use crate::shelf::{Fetched, Shelf};
@@ -28,9 +28,15 @@ impl<'a, R: Files> FileShelf<'a, R> {
     }
 }
 
+/// Whether the system had no memory for the call. That is no fault of the file.
+fn is_want(e: &io::Error) -> bool {
+    e.kind() == io::ErrorKind::OutOfMemory
+}
+
 /// What the file has from where it stands. Each turn takes a byte at least, or ends it.
 fn read_some<F: Read>(alloc: Global, file: &mut F, most: u64) -> Result<Fetched, Starved>
-    ensures { IfOk result (λ f. f ≢ Failed → IfSome (F.remaining file.old) (λ bytes. f ≡ limited bytes most)) }
+    ensures answer { IfOk result (λ f. f ≢ Failed → IfSome (F.remaining file.old) (λ bytes. f ≡ limited bytes most)) }
+    ensures short { IfOk result (IsShort most) }
 {
     let mut text: Text = Seq::new(alloc);
     let mut buffer = [0u8; 4096];
@@ -38,6 +44,7 @@ fn read_some<F: Read>(alloc: Global, file: &mut F, most: u64) -> Result<Fetched,
         match file.read(&mut buffer) {
             Ok(0) => return Ok(Fetched::Bytes(text)),
             Ok(n) => text.append(&buffer[..n])?,
+            Err(e) if is_want(&e) => return Err(Starved),
             Err(_) => return Ok(Fetched::Failed),
         }
     }
@@ -45,13 +52,16 @@ fn read_some<F: Read>(alloc: Global, file: &mut F, most: u64) -> Result<Fetched,
 }
 
 /// What the file of that name has. A name that is no UTF-8 names no file that can be opened.
-fn read_file<R: Files>(rt: &R, alloc: Global, name: &Text, most: u64) -> Result<Fetched, Starved> {
+fn read_file<R: Files>(rt: &R, alloc: Global, name: &Text, most: u64) -> Result<Fetched, Starved>
+    ensures { IfOk result (IsShort most) }
+{
     let Ok(path) = std::str::from_utf8(name.as_slice()) else {
         return Ok(Fetched::Failed);
     };
     match fs::open(rt, path) {
         Ok(mut file) => read_some(alloc, &mut file, most),
         Err(e) if e.kind() == io::ErrorKind::NotFound => Ok(Fetched::Missing),
+        Err(e) if is_want(&e) => Err(Starved),
         Err(_) => Ok(Fetched::Failed),
     }
 }

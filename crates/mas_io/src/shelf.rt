@@ -1,6 +1,6 @@
 //! Files by their names.
 
-ghost use Rattle.std.specs.Prelude.{◌≡◌, ◌≤◌, List, Option, ℕ, IfOk};
+ghost use Rattle.std.specs.Prelude.{◌≡◌, ◌≤◌, List, Option, ℕ, IfOk, OnErr};
 ghost use Rattle.asl_term.specs.declared.syntax.Filed.{Filed};
 ghost use Rattle.mas_io.specs.Shelf.{FetchFits};
 
@@ -25,9 +25,10 @@ pub trait Shelf {
     /// How often it has failed.
     ghost faults: { Self → ℕ };
 
-    /// The bytes of the file of that name, at most `most` of them.
+    /// The bytes of the file of that name, at most `most` of them. Want of memory is no fault of the shelf.
     fn fetch(&mut self, alloc: Global, name: &Text, most: u64) -> Result<Fetched, Starved>
         ensures same { holds self.new ≡ holds self.old }
         ensures later { faults self.old ≤ faults self.new }
-        ensures fits { IfOk result (FetchFits (holds self.old) name.now most (faults self.old) (faults self.new)) };
+        ensures fits { IfOk result (FetchFits (holds self.old) name.now most (faults self.old) (faults self.new)) }
+        ensures starved_counted { OnErr result (faults self.new ≡ faults self.old) };
 }

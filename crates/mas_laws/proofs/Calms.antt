@@ -14,7 +14,7 @@ use Rattle.mas_mind.specs.Minds.{Kind, IsAgent, is_quiet, AreEmpty, SendsNothing
 use Rattle.mas_world.specs.Seen.{seen}
 use Rattle.mas_board.specs.declared.seats.Phase.{Phase}
 use Rattle.mas_board.specs.declared.seats.Phase.TheVariants.{Idle, Busy, Left as Gone}
-use Rattle.mas_board.specs.declared.seats.Seat.{Seat}
+use Rattle.mas_board.specs.declared.seats.Place.{Place}
 use Rattle.mas_board.specs.declared.seats.Sensed.{Sensed}
 use Rattle.mas_board.specs.Boards.{State, seat_at, seat_or_none, box_of, box_or_none, name_of, name_or_none, is_gone, is_mark, is_empty, are_quiet, all_quiet, acted_as, oldest, later, posted, version_after, rested, input_of}
 use Rattle.mas_board.proofs.Places.{below}
@@ -33,7 +33,7 @@ pub record IsQuietly (t : Option (Option Thought)) : Type 0 where
   pub empty : SendsNothing thought
 
 -- an agent that has not left has no mail, and its mind made a quiet cycle on what it sees
-pub record IsCalm {V : Type 0} (k : Kind V) (see : List (LiteralOf Term)) (box : List Message) (seat : Seat) (m : Option V) (t : Option (Option Thought)) : Type 0 where
+pub record IsCalm {V : Type 0} (k : Kind V) (see : List (LiteralOf Term)) (box : List Message) (seat : Place) (m : Option V) (t : Option (Option Thought)) : Type 0 where
   pub box_is : is_gone seat.phase ≡ false → box ≡ []
   pub rests : is_gone seat.phase ≡ false → Rests k see m
   pub busy : seat.phase ≡ Busy → IsQuietly t
@@ -49,7 +49,7 @@ calm-by : {V : Type 0} (k : Kind V) (p : Platform V) (a : ℕ) (q : Platform V) 
 calm-by {V} k p a q h i c w b here = record {
   paired = c.paired h.paired;
   each = λ x j.
-      let S = λ (y : ℕ) (s : Seat) (m : Option V) (t : Option (Option Thought)). IsCalm k (seen p.board.world (name_of p.board y)) (box_of p.board.boxes y) s m t in
+      let S = λ (y : ℕ) (s : Place) (m : Option V) (t : Option (Option Thought)). IsCalm k (seen p.board.world (name_of p.board y)) (box_of p.board.boxes y) s m t in
       let r = said_of_each p a q S S c i h.each (λ y s m t z. z) here x j in
       let see : seen q.board.world (name_of q.board x) ≡ seen p.board.world (name_of p.board x) =
       ap (λ y. seen y (name_of q.board x)) w ∙ ap (λ y. seen p.board.world (name_or_none (name_at y x))) c.names in
@@ -73,7 +73,7 @@ here phase other e f = ap is_gone e ∙ f
 gone-calm : {V : Type 0} (k : Kind V) (p : Platform V) (a : ℕ) (q : Platform V) → Calm k p → IsAgent (length p.board.seats) a → HasGone p a (sense_on p.board a) q → CalmTurn k p a q
 gone-calm {V} k p a q h i t =
     let l = below (length p.board.seats) a i in
-    let x : Seat = record (seat_at p.board a) { phase = Gone t.end } in
+    let x : Place = record (seat_at p.board a) { phase = Gone t.end } in
     let e : seat_at q.board a ≡ x = ap (λ y. seat_at y.board a) t.is ∙ ap seat_or_none (set_here p.board.seats (a - 1) x l) in
     let w : q.board.world ≡ p.board.world = ap (λ y. y.board.world) t.is in
     let b : q.board.boxes ≡ p.board.boxes = ap (λ y. y.board.boxes) t.is in
@@ -113,7 +113,7 @@ thought-calm : {V : Type 0} (k : Kind V) (p : Platform V) (a : ℕ) (q : Platfor
 thought-calm {V} k p a q sends again h i t =
     let l = below (length p.board.seats) a i in
     let within = is_within p.minds (a - 1) t.mind t.mind_is in
-    let x : Seat = record { phase = Busy; cycle = (seat_at p.board a).cycle + 1; mark = None; kept = p.board.version } in
+    let x : Place = record { phase = Busy; cycle = (seat_at p.board a).cycle + 1; mark = None; kept = p.board.version } in
     let input : Input = input_of p.board a in
     let e : seat_at q.board a ≡ x = ap (λ y. seat_at y.board a) t.is ∙ ap seat_or_none (set_here p.board.seats (a - 1) x l) in
     let m : slice_get q.minds (a - 1) ≡ Some (k.cycle t.mind input).mind = ap (λ y. slice_get y.minds (a - 1)) t.is ∙ set_here p.minds (a - 1) _ within in
@@ -160,7 +160,7 @@ acted-calm {V} k p a q h i t =
     let same : b.thought ≡ Acts t.outs = same_Some _ _ (same_Some _ _ (sym b.is ∙ t.outs_are)) in
     let none : AreEmpty t.outs = empty-outs b.thought t.outs same b.empty in
     let name = name_of p.board a in
-    let x : Seat = rested (seat_at p.board a) t.outs.quiet in
+    let x : Place = rested (seat_at p.board a) t.outs.quiet in
     let e : seat_at q.board a ≡ x = ap (λ y. seat_at y.board a) t.is ∙ ap seat_or_none (set_here p.board.seats (a - 1) x l) in
     let phase : (seat_at q.board a).phase ≡ Idle = ap (λ y. y.phase) e in
     let w : q.board.world ≡ p.board.world = ap (λ y. y.board.world) t.is ∙ ap (λ y. (acted_as p.board.world name y).1) none.action in
@@ -213,7 +213,7 @@ emptied (m ∷ more) e = cc
 or-other : (x y : Bool) → x ≡ false → (x || y) ≡ true → y ≡ true
 or-other x y e h = sym (ap (λ t. t || y) e) ∙ h
 
-pub quiet_at : (version : ℕ) (seats : List Seat) (boxes : List (List Message)) (i : ℕ) → i < length seats → length boxes ≡ length seats → are_quiet version seats boxes ≡ true →
+pub quiet_at : (version : ℕ) (seats : List Place) (boxes : List (List Message)) (i : ℕ) → i < length seats → length boxes ≡ length seats → are_quiet version seats boxes ≡ true →
     is_gone (seat_or_none (slice_get seats i)).phase ≡ false → ((seat_or_none (slice_get seats i)).mark ≡ Some version) × (box_or_none (slice_get boxes i) ≡ [])
 quiet_at version [] boxes i l n h g = absurd (omega arith)
 quiet_at version (s ∷ seats) [] i l n h g = absurd (omega arith)
@@ -225,7 +225,7 @@ quiet_at version (s ∷ seats) (box ∷ boxes) (suc i) l n h g =
     let both = and_parts (is_gone s.phase || (is_mark s.mark version && is_empty box)) (are_quiet version seats boxes) h in
     quiet_at version seats boxes i (omega arith) (omega arith) both.1 g
 
-calm-in : {V : Type 0} (k : Kind V) (version : ℕ) (see : List (LiteralOf Term)) (box : List Message) (seat : Seat) (m : Option V) (t : Option (Option Thought)) (phase : Phase) → seat.phase ≡ phase →
+calm-in : {V : Type 0} (k : Kind V) (version : ℕ) (see : List (LiteralOf Term)) (box : List Message) (seat : Place) (m : Option V) (t : Option (Option Thought)) (phase : Phase) → seat.phase ≡ phase →
     Kept k version see seat m t → (is_gone seat.phase ≡ false → (seat.mark ≡ Some version) × (box ≡ [])) → IsCalm k see box seat m t
 calm-in k version see box seat m t Idle e h q = record { box_is = λ f. (q f).1; rests = λ f. (h.idle e).rests (q f).0; busy = λ f. cc }
 calm-in k version see box seat m t Busy e h q = record {

@@ -4,7 +4,7 @@ use Rattle.std.proofs.lemmas.List.{length-set}
 use Rattle.mas_mind.specs.declared.mind.Feedback.{Feedback}
 use Rattle.mas_mind.specs.declared.mind.Thought.{Thought}
 use Rattle.mas_mind.specs.Minds.{Kind, IsAgent}
-use Rattle.mas_board.specs.declared.seats.Seat.{Seat}
+use Rattle.mas_board.specs.declared.seats.Place.{Place}
 use Rattle.mas_board.specs.declared.seats.Sensed.{Sensed}
 use Rattle.mas_board.specs.Boards.{State, seat_at, seat_or_none}
 use Rattle.mas_board.proofs.Places.{same_place}
@@ -81,18 +81,18 @@ changed {V} k p a r q (Spends t) = let P = λ (x : Platform V). ChangedAt p a x 
 
 -- ---- what holds of each agent
 
-said-other : {V : Type 0} (S : ℕ → Seat → Option V → Option (Option Thought) → Type 0) (b : ℕ) (s t : Option Seat) (m n : Option V) (x y : Option (Option Thought)) → t ≡ s → n ≡ m → y ≡ x →
+said-other : {V : Type 0} (S : ℕ → Place → Option V → Option (Option Thought) → Type 0) (b : ℕ) (s t : Option Place) (m n : Option V) (x y : Option (Option Thought)) → t ≡ s → n ≡ m → y ≡ x →
     S b (seat_or_none s) m x → S b (seat_or_none t) n y
 said-other {V} S b s t m n x y e f g h =
-    let P = λ (o : Option Seat). S b (seat_or_none o) m x in
+    let P = λ (o : Option Place). S b (seat_or_none o) m x in
     let Q = λ (o : Option V). S b (seat_or_none t) o x in
     let R = λ (o : Option (Option Thought)). S b (seat_or_none t) n o in
     subst R (sym g) (subst Q (sym f) (subst P (sym e) h))
 
 -- what is said of all agents after a turn
-pub said_of_each : {V : Type 0} (p : Platform V) (a : ℕ) (q : Platform V) (R S : ℕ → Seat → Option V → Option (Option Thought) → Type 0) → ChangedAt p a q → IsAgent (length p.board.seats) a →
+pub said_of_each : {V : Type 0} (p : Platform V) (a : ℕ) (q : Platform V) (R S : ℕ → Place → Option V → Option (Option Thought) → Type 0) → ChangedAt p a q → IsAgent (length p.board.seats) a →
     ((b : ℕ) → IsAgent (length p.board.seats) b → R b (seat_at p.board b) (slice_get p.minds (b - 1)) (slice_get p.thoughts (b - 1))) →
-    ((b : ℕ) (s : Seat) (m : Option V) (t : Option (Option Thought)) → R b s m t → S b s m t) →
+    ((b : ℕ) (s : Place) (m : Option V) (t : Option (Option Thought)) → R b s m t → S b s m t) →
     S a (seat_at q.board a) (slice_get q.minds (a - 1)) (slice_get q.thoughts (a - 1)) →
     (b : ℕ) → IsAgent (length q.board.seats) b → S b (seat_at q.board b) (slice_get q.minds (b - 1)) (slice_get q.thoughts (b - 1))
 said_of_each {V} p a q R S c i h others here b j =

@@ -1,5 +1,6 @@
 -- How many turns there are at most.
 use Rattle.std.proofs.Common.{ℕ, zero, suc, ◌≡◌, ◌+◌, ◌-◌, ◌*◌, ◌<◌, ◌≤◌, arith, true, if◌then◌else◌, List, [], ◌∷◌, length, replicate, slice_get, slice_set, Option, None, Some, refl, ap, sym, ◌∙◌, subst}
+use Rattle.std.proofs.Math.Nat.{suc-mul}
 use Rattle.std.proofs.lemmas.Bool.{eqb-false}
 use Rattle.std.proofs.lemmas.List.{length-replicate}
 use Rattle.std.proofs.lemmas.Option.{same_Some, none-some}
@@ -10,11 +11,13 @@ use Rattle.mas_mind.specs.Minds.{Kind, IsAgent, is_quiet, SendsNothing}
 use Rattle.mas_world.specs.Worlds.{World}
 use Rattle.mas_board.specs.declared.seats.Phase.{Phase}
 use Rattle.mas_board.specs.declared.seats.Phase.TheVariants.{Idle, Busy, Left as Gone}
-use Rattle.mas_board.specs.declared.seats.Seat.{Seat}
+use Rattle.mas_board.specs.declared.seats.Place.{Place}
 use Rattle.mas_board.specs.declared.seats.Sensed.{Sensed}
 use Rattle.mas_board.specs.Boards.{State, seat_at, seat_or_none, no_seat, is_gone, all_quiet, rested, sense, opening}
 use Rattle.mas_board.proofs.Places.{below}
 use Rattle.mas_core.specs.Platform.{Platform, turn, run, and_run, opening_platform}
+use Rattle.mas_core.specs.Robin.{most_turns}
+use Rattle.mas_laws.specs.Ends.{RunsEnd}
 use Rattle.mas_laws.specs.Quiet.{sense_on, turn_on, run_on, turns_left, QuietEnds}
 use Rattle.mas_laws.proofs.Places.{set_here, in_replicate}
 use Rattle.mas_laws.proofs.Steps.{Turned, Leaves, Thinks, Emits, Spends, turned, turned_on}
@@ -30,11 +33,11 @@ left-in Idle n = 2 * n + 1
 left-in Busy n = 2 * n + 2
 left-in (Gone end) n = 0
 
-load : ℕ → List Seat → ℕ
+load : ℕ → List Place → ℕ
 load limit [] = 0
 load limit (s ∷ seats) = left-in s.phase (limit - s.cycle) + load limit seats
 
-load-set : (limit : ℕ) (seats : List Seat) (i : ℕ) (x : Seat) → i < length seats →
+load-set : (limit : ℕ) (seats : List Place) (i : ℕ) (x : Place) → i < length seats →
     load limit (slice_set seats i x) + left-in (seat_or_none (slice_get seats i)).phase (limit - (seat_or_none (slice_get seats i)).cycle) ≡ load limit seats + left-in x.phase (limit - x.cycle)
 unfolding load
 load-set limit [] i x l = absurd (omega arith)
@@ -62,7 +65,7 @@ record EndTurn {V : Type 0} (limit : ℕ) (p q : Platform V) : Type 0 where
   bounded : (a : ℕ) → IsAgent (length q.board.seats) a → (seat_at q.board a).cycle ≤ q.board.cycles
   less : load limit q.board.seats + 1 ≤ load limit p.board.seats
 
-end-turn : {V : Type 0} (limit : ℕ) (p : Platform V) (a : ℕ) (q : Platform V) (x : Seat) → p.board.cycles ≡ limit →
+end-turn : {V : Type 0} (limit : ℕ) (p : Platform V) (a : ℕ) (q : Platform V) (x : Place) → p.board.cycles ≡ limit →
     ((b : ℕ) → IsAgent (length p.board.seats) b → (seat_at p.board b).cycle ≤ p.board.cycles) → IsAgent (length p.board.seats) a → ChangedAt p a q →
     q.board.seats ≡ slice_set p.board.seats (a - 1) x → x.cycle ≤ limit → left-in x.phase (limit - x.cycle) + 1 ≤ left-in (seat_at p.board a).phase (limit - (seat_at p.board a).cycle) →
     EndTurn limit p q
@@ -70,8 +73,8 @@ end-turn {V} limit p a q x m h i c e w less =
     let l = below (length p.board.seats) a i in
     let here : seat_at q.board a ≡ x = ap (λ y. seat_or_none (slice_get y (a - 1))) e ∙ ap seat_or_none (set_here p.board.seats (a - 1) x l) in
     let cycle : (seat_at q.board a).cycle ≡ x.cycle = ap (λ y. y.cycle) here in
-    let R = λ (b : ℕ) (s : Seat) (n : Option V) (t : Option (Option Thought)). s.cycle ≤ p.board.cycles in
-    let S = λ (b : ℕ) (s : Seat) (n : Option V) (t : Option (Option Thought)). s.cycle ≤ q.board.cycles in
+    let R = λ (b : ℕ) (s : Place) (n : Option V) (t : Option (Option Thought)). s.cycle ≤ p.board.cycles in
+    let S = λ (b : ℕ) (s : Place) (n : Option V) (t : Option (Option Thought)). s.cycle ≤ q.board.cycles in
     let same = c.cycles in
     let set = load-set limit p.board.seats (a - 1) x l in
     let is : load limit q.board.seats ≡ load limit (slice_set p.board.seats (a - 1) x) = ap (load limit) e in
@@ -84,13 +87,13 @@ end-turn {V} limit p a q x m h i c e w less =
 end-case : {V : Type 0} (limit : ℕ) (k : Kind V) (p : Platform V) (a : ℕ) (r : Sensed × State) (q : Platform V) → p.board.cycles ≡ limit →
     ((b : ℕ) → IsAgent (length p.board.seats) b → (seat_at p.board b).cycle ≤ p.board.cycles) → IsAgent (length p.board.seats) a → Turned k p a r q → EndTurn limit p q
 end-case limit k p a r q m h i (Leaves t) =
-    let x : Seat = record (seat_at p.board a) { phase = Gone t.end } in
+    let x : Place = record (seat_at p.board a) { phase = Gone t.end } in
     let w = h a i in
     let old = idle-left (seat_at p.board a).phase (limit - (seat_at p.board a).cycle) t.idle in
     let new = gone-left x.phase (limit - x.cycle) refl in
     end-turn limit p a q x m h i (changed k p a r q (Leaves t)) (ap (λ y. y.board.seats) t.is) (omega arith) (omega arith)
 end-case limit k p a r q m h i (Thinks t) =
-    let x : Seat = record { phase = Busy; cycle = (seat_at p.board a).cycle + 1; mark = None; kept = p.board.version } in
+    let x : Place = record { phase = Busy; cycle = (seat_at p.board a).cycle + 1; mark = None; kept = p.board.version } in
     let w = h a i in
     let n : (seat_at p.board a).cycle ≡ p.board.cycles → ⊥ = eqb-false (seat_at p.board a).cycle p.board.cycles t.short in
     let old = idle-left (seat_at p.board a).phase (limit - (seat_at p.board a).cycle) t.idle in
@@ -98,13 +101,13 @@ end-case limit k p a r q m h i (Thinks t) =
     let short : (seat_at p.board a).cycle < limit = omega arith in
     end-turn limit p a q x m h i (changed k p a r q (Thinks t)) (ap (λ y. y.board.seats) t.is) (omega arith) (omega arith)
 end-case limit k p a r q m h i (Emits t) =
-    let x : Seat = rested (seat_at p.board a) t.outs.quiet in
+    let x : Place = rested (seat_at p.board a) t.outs.quiet in
     let w = h a i in
     let old = busy-left (seat_at p.board a).phase (limit - (seat_at p.board a).cycle) t.busy in
     let new = idle-left x.phase (limit - x.cycle) refl in
     end-turn limit p a q x m h i (changed k p a r q (Emits t)) (ap (λ y. y.board.seats) t.is) (omega arith) (omega arith)
 end-case limit k p a r q m h i (Spends t) =
-    let x : Seat = record (seat_at p.board a) { phase = Gone Budget } in
+    let x : Place = record (seat_at p.board a) { phase = Gone Budget } in
     let w = h a i in
     let old = busy-left (seat_at p.board a).phase (limit - (seat_at p.board a).cycle) t.busy in
     let new = gone-left x.phase (limit - x.cycle) refl in
@@ -165,7 +168,7 @@ idle-or-gone Idle n h = refl
 idle-or-gone Busy n h = absurd (h refl)
 idle-or-gone (Gone end) n h = refl
 
-load-quiet : (limit : ℕ) (seats : List Seat) → ((i : ℕ) → i < length seats → (seat_or_none (slice_get seats i)).phase ≡ Busy → ⊥) → load limit seats ≡ turns_left limit seats
+load-quiet : (limit : ℕ) (seats : List Place) → ((i : ℕ) → i < length seats → (seat_or_none (slice_get seats i)).phase ≡ Busy → ⊥) → load limit seats ≡ turns_left limit seats
 unfolding load
 load-quiet limit [] h = refl
 load-quiet limit (s ∷ seats) h =
@@ -188,4 +191,39 @@ quiet_ends k sends p q names h ran =
     let here : BoundedBy p.board.cycles p = record { limit_is = refl; each = bound.each } in
     let c = count-run p.board.cycles k p q names here ran in
     let e = load-quiet p.board.cycles p.board.seats (nobody-busy k p known h.quiet) in
+    omega arith
+
+-- ---- a run from the opening
+
+turns-next : {V : Type 0} (limit : ℕ) (k : Kind V) (p done : Platform V) (a : ℕ) (names : List ℕ) →
+    ((q : Platform V) → BoundedBy limit q → run k q names ≡ Some done → length names ≤ load limit q.board.seats) → BoundedBy limit p →
+    (o : Option (Platform V)) → turn k p a ≡ o → and_run (λ q. run k q names) o ≡ Some done → length names + 1 ≤ load limit p.board.seats
+turns-next limit k p done a names more h None e r = absurd (none-some done r)
+turns-next limit k p done a names more h (Some q) e r =
+    let t = turned k p a q e in
+    let c = end-case limit k p a (sense p.board a) q h.limit_is h.each t.agent t.case in
+    let less = c.less in
+    let rest = more q (record { limit_is = c.stays ∙ h.limit_is; each = c.bounded }) r in
+    omega arith
+
+turns-run : {V : Type 0} (limit : ℕ) (k : Kind V) (p done : Platform V) (names : List ℕ) → BoundedBy limit p → run k p names ≡ Some done → length names ≤ load limit p.board.seats
+turns-run limit k p done [] h r = omega arith
+turns-run limit k p done (a ∷ names) h r =
+    let c = turns-next limit k p done a names (λ q g s. turns-run limit k q done names g s) h (turn k p a) refl r in
+    omega arith
+
+load-open : (limit n : ℕ) → load limit (replicate n no_seat) ≡ n * (2 * limit + 1)
+unfolding load left-in
+load-open limit zero = omega arith
+load-open limit (suc n) =
+    let e = load-open limit n in
+    let m = suc-mul n (2 * limit + 1) in
+    omega arith
+
+pub runs_end : {V : Type 0} (k : Kind V) → RunsEnd k
+runs_end {V} k agents w cycles lead minds done names ran =
+    let c = turns-run cycles k (opening_platform (opening agents w cycles lead) minds) done names (bounded-open agents w cycles lead minds) ran in
+    let e = load-open cycles (length agents) in
+    let n : most_turns (opening agents w cycles lead) ≡ length agents * (2 * cycles + 1) =
+    ap (λ x. x * (2 * cycles + 1)) (length-replicate (length agents) no_seat) in
     omega arith

@@ -9,7 +9,7 @@ use Rattle.mas_mind.specs.declared.mind.Thought.TheVariants.{Outs as Acts, Spent
 use Rattle.mas_mind.specs.Minds.{Kind, IsAgent, is_quiet, SendsNothing}
 use Rattle.mas_board.specs.declared.seats.Phase.{Phase}
 use Rattle.mas_board.specs.declared.seats.Phase.TheVariants.{Idle, Busy, Left as Gone}
-use Rattle.mas_board.specs.declared.seats.Seat.{Seat}
+use Rattle.mas_board.specs.declared.seats.Place.{Place}
 use Rattle.mas_board.specs.Boards.{State, seat_at, seat_or_none, is_gone, least, is_at_limit, is_ahead, left_cycles, left_stopped, ahead, given, begun, input_of}
 use Rattle.mas_core.specs.Platform.{Platform, after_sense, after_thought, think, and_run, ended}
 use Rattle.mas_core.proofs.Goes.{agent-is}
@@ -20,7 +20,7 @@ use Rattle.mas_laws.proofs.Calms.{Calm, calm_at_end}
 
 -- ---- the agent of the least cycle number
 
-record Lowest (seats : List Seat) : Type 0 where
+record Lowest (seats : List Place) : Type 0 where
   place : ℕ
   within : place < length seats
   stays : is_gone (seat_or_none (slice_get seats place)).phase ≡ false
@@ -30,32 +30,32 @@ record Lowest (seats : List Seat) : Type 0 where
 not-both : (b : Bool) → b ≡ true → b ≡ false → ⊥
 not-both b e f = let g : true ≡ false = sym e ∙ f in cc
 
-all-gone : (seats : List Seat) (j : ℕ) → ended seats ≡ true → j < length seats → is_gone (seat_or_none (slice_get seats j)).phase ≡ true
+all-gone : (seats : List Place) (j : ℕ) → ended seats ≡ true → j < length seats → is_gone (seat_or_none (slice_get seats j)).phase ≡ true
 all-gone [] j e l = absurd (omega arith)
 all-gone (s ∷ seats) zero e l = (and_parts (is_gone s.phase) (ended seats) e).0
 all-gone (s ∷ seats) (suc j) e l = all-gone seats j (and_parts (is_gone s.phase) (ended seats) e).1 (omega arith)
 
 -- the first is the lowest
-first-low : (s : Seat) (seats : List Seat) → is_gone s.phase ≡ false →
+first-low : (s : Place) (seats : List Place) → is_gone s.phase ≡ false →
     ((j : ℕ) → j < length seats → is_gone (seat_or_none (slice_get seats j)).phase ≡ false → s.cycle ≤ (seat_or_none (slice_get seats j)).cycle) →
     (j : ℕ) → j < length (s ∷ seats) → is_gone (seat_or_none (slice_get (s ∷ seats) j)).phase ≡ false → s.cycle ≤ (seat_or_none (slice_get (s ∷ seats) j)).cycle
 first-low s seats e h zero l f = omega arith
 first-low s seats e h (suc j) l f = h j (omega arith) f
 
-first-lowest : (s : Seat) (seats : List Seat) → is_gone s.phase ≡ false →
+first-lowest : (s : Place) (seats : List Place) → is_gone s.phase ≡ false →
     ((j : ℕ) → j < length seats → is_gone (seat_or_none (slice_get seats j)).phase ≡ false → s.cycle ≤ (seat_or_none (slice_get seats j)).cycle) → Lowest (s ∷ seats)
 first-lowest s seats e h = record { place = 0; within = omega arith; stays = e; low = first-low s seats e h }
 
-later-low : (s : Seat) (seats : List Seat) (r : Lowest seats) → (is_gone s.phase ≡ false → (seat_or_none (slice_get seats r.place)).cycle ≤ s.cycle) →
+later-low : (s : Place) (seats : List Place) (r : Lowest seats) → (is_gone s.phase ≡ false → (seat_or_none (slice_get seats r.place)).cycle ≤ s.cycle) →
     (j : ℕ) → j < length (s ∷ seats) → is_gone (seat_or_none (slice_get (s ∷ seats) j)).phase ≡ false →
     (seat_or_none (slice_get seats r.place)).cycle ≤ (seat_or_none (slice_get (s ∷ seats) j)).cycle
 later-low s seats r h zero l f = h f
 later-low s seats r h (suc j) l f = r.low j (omega arith) f
 
-later-lowest : (s : Seat) (seats : List Seat) (r : Lowest seats) → (is_gone s.phase ≡ false → (seat_or_none (slice_get seats r.place)).cycle ≤ s.cycle) → Lowest (s ∷ seats)
+later-lowest : (s : Place) (seats : List Place) (r : Lowest seats) → (is_gone s.phase ≡ false → (seat_or_none (slice_get seats r.place)).cycle ≤ s.cycle) → Lowest (s ∷ seats)
 later-lowest s seats r h = record { place = suc r.place; within = (let w = r.within in omega arith); stays = r.stays; low = later-low s seats r h }
 
-lower-of : (s : Seat) (seats : List Seat) (r : Lowest seats) (t : Bool) → is_gone s.phase ≡ false → nat_le s.cycle (seat_or_none (slice_get seats r.place)).cycle ≡ t → Lowest (s ∷ seats)
+lower-of : (s : Place) (seats : List Place) (r : Lowest seats) (t : Bool) → is_gone s.phase ≡ false → nat_le s.cycle (seat_or_none (slice_get seats r.place)).cycle ≡ t → Lowest (s ∷ seats)
 lower-of s seats r true e h =
     let c : s.cycle ≤ (seat_or_none (slice_get seats r.place)).cycle = grind (arith, common_steps) in
     first-lowest s seats e (λ j l f. let w = r.low j l f in omega arith)
@@ -63,13 +63,13 @@ lower-of s seats r false e h =
     let c : (seat_or_none (slice_get seats r.place)).cycle < s.cycle = grind (arith, common_steps) in
     later-lowest s seats r (λ f. omega arith)
 
-lowest-by : (s : Seat) (seats : List Seat) (x y : Bool) → is_gone s.phase ≡ x → ended seats ≡ y → (x && y) ≡ false → (ended seats ≡ false → Lowest seats) → Lowest (s ∷ seats)
+lowest-by : (s : Place) (seats : List Place) (x y : Bool) → is_gone s.phase ≡ x → ended seats ≡ y → (x && y) ≡ false → (ended seats ≡ false → Lowest seats) → Lowest (s ∷ seats)
 lowest-by s seats true true e f n more = cc
 lowest-by s seats true false e f n more = later-lowest s seats (more f) (λ g. absurd (not-both _ e g))
 lowest-by s seats false true e f n more = first-lowest s seats e (λ j l g. absurd (not-both _ (all-gone seats j f l) g))
 lowest-by s seats false false e f n more = lower-of s seats (more f) _ e refl
 
-lowest : (seats : List Seat) → ended seats ≡ false → Lowest seats
+lowest : (seats : List Place) → ended seats ≡ false → Lowest seats
 lowest [] e = cc
 lowest (s ∷ seats) e = lowest-by s seats (is_gone s.phase) (ended seats) refl refl e (lowest seats)
 
@@ -79,7 +79,7 @@ lower-same : (c n : ℕ) (g : Bool) → (g ≡ false → c ≤ n) → (if g then
 lower-same c n true h = refl
 lower-same c n false h = let w : c ≤ n = h refl in grind arith
 
-least-same : (c : ℕ) (seats : List Seat) → ((j : ℕ) → j < length seats → is_gone (seat_or_none (slice_get seats j)).phase ≡ false → c ≤ (seat_or_none (slice_get seats j)).cycle) → least c seats ≡ c
+least-same : (c : ℕ) (seats : List Place) → ((j : ℕ) → j < length seats → is_gone (seat_or_none (slice_get seats j)).phase ≡ false → c ≤ (seat_or_none (slice_get seats j)).cycle) → least c seats ≡ c
 least-same c [] h = refl
 least-same c (s ∷ seats) h =
     ap (λ x. least x seats) (lower-same c s.cycle (is_gone s.phase) (λ f. h 0 (omega arith) f)) ∙ least-same c seats (λ j l f. h (suc j) (omega arith) f)

@@ -4,7 +4,7 @@ use Rattle.std.proofs.lemmas.Option.{same_Some, none-some}
 use Rattle.std.proofs.lemmas.List.{length-replicate}
 use Rattle.mas_mind.specs.Minds.{Kind, IsAgent}
 use Rattle.mas_board.specs.declared.seats.Phase.{Phase}
-use Rattle.mas_board.specs.declared.seats.Seat.{Seat}
+use Rattle.mas_board.specs.declared.seats.Place.{Place}
 use Rattle.mas_board.specs.Boards.{seat_or_none, is_gone, no_seat, sense}
 use Rattle.mas_board.specs.Seating.{AreLed}
 use Rattle.mas_board.proofs.Soundness.{led_same, led_begun}
@@ -19,8 +19,8 @@ record LedTurn {V : Type 0} (p q : Platform V) : Type 0 where
   lead : q.board.lead ≡ p.board.lead
   led : AreLed p.board.lead q.board.seats
 
-led-as : (lead : ℕ) (old new : List Seat) → new ≡ old → AreLed lead old → AreLed lead new
-led-as lead old new e h = let P = λ (x : List Seat). AreLed lead x in subst P (sym e) h
+led-as : (lead : ℕ) (old new : List Place) → new ≡ old → AreLed lead old → AreLed lead new
+led-as lead old new e h = let P = λ (x : List Place). AreLed lead x in subst P (sym e) h
 
 here : (phase other : Phase) → phase ≡ other → is_gone other ≡ false → is_gone phase ≡ false
 here phase other e f = ap is_gone e ∙ f

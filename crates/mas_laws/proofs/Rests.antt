@@ -19,7 +19,7 @@ use Rattle.mas_world.specs.Worlds.{World, acted}
 use Rattle.mas_world.specs.Seen.{seen}
 use Rattle.mas_world.proofs.Unchanged.{unchanged}
 use Rattle.mas_board.specs.declared.seats.Phase.TheVariants.{Idle, Busy, Left as Gone}
-use Rattle.mas_board.specs.declared.seats.Seat.{Seat}
+use Rattle.mas_board.specs.declared.seats.Place.{Place}
 use Rattle.mas_board.specs.declared.seats.Sensed.{Sensed}
 use Rattle.mas_board.specs.Boards.{State, seat_at, seat_or_none, no_seat, name_of, name_or_none, acted_as, is_done, is_empty, version_after, rested, input_of, sense, opening}
 use Rattle.mas_core.specs.Platform.{Platform, turn, run, and_run, tell, opening_platform}
@@ -41,23 +41,23 @@ pub rests_as : {V : Type 0} (k : Kind V) (see now : List (LiteralOf Term)) (m n 
 rests_as k see now m n e f h = record { before = h.before; input = h.input; mind = f ∙ h.mind; percepts = h.percepts ∙ sym e; quiet = h.quiet }
 
 -- of an idle agent
-pub record MarkKept {V : Type 0} (k : Kind V) (version : ℕ) (see : List (LiteralOf Term)) (seat : Seat) (m : Option V) : Type 0 where
+pub record MarkKept {V : Type 0} (k : Kind V) (version : ℕ) (see : List (LiteralOf Term)) (seat : Place) (m : Option V) : Type 0 where
   pub late : (n : ℕ) → seat.mark ≡ Some n → n ≤ version
   pub rests : seat.mark ≡ Some version → Rests k see m
 
 -- of a busy agent
-pub record BusyKept {V : Type 0} (k : Kind V) (version : ℕ) (see : List (LiteralOf Term)) (seat : Seat) (m : Option V) (t : Option (Option Thought)) : Type 0 where
+pub record BusyKept {V : Type 0} (k : Kind V) (version : ℕ) (see : List (LiteralOf Term)) (seat : Place) (m : Option V) (t : Option (Option Thought)) : Type 0 where
   pub unmarked : seat.mark ≡ None
   pub late : seat.kept ≤ version
   pub nothing : (x : Thought) → t ≡ Some (Some x) → is_quiet x ≡ true → SendsNothing x
   pub rests : (x : Thought) → t ≡ Some (Some x) → is_quiet x ≡ true → seat.kept ≡ version → Rests k see m
 
-pub record Kept {V : Type 0} (k : Kind V) (version : ℕ) (see : List (LiteralOf Term)) (seat : Seat) (m : Option V) (t : Option (Option Thought)) : Type 0 where
+pub record Kept {V : Type 0} (k : Kind V) (version : ℕ) (see : List (LiteralOf Term)) (seat : Place) (m : Option V) (t : Option (Option Thought)) : Type 0 where
   pub idle : seat.phase ≡ Idle → MarkKept k version see seat m
   pub busy : seat.phase ≡ Busy → BusyKept k version see seat m t
 
 -- the version may rise, and the world changes only where it does
-kept-later : {V : Type 0} (k : Kind V) (version after : ℕ) (see now : List (LiteralOf Term)) (seat : Seat) (m : Option V) (t : Option (Option Thought)) → version ≤ after → (after ≡ version → now ≡ see) →
+kept-later : {V : Type 0} (k : Kind V) (version after : ℕ) (see now : List (LiteralOf Term)) (seat : Place) (m : Option V) (t : Option (Option Thought)) → version ≤ after → (after ≡ version → now ≡ see) →
     Kept k version see seat m t → Kept k after now seat m t
 kept-later k version after see now seat m t l s h = record {
   idle = λ e. (let i = h.idle e in record {
@@ -72,10 +72,10 @@ kept-later k version after see now seat m t l s h = record {
   });
 }
 
-kept-gone : {V : Type 0} (k : Kind V) (version : ℕ) (see : List (LiteralOf Term)) (seat : Seat) (m : Option V) (t : Option (Option Thought)) (end : End) → seat.phase ≡ Gone end → Kept k version see seat m t
+kept-gone : {V : Type 0} (k : Kind V) (version : ℕ) (see : List (LiteralOf Term)) (seat : Place) (m : Option V) (t : Option (Option Thought)) (end : End) → seat.phase ≡ Gone end → Kept k version see seat m t
 kept-gone k version see seat m t end g = record { idle = λ e. cc; busy = λ e. cc }
 
-kept-rested : {V : Type 0} (k : Kind V) (version : ℕ) (see : List (LiteralOf Term)) (seat : Seat) (m : Option V) (t : Option (Option Thought)) (quiet : Bool) → seat.kept ≤ version →
+kept-rested : {V : Type 0} (k : Kind V) (version : ℕ) (see : List (LiteralOf Term)) (seat : Place) (m : Option V) (t : Option (Option Thought)) (quiet : Bool) → seat.kept ≤ version →
     (quiet ≡ true → seat.kept ≡ version → Rests k see m) → Kept k version see (rested seat quiet) m t
 kept-rested k version see seat m t true l r = record {
   idle = λ e. record {
@@ -89,7 +89,7 @@ kept-rested k version see seat m t false l r = record {
   busy = λ e. cc;
 }
 
-kept-open : {V : Type 0} (k : Kind V) (see : List (LiteralOf Term)) (seat : Seat) (m : Option V) (t : Option (Option Thought)) → seat ≡ no_seat → Kept k 0 see seat m t
+kept-open : {V : Type 0} (k : Kind V) (see : List (LiteralOf Term)) (seat : Place) (m : Option V) (t : Option (Option Thought)) → seat ≡ no_seat → Kept k 0 see seat m t
 kept-open k see seat m t e =
     let mark : seat.mark ≡ None = ap (λ x. x.mark) e in
     let phase : seat.phase ≡ Idle = ap (λ x. x.phase) e in
@@ -134,8 +134,8 @@ known-by : {V : Type 0} (k : Kind V) (p : Platform V) (a : ℕ) (q : Platform V)
 known-by {V} k p a q h i c b l w here = record {
   boxed = b ∙ h.boxed ∙ sym c.number;
   paired = c.paired h.paired;
-  each = (let R = λ (b : ℕ) (s : Seat) (m : Option V) (t : Option (Option Thought)). Kept k p.board.version (seen p.board.world (name_of p.board b)) s m t in
-      let S = λ (b : ℕ) (s : Seat) (m : Option V) (t : Option (Option Thought)). Kept k q.board.version (seen q.board.world (name_of q.board b)) s m t in
+  each = (let R = λ (b : ℕ) (s : Place) (m : Option V) (t : Option (Option Thought)). Kept k p.board.version (seen p.board.world (name_of p.board b)) s m t in
+      let S = λ (b : ℕ) (s : Place) (m : Option V) (t : Option (Option Thought)). Kept k q.board.version (seen q.board.world (name_of q.board b)) s m t in
       said_of_each p a q R S c i h.each (λ b s m t x. kept-later k p.board.version q.board.version _ _ s m t l
       (λ e. ap (λ y. seen y (name_of q.board b)) (w e) ∙ ap (λ y. seen p.board.world (name_or_none (name_at y b))) c.names) x) here);
 }
@@ -145,7 +145,7 @@ known-by {V} k p a q h i c b l w here = record {
 gone-known : {V : Type 0} (k : Kind V) (p : Platform V) (a : ℕ) (r : Sensed × State) (q : Platform V) → Known k p → IsAgent (length p.board.seats) a → HasGone p a r q → Known k q
 gone-known {V} k p a r q h i t =
     let l = below (length p.board.seats) a i in
-    let x : Seat = record (seat_at p.board a) { phase = Gone t.end } in
+    let x : Place = record (seat_at p.board a) { phase = Gone t.end } in
     let e : seat_at q.board a ≡ x = ap (λ y. seat_at y.board a) t.is ∙ ap seat_or_none (set_here p.board.seats (a - 1) x l) in
     known-by k p a q h i (changed k p a r q (Leaves t)) (ap (λ y. length y.board.boxes) t.is)
     (let v = ap (λ y. y.board.version) t.is in omega arith) (λ w. ap (λ y. y.board.world) t.is)
@@ -154,14 +154,14 @@ gone-known {V} k p a r q h i t =
 spent-known : {V : Type 0} (k : Kind V) (p : Platform V) (a : ℕ) (r : Sensed × State) (q : Platform V) → Known k p → IsAgent (length p.board.seats) a → HasSpent p a q → Known k q
 spent-known {V} k p a r q h i t =
     let l = below (length p.board.seats) a i in
-    let x : Seat = record (seat_at p.board a) { phase = Gone Budget } in
+    let x : Place = record (seat_at p.board a) { phase = Gone Budget } in
     let e : seat_at q.board a ≡ x = ap (λ y. seat_at y.board a) t.is ∙ ap seat_or_none (set_here p.board.seats (a - 1) x l) in
     known-by k p a q h i (changed k p a r q (Spends t)) (ap (λ y. length y.board.boxes) t.is)
     (let v = ap (λ y. y.board.version) t.is in omega arith) (λ w. ap (λ y. y.board.world) t.is)
     (kept-gone k q.board.version (seen q.board.world (name_of q.board a)) (seat_at q.board a) _ _ Budget (ap (λ y. y.phase) e))
 
 -- a cycle has begun at the present version
-kept-begun : {V : Type 0} (k : Kind V) (version : ℕ) (see : List (LiteralOf Term)) (seat : Seat) (n : Option V) (u : Option (Option Thought)) (m : V) (input : Input) →
+kept-begun : {V : Type 0} (k : Kind V) (version : ℕ) (see : List (LiteralOf Term)) (seat : Place) (n : Option V) (u : Option (Option Thought)) (m : V) (input : Input) →
     ((m : V) (i : Input) → is_quiet (k.cycle m i).thought ≡ true → SendsNothing (k.cycle m i).thought) → seat.phase ≡ Busy → seat.mark ≡ None → seat.kept ≡ version →
     n ≡ Some (k.cycle m input).mind → u ≡ Some (Some (k.cycle m input).thought) → input.percepts ≡ see → Kept k version see seat n u
 kept-begun {V} k version see seat n u m input sends b none kept e f g = record {
@@ -183,7 +183,7 @@ thought-known : {V : Type 0} (k : Kind V) (p : Platform V) (a : ℕ) (r : Sensed
 thought-known {V} k p a r q sends h i t =
     let l = below (length p.board.seats) a i in
     let within = is_within p.minds (a - 1) t.mind t.mind_is in
-    let x : Seat = record { phase = Busy; cycle = (seat_at p.board a).cycle + 1; mark = None; kept = p.board.version } in
+    let x : Place = record { phase = Busy; cycle = (seat_at p.board a).cycle + 1; mark = None; kept = p.board.version } in
     let input = input_of p.board a in
     let e : seat_at q.board a ≡ x = ap (λ y. seat_at y.board a) t.is ∙ ap seat_or_none (set_here p.board.seats (a - 1) x l) in
     let m : slice_get q.minds (a - 1) ≡ Some (k.cycle t.mind input).mind = ap (λ y. slice_get y.minds (a - 1)) t.is ∙ set_here p.minds (a - 1) _ within in
@@ -209,7 +209,7 @@ acted-known : {V : Type 0} (k : Kind V) (p : Platform V) (a : ℕ) (r : Sensed �
 acted-known {V} k p a r q h i t =
     let l = below (length p.board.seats) a i in
     let after = acted_as p.board.world (name_of p.board a) t.outs.action in
-    let x : Seat = rested (seat_at p.board a) t.outs.quiet in
+    let x : Place = rested (seat_at p.board a) t.outs.quiet in
     let e : seat_at q.board a ≡ x = ap (λ y. seat_at y.board a) t.is ∙ ap seat_or_none (set_here p.board.seats (a - 1) x l) in
     let v : q.board.version ≡ version_after p.board.version after.0 t.outs.messages = ap (λ y. y.board.version) t.is in
     let low = version-least p.board.version after.0 t.outs.messages in
@@ -219,7 +219,7 @@ acted-known {V} k p a r q h i t =
     world_stays p.board.world (name_of p.board a) t.outs.action (not-risen p.board.version (is_done after.0) (not (is_empty t.outs.messages)) (sym v ∙ d)) in
     let b = (h.each a i).busy t.busy in
     let late = b.late in
-    let P = λ (y : Seat). Kept k q.board.version (seen q.board.world (name_of q.board a)) y (slice_get q.minds (a - 1)) (slice_get q.thoughts (a - 1)) in
+    let P = λ (y : Place). Kept k q.board.version (seen q.board.world (name_of q.board a)) y (slice_get q.minds (a - 1)) (slice_get q.thoughts (a - 1)) in
     known-by k p a q h i (changed k p a r q (Emits t)) (ap (λ y. length y.board.boxes) t.is ∙ posted-length p.board.boxes t.outs.messages)
     (omega arith) stays
     (subst P (sym e) (kept-rested k q.board.version _ (seat_at p.board a) _ _ t.outs.quiet (omega arith) (λ quiet kept.

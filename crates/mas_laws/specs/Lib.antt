@@ -1,3 +1,4 @@
 pub mod Mail
 pub mod Lead
 pub mod Quiet
+pub mod Ends

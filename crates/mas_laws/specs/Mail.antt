@@ -9,7 +9,7 @@ use Rattle.mas_world.specs.Worlds.{World}
 use Rattle.mas_board.specs.declared.seats.Phase.{Phase}
 use Rattle.mas_board.specs.declared.seats.Phase.TheVariants.{Idle, Busy, Left as Gone}
 use Rattle.mas_board.specs.declared.seats.Sensed.{Sensed}
-use Rattle.mas_board.specs.declared.seats.Sensed.TheVariants.{Input as Given, Left, Ahead}
+use Rattle.mas_board.specs.declared.seats.Sensed.TheVariants.{Input as Given, Left}
 use Rattle.mas_board.specs.Boards.{seat_at, box_of, sense, opening}
 use Rattle.mas_core.specs.Platform.{Platform, turn, run, opening_platform}
 
@@ -35,7 +35,7 @@ posts p a = posts_in p a (seat_at p.board a).phase
 abbrev pub message_of : Sensed → List Message
 message_of (Given input) = option_to_list input.message
 message_of (Left end) = []
-message_of (Ahead cycle lowest) = []
+message_of waits = []
 
 abbrev pub takes_in : {V : Type 0} → Platform V → ℕ → Phase → List Message
 takes_in p a Idle = message_of (sense p.board a).0

@@ -6,9 +6,9 @@ use Rattle.mas_mind.specs.Minds.{Kind, is_quiet, AreEmpty}
 use Rattle.mas_world.specs.Worlds.{World}
 use Rattle.mas_board.specs.declared.seats.Phase.{Phase}
 use Rattle.mas_board.specs.declared.seats.Phase.TheVariants.{Idle, Busy, Left as Gone}
-use Rattle.mas_board.specs.declared.seats.Seat.{Seat}
+use Rattle.mas_board.specs.declared.seats.Place.{Place}
 use Rattle.mas_board.specs.declared.seats.Sensed.{Sensed}
-use Rattle.mas_board.specs.declared.seats.Sensed.TheVariants.{Input as Given, Left, Ahead}
+use Rattle.mas_board.specs.declared.seats.Sensed.TheVariants.{Input as Given, Left}
 use Rattle.mas_board.specs.Boards.{State, seat_at, is_gone, is_at_limit, is_ahead, all_quiet, left_cycles, left_stopped, ahead, given, opening}
 use Rattle.mas_core.specs.Platform.{Platform, is_agent, after_sense, turn_in, and_run, run, ended, opening_platform}
 
@@ -48,7 +48,7 @@ pub record HasQuietThought {V : Type 0} (p : Platform V) (a : ℕ) : Type 0 wher
 abbrev pub IsQuietSense : {V : Type 0} → Platform V → ℕ → Sensed → Type 0
 IsQuietSense q a (Given input) = (input.message ≡ None) × HasQuietThought q a
 IsQuietSense q a (Left end) = Unit {0}
-IsQuietSense q a (Ahead cycle lowest) = Unit {0}
+IsQuietSense q a waits = Unit {0}
 
 -- the outs have no action and no messages, and do not stop the run
 abbrev pub AreQuietOuts : Option (Option Thought) → Type 0
@@ -100,7 +100,7 @@ QuietGoesOn {V} k =
     ended q.board.seats ≡ false → HasTurn k q
 
 -- two turns for each cycle that agents that have not left may still make, and one in which each leaves
-abbrev pub turns_left : ℕ → List Seat → ℕ
+abbrev pub turns_left : ℕ → List Place → ℕ
 turns_left cycles [] = 0
 turns_left cycles (seat ∷ seats) = (if is_gone seat.phase then 0 else 2 * (cycles - seat.cycle) + 1) + turns_left cycles seats
 

@@ -1,6 +1,6 @@
 //! A mind, by what its cycles make of it.
 
-ghost use Rattle.std.specs.Prelude.{◌≡◌, ◌<◌, ◌+◌, true, false, None, IfOk, IfSome};
+ghost use Rattle.std.specs.Prelude.{◌≡◌, ◌<◌, ◌+◌, true, false, None, IfOk, IfSome, OnErr};
 ghost use Rattle.mas_mind.specs.declared.mind.Input.{Input};
 ghost use Rattle.mas_mind.specs.declared.mind.Feedback.{Feedback};
 ghost use Rattle.mas_mind.specs.Minds.{Kind, are_ground, IsFor, AreLawful, is_quiet, SendsNothing, asks_feedback, Grows};
@@ -11,7 +11,7 @@ use asl_term::syntax::Text;
 use std::alloc::Global;
 
 /// The mind of an agent. It makes at most 1,000,000 cycles. After `Starved` of `think` it is only asked for its
-/// lines, or dropped.
+/// lines, which are those of before, or dropped.
 pub trait Mind: Drop {
     /// What the calls make of a mind.
     ghost kind: { Kind Self };
@@ -24,7 +24,8 @@ pub trait Mind: Drop {
         requires ground { are_ground input.percepts ≡ true }
         requires sent { IfSome input.message (IsFor (kind.me self.old) (kind.agents self.old)) }
         ensures made { IfOk result (λ thought. kind.cycle self.old input ≡ record { mind = self.new; thought = thought }) }
-        ensures lawful { IfOk result (AreLawful (kind.me self.old) (kind.agents self.old)) };
+        ensures lawful { IfOk result (AreLawful (kind.me self.old) (kind.agents self.old)) }
+        ensures kept { OnErr result (kind.lines self.new ≡ kind.lines self.old) };
 
     /// Tells the mind what became of its action. Its next cycle begins with that.
     fn took(&mut self, feedback: Feedback)

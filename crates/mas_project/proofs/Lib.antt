@@ -13,4 +13,5 @@ pub mod Meets
 pub mod Readings
 pub mod Single
 pub mod Answers
+pub mod Total
 pub mod Agents

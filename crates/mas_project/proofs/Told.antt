@@ -30,7 +30,7 @@ pub record Told (ts rest : List Tok) (number : ℕ) (at : Option Turn) (d : Draf
 pub begins : (ts : List Tok) → Told ts ts 0 (Some turn.Title) no_draft
 begins ts = record { before = []; meant = []; parts = refl; count = refl; reads = none_left; drafts = begins_draft }
 
-reads_push : {a : Option Turn} {at : Turn} {ps : List (List Tok)} {ms : List Said} {m : Said} (p : List Tok) → ReadsAll a ps ms (Some at)
+pub reads_push : {a : Option Turn} {at : Turn} {ps : List (List Tok)} {ms : List Said} {m : Said} (p : List Tok) → ReadsAll a ps ms (Some at)
     → Reads at (lexemes p) m → ReadsAll a (ps ++ p ∷ []) (ms ++ m ∷ []) (next_turn m)
 reads_push p none_left r = next_piece r none_left
 reads_push p (next_piece q h) r = next_piece q (reads_push p h r)

@@ -17,6 +17,10 @@ OneReading = (at : Turn) (ts : List Lexeme) (s t : Said) → Reads at ts s → R
 abbrev pub OneAnswer : Type 0
 OneAnswer = (bytes : List ℕ) (r s : Result ProjectText ProjectFault) → IsAnswer bytes r → IsAnswer bytes s → r ≡ s
 
+-- and they have one
+abbrev pub SomeAnswer : Type 0
+SomeAnswer = (bytes : List ℕ) → (r : Result ProjectText ProjectFault) × IsAnswer bytes r
+
 -- there is an agent
 abbrev pub SomeAgents : Type 0
 SomeAgents = (bytes : List ℕ) (p : ProjectText) → IsProject bytes p → 1 ≤ agents_of p.agents

@@ -1,6 +1,6 @@
 //! What is true of projects.
 
-ghost use Rattle.mas_project.specs.Laws.{OneReading, OneAnswer, SomeAgents};
+ghost use Rattle.mas_project.specs.Laws.{OneReading, OneAnswer, SomeAnswer, SomeAgents};
 
 /// A piece says one thing at most.
 #[tactic(auto, using(crate::proofs::Complete::one_reading))]
@@ -8,10 +8,11 @@ pub fn one_reading()
     ensures { OneReading }
 {}
 
-/// A file has one answer: a project, or one fault, and not both.
-#[tactic(auto, using(crate::proofs::Answers::one_answer))]
+/// Each list of bytes has one answer: a project, or one fault, and not both.
+#[tactic(auto, using(crate::proofs::Answers::one_answer, crate::proofs::Total::some_answer))]
 pub fn one_answer()
-    ensures { OneAnswer }
+    ensures one { OneAnswer }
+    ensures some { SomeAnswer }
 {}
 
 /// A project has an agent.

@@ -86,7 +86,7 @@ lex_agent name held before after bytes (lex.OpenString place) h r = record { sam
 lex_agent name held before after bytes (lex.OpenComment place) h r = record { same = refl; has = record { bytes = bytes; has = h; are = r } }
 lex_agent name held before after bytes (lex.NumberRange place) h r = record { same = refl; has = record { bytes = bytes; has = h; are = r } }
 
-text_by : (name : List ℕ) (held : Option (List Filed)) (before after : ℕ) (bytes : List ℕ) (why : TextFault) → Has 1048576 held name (Bytes bytes) → IsNone bytes why →
+pub text_by : (name : List ℕ) (held : Option (List Filed)) (before after : ℕ) (bytes : List ℕ) (why : TextFault) → Has 1048576 held name (Bytes bytes) → IsNone bytes why →
     IsRefusal spec.agents name held before after (text_status name why)
 text_by name held before after bytes fault.Memory h r = tt
 text_by name held before after bytes (fault.Lex why) h r = lex_agent name held before after bytes why h r
@@ -114,7 +114,7 @@ lex_world known name held before after bytes (lex.OpenString place) h r = record
 lex_world known name held before after bytes (lex.OpenComment place) h r = record { same = refl; has = record { bytes = bytes; has = h; are = r } }
 lex_world known name held before after bytes (lex.NumberRange place) h r = record { same = refl; has = record { bytes = bytes; has = h; are = r } }
 
-fault_by : (known : List (List ℕ)) (name : List ℕ) (held : Option (List Filed)) (before after : ℕ) (bytes : List ℕ) (why : WorldFault) → Has 1048576 held name (Bytes bytes) →
+pub fault_by : (known : List (List ℕ)) (name : List ℕ) (held : Option (List Filed)) (before after : ℕ) (bytes : List ℕ) (why : WorldFault) → Has 1048576 held name (Bytes bytes) →
     env.IsNone known bytes why → IsRefusal (spec.worlds known) name held before after (world_status name why)
 fault_by known name held before after bytes world.Memory h r = tt
 fault_by known name held before after bytes (world.Lex why) h r = lex_world known name held before after bytes why h r
@@ -144,7 +144,7 @@ lex_project name held before after bytes (lex.OpenString place) h r = record { s
 lex_project name held before after bytes (lex.OpenComment place) h r = record { same = refl; has = record { bytes = bytes; has = h; are = r } }
 lex_project name held before after bytes (lex.NumberRange place) h r = record { same = refl; has = record { bytes = bytes; has = h; are = r } }
 
-piece_by : (name : List ℕ) (held : Option (List Filed)) (before after : ℕ) (bytes : List ℕ) (why : ProjectFault) → Has 1048576 held name (Bytes bytes) →
+pub piece_by : (name : List ℕ) (held : Option (List Filed)) (before after : ℕ) (bytes : List ℕ) (why : ProjectFault) → Has 1048576 held name (Bytes bytes) →
     projects.IsNone bytes why → IsRefusal spec.projects name held before after (project_status name why)
 piece_by name held before after bytes project.Memory h r = tt
 piece_by name held before after bytes (project.Lex why) h r = lex_project name held before after bytes why h r

@@ -8,3 +8,4 @@ pub mod Stands
 pub mod Within
 pub mod Single
 pub mod Refusals
+pub mod Total

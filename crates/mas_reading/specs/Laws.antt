@@ -1,5 +1,5 @@
 -- What is true of what the files of a run describe.
-use Rattle.std.specs.Prelude.{ℕ, ◌≡◌, ◌≢◌, true, List, Some}
+use Rattle.std.specs.Prelude.{ℕ, ◌≡◌, ◌≢◌, ◌⊎◌, true, List, Some}
 use Rattle.std.specs.Option.{IsSome}
 use Rattle.asl_term.specs.declared.syntax.Filed.{Filed}
 use Rattle.mas_world.specs.declared.acts.WorldText.{WorldText}
@@ -37,6 +37,22 @@ abbrev pub OneRefusal : Type 0
 OneRefusal =
     (known : List (List ℕ)) (cycles : ℕ) (files : List Filed) (word : List ℕ) (a b : Status) →
     Surely (AreRefused known cycles (Some files) word) a → Surely (AreRefused known cycles (Some files) word) b → a ≡ b
+
+-- files describe a source, or one of them is refused first
+abbrev pub SomeSource : Type 0
+SomeSource =
+    (known : List (List ℕ)) (cycles : ℕ) (files : List Filed) (word : List ℕ) → ((source : Source) × HasSource known cycles (Some files) word source) ⊎
+    ((status : Status) × Surely (AreRefused known cycles (Some files) word) status)
+
+-- no reader refuses what the word stands for
+abbrev pub NoneRefused : List (List ℕ) → ℕ → List Filed → List ℕ → Type 0
+NoneRefused known cycles files word = (status : Status) → Surely (AreRefused known cycles (Some files) word) status → ⊥
+
+-- so files that no reader refuses describe a source
+abbrev pub UnrefusedDescribe : Type 0
+UnrefusedDescribe =
+    (known : List (List ℕ)) (cycles : ℕ) (files : List Filed) (word : List ℕ) → NoneRefused known cycles files word →
+    (source : Source) × HasSource known cycles (Some files) word source
 
 -- a known name is that of an artifact
 abbrev pub KnownNamed : Type 0

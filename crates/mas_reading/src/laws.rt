@@ -1,6 +1,6 @@
 //! Laws of what the files of a run describe, as contracts of functions that do nothing.
 
-ghost use Rattle.mas_reading.specs.Laws.{KnownNamed, KnownUses, NotRefused, OneRefusal, OneSource};
+ghost use Rattle.mas_reading.specs.Laws.{KnownNamed, KnownUses, NotRefused, OneRefusal, OneSource, SomeSource, UnrefusedDescribe};
 
 /// Files describe one source at most.
 #[tactic(auto, using(crate::proofs::Single::one_source))]
@@ -18,6 +18,12 @@ pub fn not_refused()
 #[tactic(auto, using(crate::proofs::Refusals::one_refusal))]
 pub fn one_refusal()
     ensures { OneRefusal }
+{}
+
+/// Files describe a source, or one of them is refused for what it has. So files that no reader refuses describe one.
+pub fn some_source()
+    ensures some { SomeSource }
+    ensures unrefused { UnrefusedDescribe }
 {}
 
 /// The names that `known_names` gives are those of artifacts. So a world that was read with them uses artifacts that are

@@ -9,9 +9,9 @@ use Rattle.mas_mind.specs.declared.mind.Thought.TheVariants as thought
 use Rattle.mas_mind.specs.Minds.{Kind}
 use Rattle.mas_board.specs.declared.seats.Phase.{Phase}
 use Rattle.mas_board.specs.declared.seats.Phase.TheVariants.{Idle, Busy, Left as Gone}
-use Rattle.mas_board.specs.declared.seats.Seat.{Seat}
+use Rattle.mas_board.specs.declared.seats.Place.{Place}
 use Rattle.mas_board.specs.declared.seats.Sensed.{Sensed}
-use Rattle.mas_board.specs.declared.seats.Sensed.TheVariants.{Input as Given, Left, Ahead}
+use Rattle.mas_board.specs.declared.seats.Sensed.TheVariants.{Input as Given, Left, Ahead, Halted}
 use Rattle.mas_board.specs.Boards.{State, sense, seat_at, is_at_limit, all_quiet, is_ahead, left_cycles, left_stopped, left_quiet, ahead, given}
 use Rattle.mas_core.specs.Platform.{Platform, after_sense, think, after_thought, turn_in, is_agent, turn, and_run, run}
 use Rattle.mas_schedule.specs.Schedule.{AllFromOne}
@@ -33,6 +33,7 @@ module _ {V : Type 0} (k : Kind V) (p : Platform V) (a : ℕ) where
   sensed r (Given input) board h e = thinks r board input (slice_get p.minds (a - 1)) h e
   sensed r (Left end) board h e = ap (λ q. length q.board.seats) (sym (some_same e)) ∙ h
   sensed r (Ahead cycle lowest) board h e = cc
+  sensed r Halted board h e = cc
 
   abbrev seats_kept : (x : Sensed × State) → Type 0
   seats_kept x = length x.1.seats ≡ length p.board.seats

@@ -15,7 +15,7 @@ use Rattle.mas_mind.specs.Minds.{verb_text, Kind}
 use Rattle.mas_world.specs.Worlds.{World, facts}
 use Rattle.mas_board.specs.declared.seats.Phase.{Phase}
 use Rattle.mas_board.specs.declared.seats.Phase.TheVariants.{Idle, Busy, Left as Gone}
-use Rattle.mas_board.specs.declared.seats.Seat.{Seat}
+use Rattle.mas_board.specs.declared.seats.Place.{Place}
 use Rattle.mas_board.specs.Boards.{State, seat_at, box_of, name_of, name_or_none}
 use Rattle.mas_core.specs.Platform.{Platform, run, ended}
 use Rattle.mas_core.specs.Robin.{turns}
@@ -58,7 +58,7 @@ unfoldable pub end_line : List ℕ → Phase → ℕ → List ℕ
 end_line name phase cycle = codes "end " ++ (name ++ (codes " " ++ (phase_word phase ++ (field (codes " ") cycle ++ line_feed))))
 
 -- the section of an agent: its name, its lines and its end
-unfoldable pub agent_text : List ℕ → List ℕ → Seat → List ℕ
+unfoldable pub agent_text : List ℕ → List ℕ → Place → List ℕ
 agent_text name lines seat = agent_line name ++ (lines ++ end_line name seat.phase seat.cycle)
 
 abbrev pub lines_or_none : {V : Type 0} → (V → List ℕ) → Option V → List ℕ
@@ -125,7 +125,7 @@ is_budget (Gone Budget) = true
 is_budget other = false
 
 -- some end is `budget`
-abbrev pub is_spent : List Seat → Bool
+abbrev pub is_spent : List Place → Bool
 is_spent seats = list_any (λ s. is_budget s.phase) seats
 
 -- the text is the report of the run from p along the numbers in its own last line: every turn of these is legal,

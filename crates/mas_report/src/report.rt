@@ -10,8 +10,8 @@ ghost use Rattle.mas_report.specs.Report as spec;
 
 use crate::options::Options;
 use asl_term::names::Names;
-use asl_term::printing::{write, write_number};
-use asl_term::printing_expr::write_literal;
+use asl_term::printing::{print, write_number};
+use asl_term::printing_expr::print_literal;
 use asl_term::sequence::{Seq, Starved};
 use asl_term::syntax::{Literal, Text};
 use mas_board::board::Board;
@@ -178,19 +178,19 @@ fn put_agents<M: Mind, A: Artifact>(
 }
 
 #[tactic(auto, unfolding(crate::specs::Report::fact_line))]
-fn put_fact(alloc: Global, out: &mut Text, fact: &Literal) -> Result<(), Starved>
+fn put_fact(out: &mut Text, fact: &Literal) -> Result<(), Starved>
     ensures { OnOk result (out.new ≡ out.old ++ spec.fact_line fact.now) }
 {
     out.append(b"fact ")?;
-    write_literal(alloc, fact, out)?;
+    print_literal(fact, out)?;
     out.append(b"\n")
 }
 
-fn put_facts(alloc: Global, out: &mut Text, all: &[Literal]) -> Result<(), Starved>
+fn put_facts(out: &mut Text, all: &[Literal]) -> Result<(), Starved>
     ensures { OnOk result (out.new ≡ out.old ++ flat_map spec.fact_line all.now) }
 {
     for fact in all {
-        put_fact(alloc, out, fact)?;
+        put_fact(out, fact)?;
     }
     Ok(())
 }
@@ -200,7 +200,7 @@ fn put_world<A: Artifact>(alloc: Global, out: &mut Text, w: &World<A>) -> Result
 {
     out.append(b"world\n")?;
     let all = w.facts(alloc)?;
-    put_facts(alloc, out, all.as_slice())
+    put_facts(out, all.as_slice())
 }
 
 /// Appends to whom a message is and from whom.
@@ -217,25 +217,25 @@ fn put_route(out: &mut Text, names: &Names, m: &Message) -> Result<(), Starved>
 
 /// Appends what a message says.
 #[tactic(auto, unfolding(crate::specs::Report::content_text))]
-fn put_content(alloc: Global, out: &mut Text, m: &Message) -> Result<(), Starved>
+fn put_content(out: &mut Text, m: &Message) -> Result<(), Starved>
     ensures { OnOk result (out.new ≡ out.old ++ spec.content_text m.now) }
 {
     out.append(verb_text(m.verb).as_bytes())?;
     out.append(b" ")?;
-    write(alloc, &m.content, out)?;
+    print(&m.content, out)?;
     out.append(b"\n")
 }
 
-fn put_message(alloc: Global, out: &mut Text, names: &Names, m: &Message) -> Result<(), Starved>
+fn put_message(out: &mut Text, names: &Names, m: &Message) -> Result<(), Starved>
     ensures { OnOk result (out.new ≡ out.old ++ spec.message_line names.now m.now) }
 {
     put_route(out, names, m)?;
-    put_content(alloc, out, m)
+    put_content(out, m)
 }
 
 /// Appends the unread messages of an agent.
 #[tactic(auto, using(crate::proofs::Sections::letters_next, crate::proofs::Sections::letters_end, crate::proofs::Sections::letters_past))]
-fn put_box<A: Artifact>(alloc: Global, out: &mut Text, b: &Board<A>, a: u32) -> Result<(), Starved>
+fn put_box<A: Artifact>(out: &mut Text, b: &Board<A>, a: u32) -> Result<(), Starved>
     requires { IsAgent (length b.now.state.seats) a }
     ensures { OnOk result (out.new ≡ out.old ++ spec.box_text b.now.state a) }
 {
@@ -245,14 +245,14 @@ fn put_box<A: Artifact>(alloc: Global, out: &mut Text, b: &Board<A>, a: u32) -> 
         let Some(m) = b.mail(a, k) else {
             return Ok(());
         };
-        put_message(alloc, out, b.names(), m)?;
+        put_message(out, b.names(), m)?;
         k += 1;
     }
     Ok(())
 }
 
 #[tactic(auto, using(crate::proofs::Sections::boxes_next, crate::proofs::Sections::boxes_end))]
-fn put_mail<A: Artifact>(alloc: Global, out: &mut Text, b: &Board<A>) -> Result<(), Starved>
+fn put_mail<A: Artifact>(out: &mut Text, b: &Board<A>) -> Result<(), Starved>
     requires { IsSound b.now.state }
     ensures { OnOk result (out.new ≡ out.old ++ spec.mail_text b.now.state) }
 {
@@ -260,7 +260,7 @@ fn put_mail<A: Artifact>(alloc: Global, out: &mut Text, b: &Board<A>) -> Result<
     let agents = b.names().len();
     let mut a: u32 = 1;
     'boxes: while a <= agents {
-        put_box(alloc, out, b, a)?;
+        put_box(out, b, a)?;
         a += 1;
     }
     Ok(())
@@ -287,7 +287,7 @@ fn put_front<M: Mind, A: Artifact>(
     put_options(alloc, out, o)?;
     put_agents(alloc, out, &d.board, &d.minds)?;
     put_world(alloc, out, d.board.world())?;
-    put_mail(alloc, out, &d.board)
+    put_mail(out, &d.board)
 }
 
 /// The report of a run: its options, each agent's lines and end, the facts, the unread mail and the schedule.

@@ -1,10 +1,10 @@
 //! The two lines of a schedule.
 
-ghost use Rattle.std.specs.Prelude.{◌≡◌, ◌++◌, OnOk};
+ghost use Rattle.std.specs.Prelude.{◌≡◌, ◌++◌, OnOk, OnErr};
 ghost use Rattle.mas_schedule.specs.Schedule.{more_numbers, numbers_text, schedule_text};
 
 use asl_term::printing::write_number;
-use asl_term::sequence::Starved;
+use asl_term::sequence::{Seq, Starved};
 use asl_term::syntax::Text;
 use std::alloc::Global;
 
@@ -28,8 +28,7 @@ fn put_numbers(alloc: Global, out: &mut Text, names: &[u64]) -> Result<(), Starv
     put_more(alloc, out, more)
 }
 
-/// Appends `schedule N` and the line of the N numbers. After `Starved` a part of it may stand in `out`.
-pub fn put_schedule(alloc: Global, out: &mut Text, names: &[u64]) -> Result<(), Starved>
+fn put_lines(alloc: Global, out: &mut Text, names: &[u64]) -> Result<(), Starved>
     ensures { OnOk result (out.new ≡ out.old ++ schedule_text names.now) }
 {
     out.append(b"schedule ")?;
@@ -37,4 +36,14 @@ pub fn put_schedule(alloc: Global, out: &mut Text, names: &[u64]) -> Result<(), 
     out.append(b"\n")?;
     put_numbers(alloc, out, names)?;
     out.append(b"\n")
+}
+
+/// Appends `schedule N` and the line of the N numbers, whole or not at all.
+pub fn put_schedule(alloc: Global, out: &mut Text, names: &[u64]) -> Result<(), Starved>
+    ensures ok { OnOk result (out.new ≡ out.old ++ schedule_text names.now) }
+    ensures err { OnErr result (out.new ≡ out.old) }
+{
+    let mut lines = Seq::new(alloc);
+    put_lines(alloc, &mut lines, names)?;
+    out.append(lines.as_slice())
 }

@@ -22,6 +22,7 @@ use Rattle.mas_top.specs.Caused.{Texts, ForFiles, FileCaused}
 -- a status with which nothing was written
 abbrev refuses : Status → Bool
 refuses Ok = false
+refuses Usage = false
 refuses Budget = false
 refuses WriteFault = false
 refuses other = true
@@ -57,7 +58,7 @@ file_refuses u held wanted before after status (inr r) = no_report (schedules u 
 refused_by : (Is : Texts) (u : Setup) (wanted : Wanted) (before after : Told) (status : Status) → refuses status ≡ true →
     FileRefused u before.held wanted before.shelf_faults after.shelf_faults status → IsUnwritten before after → FileCaused Is u wanted before after status
 refused_by Is u wanted before after Ok e r n = absurd cc
-refused_by Is u wanted before after Usage e r n = record { why = r; unwritten = n }
+refused_by Is u wanted before after Usage e r n = absurd cc
 refused_by Is u wanted before after (Missing lacked) e r n = record { why = r; unwritten = n }
 refused_by Is u wanted before after ReadFault e r n = record { why = r; unwritten = n }
 refused_by Is u wanted before after WriteFault e r n = absurd cc

@@ -1,10 +1,12 @@
 -- What becomes of a demo.
-use Rattle.std.proofs.Common.{ℕ, ◌≡◌, ◌≤◌, inl, inr, Bool, true, false, List, Some, Option, refl, ap, sym, ◌∙◌, subst, codes, arith}
+use Rattle.std.proofs.Common.{ℕ, ◌≡◌, ◌≤◌, inl, inr, Bool, true, false, List, Some, Option, refl, subst, codes, arith}
+use Rattle.std.specs.Prelude.{Result, MatchResult}
 use Rattle.asl_cycle.specs.Agent.{agent_kind}
 use Rattle.asl_term.specs.declared.syntax.Filed.{Filed}
 use Rattle.mas_board.specs.Boards as boards
-use Rattle.mas_core.specs.Platform.{Platform, run}
-use Rattle.mas_core.specs.Robin.{RanOut, turns}
+use Rattle.mas_core.specs.Platform.{Platform}
+use Rattle.mas_core.specs.Replay.{RanAlong}
+use Rattle.mas_core.specs.Robin.{RanOut}
 use Rattle.mas_demo.specs.Files.{demo_files}
 use Rattle.mas_demo.specs.Lines.{demo_text}
 use Rattle.mas_io.specs.Causes.{Rose}
@@ -26,27 +28,33 @@ use Rattle.mas_top.specs.Demo.{DemoHas, IsToldRun, IsDemo, DemoRefused, DemoCaus
 use Rattle.mas_report.specs.declared.options.Options.{Options}
 use Rattle.mas_world.specs.Worlds.{Used}
 use Rattle.mas_top.specs.Opening.{Setup, setup, opening}
+use Rattle.mas_top.specs.Ways.{Way, way_of}
 use Rattle.mas_top.proofs.Caused.{first_by}
+use Rattle.mas_top.proofs.Runs.{by_workers}
 
--- the lines of the round robin
-pub robin_told : {V : Type 0} (kind : Kind V) (p : Platform V) (board : boards.Noted) (minds : List V) (k : ℕ) (w : List ℕ) → RanOut kind p board minds →
-    w ≡ demo_text k board.state → IsToldRun kind p k w
-robin_told {V} kind p board minds k w r t = record {
-  done = record { board = board.state; minds = minds; thoughts = r.thoughts };
-  ran = ap (run kind p) (sym r.schedule) ∙ r.ran;
-  ended = r.ended;
+-- the lines of a run by so many workers
+pub run_told : {V : Type 0} (kind : Kind V) (p : Platform V) (workers : ℕ) (board : boards.Noted) (minds : List V) (k : ℕ) (w : List ℕ) →
+    RanAlong kind p board.schedule board minds → (workers ≡ 1 → RanOut kind p board minds) → w ≡ demo_text k board.state → IsToldRun kind p (way_of workers) k w
+run_told {V} kind p workers board minds k w r robin t = record {
+  names = board.schedule;
+  scheduled = by_workers kind p workers board.schedule (λ e. (robin e).schedule);
+  leads = record { done = record { board = board.state; minds = minds; thoughts = r.thoughts }; ran = r.ran; ended = r.ended };
   is = t;
 }
 
-pub told : (o : Options) (objects : List Used) (k : ℕ) (source : Source) (w : List ℕ) →
-    HasSource (known objects) o.cycles (Some (demo_files k)) (codes "demo.mas2j") source → IsToldRun agent_kind (opening (setup o objects) source) k w →
-    IsDemo (setup o objects) k w
-told o objects k source w h t = record { source = source; has = h; told = t }
+pub told : (o : Options) (objects : List Used) (k : ℕ) (way : Way) (source : Source) (w : List ℕ) → DemoHas (setup o objects) k source →
+    IsToldRun agent_kind (opening (setup o objects) source) way k w → IsDemo (setup o objects) k way w
+told o objects k way source w h t = record { source = source; has = h; told = t }
 
-pub unread : (o : Options) (objects : List Used) (k : ℕ) (held : Option (List Filed)) (word : List ℕ) (status : Status) → held ≡ Some (demo_files k) →
-    word ≡ codes "demo.mas2j" → AreRefused (known objects) o.cycles held word 0 0 status → UnlessMemory (DemoRefused (setup o objects) k) status
-unread o objects k held word status e f r =
-    subst (λ w. AreRefused (known objects) o.cycles (Some (demo_files k)) w 0 0 status) f (subst (λ x. AreRefused (known objects) o.cycles x word 0 0 status) e r)
+-- what is read from the shelf of the demo's files
+pub described : (u : Setup) (k : ℕ) (held : Option (List Filed)) (word : List ℕ) (r : Result Source Status) → held ≡ Some (demo_files k) → word ≡ codes "demo.mas2j" →
+    MatchResult r (HasSource (known u.objects) u.options.cycles held word) (AreRefused (known u.objects) u.options.cycles held word 0 0) →
+    MatchResult r (DemoHas u k) (UnlessMemory (DemoRefused u k))
+described u k held word r e f h =
+    let names = known u.objects in
+    let cycles = u.options.cycles in
+    subst (λ w. MatchResult r (HasSource names cycles (Some (demo_files k)) w) (AreRefused names cycles (Some (demo_files k)) w 0 0)) f
+    (subst (λ x. MatchResult r (HasSource names cycles x word) (AreRefused names cycles x word 0 0)) e h)
 
 -- a status that tells of a file of a shelf of which no call fails
 abbrev tells : Status → Bool
@@ -71,43 +79,45 @@ told_of_file r name held (Limit quantity count) h = refl
 told_of_file r name held Budget h = absurd h
 told_of_file r name held Memory h = refl
 
-one_refused : (u : Setup) (k : ℕ) (before after : Told) (status : Status) → tells status ≡ true → DemoRefused u k status → IsUnwritten before after →
-    DemoCaused u k before after status
-one_refused u k before after Ok e r w = absurd cc
-one_refused u k before after Usage e r w = absurd cc
-one_refused u k before after (Missing lacked) e r w = record { why = r; unwritten = w }
-one_refused u k before after ReadFault e r w = absurd cc
-one_refused u k before after WriteFault e r w = absurd cc
-one_refused u k before after (Refused file place why) e r w = record { why = r; unwritten = w }
-one_refused u k before after (Limit quantity count) e r w = record { why = r; unwritten = w }
-one_refused u k before after Budget e r w = absurd cc
-one_refused u k before after Memory e r w = w
+one_refused : (u : Setup) (k : ℕ) (way : Way) (before after : Told) (status : Status) → tells status ≡ true → DemoRefused u k status → IsUnwritten before after →
+    DemoCaused u k way before after status
+one_refused u k way before after Ok e r w = absurd cc
+one_refused u k way before after Usage e r w = absurd cc
+one_refused u k way before after (Missing lacked) e r w = record { why = r; unwritten = w }
+one_refused u k way before after ReadFault e r w = absurd cc
+one_refused u k way before after WriteFault e r w = absurd cc
+one_refused u k way before after (Refused file place why) e r w = record { why = r; unwritten = w }
+one_refused u k way before after (Limit quantity count) e r w = record { why = r; unwritten = w }
+one_refused u k way before after Budget e r w = absurd cc
+one_refused u k way before after Memory e r w = w
 
-by_first : (u : Setup) (k : ℕ) (before after : Told) (status : Status) → DemoRefused u k status → IsUnwritten before after → DemoCaused u k before after status
-by_first u k before after status r w =
-    one_refused u k before after status
+by_first : (u : Setup) (k : ℕ) (way : Way) (before after : Told) (status : Status) → DemoRefused u k status → IsUnwritten before after →
+    DemoCaused u k way before after status
+by_first u k way before after status r w =
+    one_refused u k way before after status
     (first_by (λ s. tells s ≡ true) (known u.objects) u.options.cycles (Some (demo_files k)) (codes "demo.mas2j") 0 0 status
     (λ r name s. told_of_file r name (Some (demo_files k)) s) (λ count. refl) r) r w
 
 -- a file is refused, and nothing was written
-pub unwritten : (u : Setup) (k : ℕ) (before after : Told) (status : Status) → UnlessMemory (DemoRefused u k) status → IsUnwritten before after →
-    DemoCaused u k before after status
-unwritten u k before after Ok r w = by_first u k before after Ok r w
-unwritten u k before after Usage r w = by_first u k before after Usage r w
-unwritten u k before after (Missing lacked) r w = by_first u k before after (Missing lacked) r w
-unwritten u k before after ReadFault r w = by_first u k before after ReadFault r w
-unwritten u k before after WriteFault r w = by_first u k before after WriteFault r w
-unwritten u k before after (Refused file place why) r w = by_first u k before after (Refused file place why) r w
-unwritten u k before after (Limit quantity count) r w = by_first u k before after (Limit quantity count) r w
-unwritten u k before after Budget r w = by_first u k before after Budget r w
-unwritten u k before after Memory r w = w
+pub unwritten : (u : Setup) (k : ℕ) (way : Way) (before after : Told) (status : Status) → UnlessMemory (DemoRefused u k) status → IsUnwritten before after →
+    DemoCaused u k way before after status
+unwritten u k way before after Ok r w = by_first u k way before after Ok r w
+unwritten u k way before after Usage r w = by_first u k way before after Usage r w
+unwritten u k way before after (Missing lacked) r w = by_first u k way before after (Missing lacked) r w
+unwritten u k way before after ReadFault r w = by_first u k way before after ReadFault r w
+unwritten u k way before after WriteFault r w = by_first u k way before after WriteFault r w
+unwritten u k way before after (Refused file place why) r w = by_first u k way before after (Refused file place why) r w
+unwritten u k way before after (Limit quantity count) r w = by_first u k way before after (Limit quantity count) r w
+unwritten u k way before after Budget r w = by_first u k way before after Budget r w
+unwritten u k way before after Memory r w = w
 
-pub written : (u : Setup) (k : ℕ) (before after : Told) (w : List ℕ) → IsDemo u k w → after.written ≡ grown before.written w → DemoCaused u k before after Ok
-written u k before after w d e = record { text = w; is = d; written = e }
+pub written : (u : Setup) (k : ℕ) (way : Way) (before after : Told) (w : List ℕ) → IsDemo u k way w → after.written ≡ grown before.written w →
+    DemoCaused u k way before after Ok
+written u k way before after w d e = record { text = w; is = d; written = e }
 
-pub cut : (u : Setup) (k : ℕ) (before after : Told) (w : List ℕ) → IsDemo u k w → Rose before.sink_faults after.sink_faults →
-    IsCut before.written after.written w → DemoCaused u k before after WriteFault
-cut u k before after w d r c = record { rose = r; text = w; is = d; cut = c }
+pub cut : (u : Setup) (k : ℕ) (way : Way) (before after : Told) (w : List ℕ) → IsDemo u k way w → Rose before.sink_faults after.sink_faults →
+    IsCut before.written after.written w → DemoCaused u k way before after WriteFault
+cut u k way before after w d r c = record { rose = r; text = w; is = d; cut = c }
 
 -- ---- completeness
 
@@ -116,14 +126,14 @@ not_first : (objects : List Used) (k : ℕ) (status : Status) → 1 ≤ k → k 
 not_first objects k status l h t r =
     demo_not_refused (known objects) k status t l h (unless (FirstRefused (known objects) 1000 (Some (demo_files k)) (codes "demo.mas2j") 0 0) status r)
 
-pub demo_complete : (objects : List Used) (k : ℕ) (before after : Told) (status : Status) → 1 ≤ k → k ≤ 200 →
-    DemoCaused (setup defaults objects) k before after status → IsDemoComplete (setup defaults objects) before after status
-demo_complete objects k before after Ok l h c t f = inl refl
-demo_complete objects k before after Usage l h c t f = absurd c
-demo_complete objects k before after (Missing lacked) l h c t f = inr (not_first objects k (Missing lacked) l h t c.why)
-demo_complete objects k before after ReadFault l h c t f = absurd c
-demo_complete objects k before after WriteFault l h c t f = absurd (f c.rose)
-demo_complete objects k before after (Refused file place why) l h c t f = inr (not_first objects k (Refused file place why) l h t c.why)
-demo_complete objects k before after (Limit quantity count) l h c t f = inr (not_first objects k (Limit quantity count) l h t c.why)
-demo_complete objects k before after Budget l h c t f = absurd c
-demo_complete objects k before after Memory l h c t f = inr refl
+pub demo_complete : (objects : List Used) (k : ℕ) (way : Way) (before after : Told) (status : Status) → 1 ≤ k → k ≤ 200 →
+    DemoCaused (setup defaults objects) k way before after status → IsDemoComplete (setup defaults objects) before after status
+demo_complete objects k way before after Ok l h c t f = inl refl
+demo_complete objects k way before after Usage l h c t f = absurd c
+demo_complete objects k way before after (Missing lacked) l h c t f = inr (not_first objects k (Missing lacked) l h t c.why)
+demo_complete objects k way before after ReadFault l h c t f = absurd c
+demo_complete objects k way before after WriteFault l h c t f = absurd (f c.rose)
+demo_complete objects k way before after (Refused file place why) l h c t f = inr (not_first objects k (Refused file place why) l h t c.why)
+demo_complete objects k way before after (Limit quantity count) l h c t f = inr (not_first objects k (Limit quantity count) l h t c.why)
+demo_complete objects k way before after Budget l h c t f = absurd c
+demo_complete objects k way before after Memory l h c t f = inr refl

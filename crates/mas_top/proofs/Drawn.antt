@@ -17,16 +17,15 @@ use Rattle.mas_reading.specs.Sources.{FirstRefused}
 use Rattle.mas_reading.proofs.Unless.{unless}
 use Rattle.mas_reading.proofs.Single.{with_file, one_source, not_refused, not_refused_file}
 use Rattle.mas_top.specs.Opening.{Setup, opening}
-use Rattle.mas_top.specs.Runs.{Wanted, Given, given, most_bytes, IsFollowed, HasSchedule, HasGiven, schedules, FileRefused}
+use Rattle.mas_top.specs.Runs.{How, by_workers, by_file, Wanted, Given, given, most_bytes, IsFollowed, HasWay, HasGiven, schedules, FileRefused, NoneRefused}
+use Rattle.mas_top.specs.Ways.{Way, alone, shared, along, IsScheduled}
 use Rattle.mas_top.specs.Caused.{Texts, ForFiles, FileCaused}
-use Rattle.mas_top.specs.Headline.{IsRunReportOf, IsScheduled, IsHeadline, PrintsSchedule, IsComplete}
-use Rattle.mas_top.proofs.Followed.{one_schedule, followed_accepted}
+use Rattle.mas_top.specs.Headline.{IsRunReportOf, IsHeadline, PrintsSchedule, IsComplete}
+use Rattle.mas_schedule.specs.Schedule.{printed}
+use Rattle.mas_top.proofs.Followed.{file_same, one_schedule, followed_accepted}
 
 some_same : {A : Type 0} {x y : A} → Some x ≡ Some y → x ≡ y
 some_same e = cc
-
-none_some : {A : Type 0} {x : A} → None ≡ Some x → ⊥
-none_some e = cc
 
 -- what the sink tells of the text
 put : (a b : Option (List ℕ)) (old new w : List ℕ) → a ≡ Some old → b ≡ Some new → b ≡ grown a w → new ≡ old ++ w
@@ -57,22 +56,21 @@ headline_file u wanted before after status c spent files old new s h b a =
 
 -- ---- the files describe one thing
 
-same_schedule : (u : Setup) (files : List Filed) (source : Source) (name a b : Option (List ℕ)) → HasSchedule u (Some files) source name a →
-    HasSchedule u (Some files) source name b → a ≡ b
-same_schedule u files source None None None h g = refl
-same_schedule u files source None None (Some b) h g = absurd g
-same_schedule u files source None (Some a) b h g = absurd h
-same_schedule u files source (Some name) None b h g = absurd h
-same_schedule u files source (Some name) (Some a) None h g = absurd g
-same_schedule u files source (Some name) (Some a) (Some b) h g =
-    let w = with_file most_bytes files name (λ x. IsFollowed u source x a) (λ x. IsFollowed u source x b) h g in
-    ap Some (one_schedule h.bytes a b h.are.is w.is)
+same_way : (u : Setup) (files : List Filed) (source : Source) (how : How) (a b : Way) → HasWay u (Some files) source how a → HasWay u (Some files) source how b → a ≡ b
+same_way u files source (by_workers count) a b h g = h ∙ sym g
+same_way u files source (by_file name) alone b h g = absurd h
+same_way u files source (by_file name) shared b h g = absurd h
+same_way u files source (by_file name) (along x) alone h g = absurd g
+same_way u files source (by_file name) (along x) shared h g = absurd g
+same_way u files source (by_file name) (along x) (along y) h g =
+    let w = with_file most_bytes files name (λ b. IsFollowed u source b x) (λ b. IsFollowed u source b y) h g in
+    ap along (one_schedule h.bytes x y h.are.is w.is)
 
 same_given : (u : Setup) (files : List Filed) (wanted : Wanted) (a b : Given) → HasGiven u (Some files) wanted a → HasGiven u (Some files) wanted b → a ≡ b
 same_given u files wanted a b h g =
     let e = one_source (known u.objects) u.options.cycles files wanted.project a.source b.source h.source g.source in
-    let s = subst (λ x. HasSchedule u (Some files) x wanted.schedule b.schedule) (sym e) g.schedule in
-    ap (λ x. given x a.schedule) e ∙ ap (given b.source) (same_schedule u files a.source wanted.schedule a.schedule b.schedule h.schedule s)
+    let s = subst (λ x. HasWay u (Some files) x wanted.how b.way) (sym e) g.way in
+    ap (λ x. given x a.way) e ∙ ap (given b.source) (same_way u files a.source wanted.how a.way b.way h.way s)
 
 pub schedule_file : (u : Setup) (wanted : Wanted) (before after : Told) (status : Status) → FileCaused (IsRunReportOf u) u wanted before after status →
     PrintsSchedule u wanted before after status
@@ -81,19 +79,20 @@ schedule_file u wanted before after status c g text p =
     let has : HasGiven u (Some p.files) wanted w.is.given = subst (λ held. HasGiven u held wanted w.is.given) p.held w.is.has in
     let same : w.is.given ≡ g = same_given u p.files wanted w.is.given g has p.described in
     let all : text ≡ w.text = append_cancel_left p.old text w.text (put before.written after.written p.old (p.old ++ text) w.text p.old_is p.new_is w.written) in
-    subst (λ t. IsScheduled agent_kind (opening u g.source) g.schedule t) (sym all)
-    (subst (λ x. IsScheduled agent_kind (opening u x.source) x.schedule w.text) same w.is.is.scheduled)
+    subst (λ t. IsScheduled agent_kind (opening u g.source) g.way (printed t)) (sym all)
+    (subst (λ x. IsScheduled agent_kind (opening u x.source) x.way (printed w.text)) same w.is.is.scheduled)
 
 -- ---- files that describe something are not refused
 
-schedule_not : (u : Setup) (files : List Filed) (source : Source) (name : List ℕ) (named names : Option (List ℕ)) (before after : ℕ) (status : Status) →
-    named ≡ Some name → HasSchedule u (Some files) source named names → (Rose before after → ⊥) →
+schedule_not : (u : Setup) (files : List Filed) (source : Source) (name : List ℕ) (how : How) (way : Way) (before after : ℕ) (status : Status) →
+    how ≡ by_file name → HasWay u (Some files) source how way → (Rose before after → ⊥) →
     IsRefusal (schedules u source) name (Some files) before after status → status ≡ Memory
-schedule_not u files source name None names before after status e h f c = absurd (none_some e)
-schedule_not u files source name (Some n) None before after status e h f c = absurd h
-schedule_not u files source name (Some n) (Some names) before after status e h f c =
+schedule_not u files source name (by_workers count) way before after status e h f c = absurd cc
+schedule_not u files source name (by_file n) alone before after status e h f c = absurd h
+schedule_not u files source name (by_file n) shared before after status e h f c = absurd h
+schedule_not u files source name (by_file n) (along names) before after status e h f c =
     let g : HasFile most_bytes (Some files) name (λ x. IsFollowed u source x names) =
-    subst (λ x. HasFile most_bytes (Some files) x (λ y. IsFollowed u source y names)) (some_same e) h in
+    subst (λ x. HasFile most_bytes (Some files) x (λ y. IsFollowed u source y names)) (file_same n name e) h in
     not_refused_file (schedules u source) files name before after status (λ x. IsFollowed u source x names) g (followed_accepted u source g.bytes names g.are) f c
 
 pub file_not : (u : Setup) (files : List Filed) (wanted : Wanted) (g : Given) (before after : ℕ) (status : Status) → HasGiven u (Some files) wanted g →
@@ -102,26 +101,33 @@ file_not u files wanted g before after status h f (inl r) =
     not_refused (known u.objects) u.options.cycles files wanted.project g.source before after status h.source f (unless (FirstRefused (known u.objects) u.options.cycles (Some files) wanted.project before after) status r)
 file_not u files wanted g before after status h f (inr r) =
     let e = one_source (known u.objects) u.options.cycles files wanted.project g.source r.source h.source r.read in
-    let s = subst (λ x. HasSchedule u (Some files) x wanted.schedule g.schedule) e h.schedule in
-    schedule_not u files r.source r.name wanted.schedule g.schedule before after status r.named s f r.why
+    let s = subst (λ x. HasWay u (Some files) x wanted.how g.way) e h.way in
+    schedule_not u files r.source r.name wanted.how g.way before after status r.named s f r.why
 
-refused_memory : (u : Setup) (wanted : Wanted) (before after : Told) (status : Status) (files : List Filed) (g : Given) → before.held ≡ Some files →
-    HasGiven u (Some files) wanted g → (Rose before.shelf_faults after.shelf_faults → ⊥) →
-    FileRefused u before.held wanted before.shelf_faults after.shelf_faults status → status ≡ Memory
-refused_memory u wanted before after status files g e h f c =
-    file_not u files wanted g before.shelf_faults after.shelf_faults status h f
-    (subst (λ held. FileRefused u held wanted before.shelf_faults after.shelf_faults status) e c)
+-- ---- completeness
+
+not_refused_here : (u : Setup) (wanted : Wanted) (before after : Told) (status : Status) (files : List Filed) → before.held ≡ Some files → NoneRefused u files wanted →
+    (Rose before.shelf_faults after.shelf_faults → ⊥) → (status ≡ Memory → ⊥) →
+    FileRefused u before.held wanted before.shelf_faults after.shelf_faults status → ⊥
+not_refused_here u wanted before after status files e n f m c = n status (record {
+  before = before.shelf_faults;
+  after = after.shelf_faults;
+  no_fault = f;
+  no_lack = m;
+  is = subst (λ held. FileRefused u held wanted before.shelf_faults after.shelf_faults status) e c;
+})
 
 pub complete_file : (Is : Texts) (u : Setup) (wanted : Wanted) (before after : Told) (status : Status) → FileCaused Is u wanted before after status →
     IsComplete u wanted before after status
-complete_file Is u wanted before after Ok c files g e h f k = inl (false, refl)
-complete_file Is u wanted before after Usage c files g e h f k = inr (refused_memory u wanted before after Usage files g e h f c.why)
-complete_file Is u wanted before after (Missing lacked) c files g e h f k = inr (refused_memory u wanted before after (Missing lacked) files g e h f c.why)
-complete_file Is u wanted before after ReadFault c files g e h f k = inr (refused_memory u wanted before after ReadFault files g e h f c.why)
-complete_file Is u wanted before after WriteFault c files g e h f k = absurd (k c.rose)
-complete_file Is u wanted before after (Refused file place why) c files g e h f k =
-    inr (refused_memory u wanted before after (Refused file place why) files g e h f c.why)
-complete_file Is u wanted before after (Limit quantity count) c files g e h f k =
-    inr (refused_memory u wanted before after (Limit quantity count) files g e h f c.why)
-complete_file Is u wanted before after Budget c files g e h f k = inl (true, refl)
-complete_file Is u wanted before after Memory c files g e h f k = inr refl
+complete_file Is u wanted before after Ok c files e n f k = inl (false, refl)
+complete_file Is u wanted before after Usage c files e n f k = absurd c
+complete_file Is u wanted before after (Missing lacked) c files e n f k =
+    absurd (not_refused_here u wanted before after (Missing lacked) files e n f (λ q. cc) c.why)
+complete_file Is u wanted before after ReadFault c files e n f k = absurd (not_refused_here u wanted before after ReadFault files e n f (λ q. cc) c.why)
+complete_file Is u wanted before after WriteFault c files e n f k = absurd (k c.rose)
+complete_file Is u wanted before after (Refused file place why) c files e n f k =
+    absurd (not_refused_here u wanted before after (Refused file place why) files e n f (λ q. cc) c.why)
+complete_file Is u wanted before after (Limit quantity count) c files e n f k =
+    absurd (not_refused_here u wanted before after (Limit quantity count) files e n f (λ q. cc) c.why)
+complete_file Is u wanted before after Budget c files e n f k = inl (true, refl)
+complete_file Is u wanted before after Memory c files e n f k = inr refl

@@ -6,7 +6,7 @@ use Rattle.mas_mind.specs.Minds.{Kind}
 use Rattle.mas_board.specs.Boards.{is_gone}
 use Rattle.mas_core.specs.Platform.{Platform, turn, and_run, run, ended, first_here}
 use Rattle.mas_core.specs.Replay.{Stuck, Came, follow_on, follow}
-use Rattle.mas_board.specs.declared.seats.Seat.{Seat}
+use Rattle.mas_board.specs.declared.seats.Place.{Place}
 use Rattle.mas_schedule.specs.Reading.{IsSchedule}
 use Rattle.mas_schedule.proofs.Answered.{one_answer}
 use Rattle.mas_reading.specs.declared.sources.Source.{Source}
@@ -14,7 +14,7 @@ use Rattle.mas_reading.specs.declared.status.Reason.{Reason}
 use Rattle.mas_reading.specs.declared.status.Reason.TheVariants as reason
 use Rattle.mas_reading.proofs.Single.{Accepted}
 use Rattle.mas_top.specs.Opening.{Setup, opening}
-use Rattle.mas_top.specs.Runs.{IsFollowed, schedules}
+use Rattle.mas_top.specs.Runs.{How, by_file, IsFollowed, schedules}
 
 abbrev read : List ℕ → Result (List ℕ) ℕ
 read names = Yes names
@@ -24,6 +24,9 @@ names_same a b e = cc
 
 pub names_fault : (names : List ℕ) (n : ℕ) → Yes names ≡ No n → ⊥
 names_fault names n e = cc
+
+pub file_same : (n m : List ℕ) → by_file n ≡ by_file m → n ≡ m
+file_same n m e = cc
 
 pub one_schedule : (bytes a b : List ℕ) → IsSchedule bytes a → IsSchedule bytes b → a ≡ b
 one_schedule bytes a b h g = names_same a b (one_answer bytes (Yes a) (Yes b) h g)
@@ -53,7 +56,7 @@ here_by true e a f h k = k h
 here_by false e a f h k = absurd cc
 
 -- where every agent has left there is none that has not
-none_here : (a : ℕ) (seats : List Seat) → ended seats ≡ true → first_here a seats ≡ None
+none_here : (a : ℕ) (seats : List Place) → ended seats ≡ true → first_here a seats ≡ None
 none_here a [] e = refl
 none_here a (seat ∷ seats) e = here_by (is_gone seat.phase) (ended seats) a (first_here (a + 1) seats) e (none_here (a + 1) seats)
 

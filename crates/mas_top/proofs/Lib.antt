@@ -7,3 +7,4 @@ pub mod Refusals
 pub mod Drawn
 pub mod Demos
 pub mod Said
+pub mod Repeats

@@ -35,7 +35,8 @@ use Rattle.mas_reading.proofs.Within.{within, some_agents}
 use Rattle.mas_report.specs.declared.options.Options.{Options}
 use Rattle.mas_top.specs.Opening.{Setup, setup, opening, texts_of}
 use Rattle.mas_top.specs.Fits.{CanOpen, CanRun, is_ground_role}
-use Rattle.mas_top.specs.Runs.{Wanted, wanted, given, most_bytes, schedules, FileRefused, GivenRefused}
+use Rattle.mas_top.specs.Runs.{by_workers, by_file, Wanted, wanted, given, most_bytes, schedules, FileRefused, GivenRefused}
+use Rattle.mas_top.specs.Ways.{along, way_of}
 use Rattle.mas_top.specs.Caused.{ForFiles}
 use Rattle.mas_top.specs.Headline.{IsRunReport, IsRunReportOf}
 use Rattle.mas_top.specs.Playing.{IsReplayed, ForSchedule, lines, line_status, play_status}
@@ -97,7 +98,7 @@ pub followed : (u : Setup) (held : Option (List Filed)) (source : Source) (name 
     HasFile most_bytes held name (λ bytes. IsSchedule bytes names) → IsReplayed agent_kind u.options (opening u source) names spent w → ForSchedule u held source name spent w
 followed u held source name names spent w h r = record {
   names = names;
-  has = record { bytes = h.bytes; has = h.has; are = record { is = h.are; leads = record { done = r.done; ran = r.ran; ended = r.ended } } };
+  has = record { bytes = h.bytes; has = h.has; are = record { is = h.are; leads = r.leads } };
   report = r.report;
 }
 
@@ -174,14 +175,16 @@ known_as names objects cycles held word before after result e h =
 
 -- ---- what is asked for
 
-pub ran : (o : Options) (objects : List Used) (held : Option (List Filed)) (word : List ℕ) (source : Source) (spent : Bool) (w : List ℕ) → HasSource (known objects) o.cycles held word source →
-    IsRunReport agent_kind o (opening (setup o objects) source) None spent w → ForFiles (IsRunReportOf (setup o objects)) (setup o objects) held (wanted word None) spent w
-ran o objects held word source spent w h r = record { given = given source None; has = record { source = h; schedule = tt }; is = r }
+pub ran : (o : Options) (objects : List Used) (held : Option (List Filed)) (word : List ℕ) (source : Source) (workers : ℕ) (spent : Bool) (w : List ℕ) →
+    HasSource (known objects) o.cycles held word source → IsRunReport agent_kind o (opening (setup o objects) source) (way_of workers) spent w →
+    ForFiles (IsRunReportOf (setup o objects)) (setup o objects) held (wanted word (by_workers workers)) spent w
+ran o objects held word source workers spent w h r = record { given = given source (way_of workers); has = record { source = h; way = refl }; is = r }
 
 pub replayed : (o : Options) (objects : List Used) (held : Option (List Filed)) (word : List ℕ) (source : Source) (name : List ℕ) (spent : Bool) (w : List ℕ) →
-    HasSource (known objects) o.cycles held word source → ForSchedule (setup o objects) held source name spent w → ForFiles (IsRunReportOf (setup o objects)) (setup o objects) held (wanted word (Some name)) spent w
+    HasSource (known objects) o.cycles held word source → ForSchedule (setup o objects) held source name spent w →
+    ForFiles (IsRunReportOf (setup o objects)) (setup o objects) held (wanted word (by_file name)) spent w
 replayed o objects held word source name spent w h r =
-    record { given = given source (Some r.names); has = record { source = h; schedule = r.has }; is = r.report }
+    record { given = given source (along r.names); has = record { source = h; way = r.has }; is = r.report }
 
 pub no_source : (o : Options) (objects : List Used) (held : Option (List Filed)) (a : Wanted) (before after : ℕ) (status : Status) →
     AreRefused (known objects) o.cycles held a.project before after status → GivenRefused (setup o objects) held a before after status
@@ -189,9 +192,9 @@ no_source o objects held a before after status r =
     unless_as (FirstRefused (known objects) o.cycles held a.project before after) (FileRefused (setup o objects) held a before after) (λ s h. inl h) status r
 
 pub no_schedule : (o : Options) (objects : List Used) (held : Option (List Filed)) (word : List ℕ) (source : Source) (name : List ℕ) (first before after : ℕ) (status : Status) → first ≤ before →
-    HasSource (known objects) o.cycles held word source → IsRefusal (schedules (setup o objects) source) name held before after status → GivenRefused (setup o objects) held (wanted word (Some name)) first after status
+    HasSource (known objects) o.cycles held word source → IsRefusal (schedules (setup o objects) source) name held before after status → GivenRefused (setup o objects) held (wanted word (by_file name)) first after status
 no_schedule o objects held word source name first before after status l h r =
-    unless (FileRefused (setup o objects) held (wanted word (Some name)) first after) status
+    unless (FileRefused (setup o objects) held (wanted word (by_file name)) first after) status
     (inr (record { source = source; read = h; name = name; named = refl; why = refusal_from (schedules (setup o objects) source) name held first before after status l r }))
 
 -- what becomes of what is asked for

@@ -21,7 +21,7 @@ use Rattle.mas_reading.proofs.Refusals.{OneStatus, Faulty, Large, FaultOf, there
 use Rattle.mas_top.specs.Opening.{Setup, opening}
 use Rattle.mas_top.specs.Runs.{Wanted, IsIllegal, IsUnended, schedules, FileRefused, ScheduleRefused}
 use Rattle.mas_top.specs.Laws.{OneRefusal}
-use Rattle.mas_top.proofs.Followed.{names_fault, one_schedule, came_stuck, follows}
+use Rattle.mas_top.proofs.Followed.{names_fault, file_same, one_schedule, came_stuck, follows}
 
 -- ---- the bytes of a schedule are refused in one way
 
@@ -129,7 +129,7 @@ module _ (u : Setup) (files : List Filed) (wanted : Wanted) where
       ScheduleRefused u (Some files) wanted y.before y.after t → s ≡ t
   schedule_one s t x y h g =
       let e = one_source (known u.objects) u.options.cycles files wanted.project g.source h.source g.read h.read in
-      let n = some_same (sym g.named ∙ h.named) in
+      let n = file_same g.name h.name (sym g.named ∙ h.named) in
       let w = subst (λ z. IsRefusal (schedules u z) g.name (Some files) y.before y.after t) e g.why in
       file_one files x.before x.after y.before y.after s t (calm Is s x) (calm Is t y) (schedules u h.source) (schedules_one u h.source) h.name h.why
       (subst (λ z. IsRefusal (schedules u h.source) z (Some files) y.before y.after t) n w)

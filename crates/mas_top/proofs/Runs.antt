@@ -1,5 +1,6 @@
 -- The report of a whole run.
-use Rattle.std.proofs.Common.{ℕ, zero, suc, ◌≡◌, ◌≤◌, ◌<◌, ◌-◌, Bool, true, false, replicate, List, [], length, Option, None, Some, IfSome, slice_get, refl, ap, sym, ◌∙◌, subst, arith}
+use Rattle.std.proofs.Common.{ℕ, zero, suc, ◌≡◌, ◌≤◌, ◌<◌, ◌-◌, ◌==◌, Bool, true, false, if◌then◌else◌, replicate, List, [], length, Option, None, Some, IfSome, slice_get, refl, ap, sym, ◌∙◌, subst, arith}
+use Rattle.std.proofs.lemmas.Bool.{eqb-true}
 use Rattle.std.proofs.lemmas.List.{length-replicate}
 use Rattle.asl_cycle.specs.Agent.{Mindset, agent_kind}
 use Rattle.mas_mind.specs.Minds.{Kind, IsAgent}
@@ -8,7 +9,7 @@ use Rattle.mas_board.specs.Seating.{IsSound, AreLimits}
 use Rattle.mas_core.specs.Fits.{Start, IsMindOf}
 use Rattle.mas_core.specs.Platform.{Platform, run, ended}
 use Rattle.mas_core.specs.Replay.{RanAlong}
-use Rattle.mas_core.specs.Robin.{RanOut}
+use Rattle.mas_core.specs.Robin.{turns, RanOut}
 use Rattle.mas_schedule.specs.Schedule.{printed}
 use Rattle.mas_schedule.proofs.Scanned.{printed-schedule}
 use Rattle.mas_report.specs.declared.options.Options.{Options}
@@ -21,6 +22,7 @@ use Rattle.mas_top.specs.Headline.{IsRunReport}
 use Rattle.mas_world.specs.Worlds.{Used}
 use Rattle.mas_top.specs.Opening.{Setup, setup, opening_board, opening_minds, texts_of}
 use Rattle.mas_top.specs.Playing.{IsReplayed}
+use Rattle.mas_top.specs.Ways.{alone, shared, way_of, IsScheduled}
 use Rattle.mas_top.proofs.Opened.{mind_at, opened_length}
 
 true_false : true ≡ false → ⊥
@@ -47,14 +49,30 @@ reports {V} k o p done schedule spent w r e b t same = record {
   is = t ∙ ap (report_text k.lines o done.board done.minds) (sym same);
 }
 
--- that of the round robin
-pub robin_report : {V : Type 0} (k : Kind V) (o : Options) (p : Platform V) (board : boards.Noted) (minds : List V) (spent : Bool) (w : List ℕ) →
-    IsSound p.board → RanOut k p board minds → spent ≡ is_spent board.state.seats → w ≡ report_text k.lines o board.state minds board.schedule →
-    IsRunReport k o p None spent w
-robin_report {V} k o p board minds spent w sound r b t =
+-- ---- the order of the turns
+
+order : {V : Type 0} (k : Kind V) (p : Platform V) (names : List ℕ) (b : Bool) → (b ≡ true → names ≡ turns k p) → IsScheduled k p (if b then alone else shared) names
+order k p names true h = h refl
+order k p names false h = tt
+
+-- where one worker makes them they are those of the round robin
+pub by_workers : {V : Type 0} (k : Kind V) (p : Platform V) (workers : ℕ) (names : List ℕ) → (workers ≡ 1 → names ≡ turns k p) →
+    IsScheduled k p (way_of workers) names
+by_workers k p workers names h = order k p names (workers == 1) (λ e. h (eqb-true workers 1 e))
+
+-- ---- reports
+
+-- that of a run by so many workers
+pub pool_report : {V : Type 0} (k : Kind V) (o : Options) (p : Platform V) (workers : ℕ) (board : boards.Noted) (minds : List V) (spent : Bool) (w : List ℕ) →
+    IsSound p.board → RanAlong k p board.schedule board minds → (workers ≡ 1 → RanOut k p board minds) → spent ≡ is_spent board.state.seats →
+    w ≡ report_text k.lines o board.state minds board.schedule → IsRunReport k o p (way_of workers) spent w
+pool_report {V} k o p workers board minds spent w sound r robin b t =
     let done : Platform V = record { board = board.state; minds = minds; thoughts = r.thoughts } in
     let same = prints k o p done board.schedule w sound r.ran t in
-    record { report = reports k o p done board.schedule spent w r.ran r.ended b t same; scheduled = record { robin = same ∙ r.schedule } }
+    record {
+      report = reports k o p done board.schedule spent w r.ran r.ended b t same;
+      scheduled = by_workers k p workers (printed w) (λ e. same ∙ (robin e).schedule);
+    }
 
 -- that of a run along given numbers
 pub replay_report : {V : Type 0} (k : Kind V) (o : Options) (p : Platform V) (names : List ℕ) (board : boards.Noted) (minds : List V) (spent : Bool) (w : List ℕ) →
@@ -65,9 +83,7 @@ replay_report {V} k o p names board minds spent w sound r b t =
     let u = t ∙ ap (report_text k.lines o board.state minds) r.schedule in
     let same = prints k o p done names w sound r.ran u in
     record {
-      done = done;
-      ran = r.ran;
-      ended = r.ended;
+      leads = record { done = done; ran = r.ran; ended = r.ended };
       report = record { report = reports k o p done names spent w r.ran r.ended b u same; scheduled = same };
     }
 
@@ -75,7 +91,7 @@ replay_report {V} k o p names board minds spent w sound r b t =
 
 -- the board at the start
 abbrev opens : Setup → Source → boards.Noted
-opens u source = record { state = opening_board u source; schedule = [] }
+opens u source = record { state = opening_board u source; schedule = []; halted = false }
 
 seat_get : {A : Type 0} (n i : ℕ) (x : A) → i < n → slice_get (replicate n x) i ≡ Some x
 seat_get zero i x l = absurd (omega arith)
@@ -109,6 +125,7 @@ the_minds u source c a i =
 starts_here : (u : Setup) (source : Source) → CanRun u.objects source → Start agent_kind (opens u source) (opening_minds u.options source)
 starts_here u source c = record {
   unplayed = refl;
+  running = refl;
   fit = record {
     number = opened_length u.options source.names (texts_of source.roles) ∙ sym c.named ∙ sym (length-replicate (length source.names) boards.no_seat);
     each = the_minds u source c;
@@ -117,7 +134,7 @@ starts_here u source c = record {
 
 -- board and minds of a source fit
 pub starts : (o : Options) (objects : List Used) (source : Source) (board : boards.Noted) (minds : List Mindset) → CanRun objects source →
-    board ≡ record { state = opening_board (setup o objects) source; schedule = [] } → minds ≡ opening_minds o source → Start agent_kind board minds
+    board ≡ record { state = opening_board (setup o objects) source; schedule = []; halted = false } → minds ≡ opening_minds o source → Start agent_kind board minds
 starts o objects source board minds c b m =
     let u = setup o objects in
     subst (λ x. Start agent_kind x minds) (sym b) (subst (λ x. Start agent_kind (opens u source) x) (sym m) (starts_here u source c))

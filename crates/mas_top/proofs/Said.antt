@@ -1,7 +1,7 @@
 -- What the words ask for, and what follows of the cause of a status.
-use Rattle.std.proofs.Common.{◌≡◌, inl, inr, List, ℕ, None, Some, sym, subst}
+use Rattle.std.proofs.Common.{◌≡◌, inl, inr, List, ℕ, sym, subst}
 use Rattle.mas_words.specs.Asked as words
-use Rattle.mas_words.specs.Plain.{AskFor, AskOnlyFor, AreRead}
+use Rattle.mas_words.specs.Plain.{AskFor, AskForNothing, AskOnlyFor, AreRead}
 use Rattle.mas_io.specs.Told.{Told, IsUnwritten}
 use Rattle.mas_report.specs.Limits.{defaults}
 use Rattle.mas_reading.specs.declared.status.Status.{Status}
@@ -10,7 +10,8 @@ use Rattle.mas_world.specs.Worlds.{Used}
 use Rattle.mas_top.specs.Caused.{Texts}
 use Rattle.mas_top.specs.Headline.{IsRunReportOf, IsHeadline, PrintsSchedule, IsComplete, ForRuns, ForDemos, AskedCaused, WordsCaused}
 use Rattle.mas_top.specs.Opening.{Setup, setup}
-use Rattle.mas_top.specs.Runs.{wanted}
+use Rattle.mas_top.specs.Runs.{by_workers, by_file, wanted}
+use Rattle.mas_top.specs.Ways.{way_of}
 use Rattle.mas_top.specs.Demo.{IsDemoComplete}
 use Rattle.mas_top.proofs.Demos.{demo_complete}
 use Rattle.mas_top.proofs.Drawn.{headline_file, schedule_file, complete_file}
@@ -22,15 +23,19 @@ said Is objects given before after status (inl u) a h = absurd (u.not_read a h)
 said Is objects given before after status (inr w) a h = subst (λ x. AskedCaused Is objects before after status x) (sym (w.read.only a h)) w.caused
 
 -- a shelf that is as it was, whatever the words ask for
-pub left : {S : Type 0} (objects : List Used) (old new : S) → new ≡ old → (a : words.Asked) → ForDemos (λ u count. new ≡ old) objects a
+pub left : {S : Type 0} (objects : List Used) (old new : S) → new ≡ old → (a : words.Asked) → ForDemos (λ u count way. new ≡ old) objects a
 left objects old new e (words.run project options workers) = tt
 left objects old new e (words.replay project schedule options) = tt
 left objects old new e (words.demo count workers) = e
 
 -- or where they ask for this alone
 pub left_by : {S : Type 0} (objects : List Used) (given : List (List ℕ)) (old new : S) (asked : words.Asked) → AskOnlyFor given asked →
-    ForDemos (λ u count. new ≡ old) objects asked → (a : words.Asked) → AskFor given a → ForDemos (λ u count. new ≡ old) objects a
-left_by objects given old new asked only f a h = subst (ForDemos (λ u count. new ≡ old) objects) (sym (only.only a h)) f
+    ForDemos (λ u count way. new ≡ old) objects asked → (a : words.Asked) → AskFor given a → ForDemos (λ u count way. new ≡ old) objects a
+left_by objects given old new asked only f a h = subst (ForDemos (λ u count way. new ≡ old) objects) (sym (only.only a h)) f
+
+-- words that are not read ask for nothing
+pub unread : {A : Type 0} (given : List (List ℕ)) (asked : words.Asked) → AskOnlyFor given asked → AskForNothing given → A
+unread given asked only none = absurd (none asked only.it)
 
 -- where memory lacked before anything was done
 short_by : (objects : List Used) (before after : Told) (a : words.Asked) → IsUnwritten before after → AskedCaused IsRunReportOf objects before after Memory a
@@ -45,31 +50,31 @@ short_words objects given before after r u =
 
 headline_by : (objects : List Used) (before after : Told) (status : Status) (a : words.Asked) → AskedCaused IsRunReportOf objects before after status a →
     ForRuns (λ u asked. IsHeadline u asked before after status) objects a
-headline_by objects before after status (words.run project options workers) c = headline_file (setup options objects) (wanted project None) before after status c
+headline_by objects before after status (words.run project options workers) c = headline_file (setup options objects) (wanted project (by_workers workers)) before after status c
 headline_by objects before after status (words.replay project schedule options) c =
-    headline_file (setup options objects) (wanted project (Some schedule)) before after status c
+    headline_file (setup options objects) (wanted project (by_file schedule)) before after status c
 headline_by objects before after status (words.demo count workers) c = tt
 
 schedule_by : (objects : List Used) (before after : Told) (status : Status) (a : words.Asked) → AskedCaused IsRunReportOf objects before after status a →
     ForRuns (λ u asked. PrintsSchedule u asked before after status) objects a
-schedule_by objects before after status (words.run project options workers) c = schedule_file (setup options objects) (wanted project None) before after status c
+schedule_by objects before after status (words.run project options workers) c = schedule_file (setup options objects) (wanted project (by_workers workers)) before after status c
 schedule_by objects before after status (words.replay project schedule options) c =
-    schedule_file (setup options objects) (wanted project (Some schedule)) before after status c
+    schedule_file (setup options objects) (wanted project (by_file schedule)) before after status c
 schedule_by objects before after status (words.demo count workers) c = tt
 
 complete_by : (objects : List Used) (before after : Told) (status : Status) (a : words.Asked) → AskedCaused IsRunReportOf objects before after status a →
     ForRuns (λ u asked. IsComplete u asked before after status) objects a
 complete_by objects before after status (words.run project options workers) c =
-    let u = setup options objects in complete_file (IsRunReportOf u) u (wanted project None) before after status c
+    let u = setup options objects in complete_file (IsRunReportOf u) u (wanted project (by_workers workers)) before after status c
 complete_by objects before after status (words.replay project schedule options) c =
-    let u = setup options objects in complete_file (IsRunReportOf u) u (wanted project (Some schedule)) before after status c
+    let u = setup options objects in complete_file (IsRunReportOf u) u (wanted project (by_file schedule)) before after status c
 complete_by objects before after status (words.demo count workers) c = tt
 
 demo_by : (objects : List Used) (before after : Told) (status : Status) (a : words.Asked) → words.IsPermitted a →
-    AskedCaused IsRunReportOf objects before after status a → ForDemos (λ u count. IsDemoComplete u before after status) objects a
+    AskedCaused IsRunReportOf objects before after status a → ForDemos (λ u count way. IsDemoComplete u before after status) objects a
 demo_by objects before after status (words.run project options workers) p c = tt
 demo_by objects before after status (words.replay project schedule options) p c = tt
-demo_by objects before after status (words.demo count workers) p c = demo_complete objects count before after status p.0.0 p.0.1 c
+demo_by objects before after status (words.demo count workers) p c = demo_complete objects count (way_of workers) before after status p.0.0 p.0.1 c
 
 demo_said : (objects : List Used) (given : List (List ℕ)) (before after : Told) (status : Status) → WordsCaused IsRunReportOf objects given before after status →
     (a : words.Asked) → AskFor given a → words.IsPermitted a
@@ -92,6 +97,6 @@ complete_words objects given before after status c a h =
     complete_by objects before after status a (said IsRunReportOf objects given before after status c a h)
 
 pub demo_words : (objects : List Used) (given : List (List ℕ)) (before after : Told) (status : Status) → WordsCaused IsRunReportOf objects given before after status →
-    (a : words.Asked) → AskFor given a → ForDemos (λ u count. IsDemoComplete u before after status) objects a
+    (a : words.Asked) → AskFor given a → ForDemos (λ u count way. IsDemoComplete u before after status) objects a
 demo_words objects given before after status c a h =
     demo_by objects before after status a (demo_said objects given before after status c a h) (said IsRunReportOf objects given before after status c a h)

@@ -3,8 +3,7 @@ use Rattle.std.specs.Prelude.{ℕ, ◌≡◌, ◌⊎◌, true, List, Option, Som
 use Rattle.asl_term.specs.declared.syntax.Filed.{Filed}
 use Rattle.asl_cycle.specs.Agent.{agent_kind}
 use Rattle.mas_mind.specs.Minds.{Kind}
-use Rattle.mas_core.specs.Platform.{Platform, run, ended}
-use Rattle.mas_core.specs.Robin.{turns}
+use Rattle.mas_core.specs.Platform.{Platform}
 use Rattle.mas_demo.specs.Files.{demo_files}
 use Rattle.mas_demo.specs.Lines.{demo_text}
 use Rattle.env_file.specs.Worlds.{has_name}
@@ -15,25 +14,26 @@ use Rattle.mas_reading.specs.Known.{known}
 use Rattle.mas_reading.specs.Sources.{HasSource, FirstRefused}
 use Rattle.mas_reading.specs.declared.sources.Source.{Source}
 use Rattle.mas_reading.specs.declared.status.Status.{Status}
-use Rattle.mas_reading.specs.declared.status.Status.TheVariants.{Ok, Usage, ReadFault, WriteFault, Budget, Memory}
+use Rattle.mas_reading.specs.declared.status.Status.TheVariants.{Ok, Usage, Missing, ReadFault, WriteFault, Refused, Limit, Budget, Memory}
 use Rattle.mas_top.specs.Opening.{Setup, opening}
+use Rattle.mas_top.specs.Ways.{Way, IsScheduled, Leads}
 
 -- the demo's own files, of so many agents, describe this source
 abbrev pub DemoHas : Setup → ℕ → Source → Type 0
 DemoHas u k source = HasSource (known u.objects) u.options.cycles (Some (demo_files k)) (codes "demo.mas2j") source
 
--- w tells of the run from p by the round robin, in which every agent has left at the end
-pub record IsToldRun {V : Type 0} (kind : Kind V) (p : Platform V) (k : ℕ) (w : List ℕ) : Type 0 where
-  pub done : Platform V
-  pub ran : run kind p (turns kind p) ≡ Some done
-  pub ended : ended done.board.seats ≡ true
-  pub is : w ≡ demo_text k done.board
+-- w tells of a run from p, of k agents, whose turns are made in this order and after which every agent has left
+pub record IsToldRun {V : Type 0} (kind : Kind V) (p : Platform V) (way : Way) (k : ℕ) (w : List ℕ) : Type 0 where
+  pub names : List ℕ
+  pub scheduled : IsScheduled kind p way names
+  pub leads : Leads kind p names
+  pub is : w ≡ demo_text k leads.done.board
 
 -- that of the demo's source
-pub record IsDemo (u : Setup) (k : ℕ) (w : List ℕ) : Type 0 where
+pub record IsDemo (u : Setup) (k : ℕ) (way : Way) (w : List ℕ) : Type 0 where
   pub source : Source
   pub has : DemoHas u k source
-  pub told : IsToldRun agent_kind (opening u source) k w
+  pub told : IsToldRun agent_kind (opening u source) way k w
 
 -- why one of the demo's files is refused, as one is that uses an artifact which is not there
 abbrev pub DemoRefused : Setup → ℕ → Status → Type 0
@@ -54,11 +54,13 @@ abbrev pub beside : Option (List Filed) → ℕ → Option (List ℕ) → ℕ �
 beside held shelf_faults written sink_faults = record { held = held; shelf_faults = shelf_faults; written = written; sink_faults = sink_faults }
 
 -- the cause of a status of `demo`, which refuses no words and reads from a shelf of which no call fails
-abbrev pub DemoCaused : Setup → ℕ → Told → Told → Status → Type 0
-DemoCaused u k before after Ok = Wrote (IsDemo u k) before after
-DemoCaused u k before after WriteFault = WroteSome (IsDemo u k) before after
-DemoCaused u k before after Memory = IsUnwritten before after
-DemoCaused u k before after Usage = ⊥
-DemoCaused u k before after ReadFault = ⊥
-DemoCaused u k before after Budget = ⊥
-DemoCaused u k before after status = IsRefusedDemo u k before after status
+abbrev pub DemoCaused : Setup → ℕ → Way → Told → Told → Status → Type 0
+DemoCaused u k way before after Ok = Wrote (IsDemo u k way) before after
+DemoCaused u k way before after Usage = ⊥
+DemoCaused u k way before after (Missing lacked) = IsRefusedDemo u k before after (Missing lacked)
+DemoCaused u k way before after ReadFault = ⊥
+DemoCaused u k way before after WriteFault = WroteSome (IsDemo u k way) before after
+DemoCaused u k way before after (Refused file place why) = IsRefusedDemo u k before after (Refused file place why)
+DemoCaused u k way before after (Limit quantity count) = IsRefusedDemo u k before after (Limit quantity count)
+DemoCaused u k way before after Budget = ⊥
+DemoCaused u k way before after Memory = IsUnwritten before after

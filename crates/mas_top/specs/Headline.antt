@@ -1,5 +1,5 @@
 -- What the top call promises, by its status.
-use Rattle.std.specs.Prelude.{◌≡◌, ◌⊎◌, ℕ, Bool, List, ◌++◌, Option, None, Some}
+use Rattle.std.specs.Prelude.{◌≡◌, ◌⊎◌, ℕ, Bool, List, ◌++◌, Some}
 use Rattle.asl_term.specs.declared.syntax.Filed.{Filed}
 use Rattle.asl_cycle.specs.Agent.{agent_kind}
 use Rattle.mas_io.specs.Causes.{Rose}
@@ -8,7 +8,7 @@ use Rattle.mas_mind.specs.Minds.{Kind}
 use Rattle.mas_core.specs.Platform.{Platform}
 use Rattle.mas_schedule.specs.Schedule.{printed}
 use Rattle.mas_report.specs.declared.options.Options.{Options}
-use Rattle.mas_report.specs.Report.{IsReport, IsRobin}
+use Rattle.mas_report.specs.Report.{IsReport}
 use Rattle.mas_reading.specs.declared.status.Status.{Status}
 use Rattle.mas_reading.specs.declared.status.Status.TheVariants.{Usage, Memory}
 use Rattle.mas_reading.specs.Statuses.{whole}
@@ -19,26 +19,21 @@ use Rattle.mas_world.specs.Worlds.{Used}
 use Rattle.mas_report.specs.Limits.{defaults}
 use Rattle.mas_top.specs.Demo.{DemoCaused}
 use Rattle.mas_top.specs.Opening.{Setup, setup, opening}
-use Rattle.mas_top.specs.Runs.{Given, HasGiven}
-use Rattle.mas_top.specs.Runs.{Wanted, wanted}
+use Rattle.mas_top.specs.Runs.{by_workers, by_file, Wanted, wanted, Given, HasGiven, NoneRefused}
+use Rattle.mas_top.specs.Ways.{Way, way_of, IsScheduled}
 
 -- the text is the report of the run of what is given, in which some end is `budget` or none is
 abbrev pub IsReportOf : Setup → Bool → Given → List ℕ → Type 0
 IsReportOf u spent g w = IsReport agent_kind u.options (opening u g.source) spent w
 
--- the schedule that a text prints is the one that is given, or that of the round robin where none is
-abbrev pub IsScheduled : {V : Type 0} → Kind V → Platform V → Option (List ℕ) → List ℕ → Type 0
-IsScheduled k p None w = IsRobin k p w
-IsScheduled k p (Some names) w = printed w ≡ names
-
--- the report of the run from p along this schedule
-pub record IsRunReport {V : Type 0} (k : Kind V) (o : Options) (p : Platform V) (schedule : Option (List ℕ)) (spent : Bool) (w : List ℕ) : Type 0 where
+-- the report of a run from p whose turns are made in this order
+pub record IsRunReport {V : Type 0} (k : Kind V) (o : Options) (p : Platform V) (way : Way) (spent : Bool) (w : List ℕ) : Type 0 where
   pub report : IsReport k o p spent w
-  pub scheduled : IsScheduled k p schedule w
+  pub scheduled : IsScheduled k p way (printed w)
 
 -- that of what is given
 abbrev pub IsRunReportOf : Setup → Bool → Given → List ℕ → Type 0
-IsRunReportOf u spent g w = IsRunReport agent_kind u.options (opening u g.source) g.schedule spent w
+IsRunReportOf u spent g w = IsRunReport agent_kind u.options (opening u g.source) g.way spent w
 
 -- ---- the headline, for what is asked for
 
@@ -68,16 +63,16 @@ pub record WroteFor (u : Setup) (wanted : Wanted) (before after : Told) (status 
   pub old_is : before.written ≡ Some old
   pub new_is : after.written ≡ Some (old ++ text)
 
--- on one thread, the schedule that is printed is that of the round robin; in a replay it is the one that is given
+-- the schedule that is printed is that of the round robin where there is one worker, and the given one in a replay
 abbrev pub PrintsSchedule : Setup → Wanted → Told → Told → Status → Type 0
 PrintsSchedule u wanted before after status =
-    (g : Given) (text : List ℕ) → WroteFor u wanted before after status g text → IsScheduled agent_kind (opening u g.source) g.schedule text
+    (g : Given) (text : List ℕ) → WroteFor u wanted before after status g text → IsScheduled agent_kind (opening u g.source) g.way (printed text)
 
--- completeness: where the shelf tells files that describe something, and neither count of faults rises, the report was
+-- completeness: where the shelf tells files none of which is refused, and neither count of faults rises, the report was
 -- written whole, by Ok or Budget, or the status is Memory
 abbrev pub IsComplete : Setup → Wanted → Told → Told → Status → Type 0
 IsComplete u wanted before after status =
-    (files : List Filed) (g : Given) → before.held ≡ Some files → HasGiven u (Some files) wanted g →
+    (files : List Filed) → before.held ≡ Some files → NoneRefused u files wanted →
     (Rose before.shelf_faults after.shelf_faults → ⊥) → (Rose before.sink_faults after.sink_faults → ⊥) →
     ((spent : Bool) × (status ≡ whole spent)) ⊎ (status ≡ Memory)
 
@@ -85,25 +80,25 @@ IsComplete u wanted before after status =
 
 -- what holds of the files of a run or of a replay
 abbrev pub ForRuns : (Setup → Wanted → Type 0) → List Used → words.Asked → Type 0
-ForRuns Holds objects (words.run project options workers) = Holds (setup options objects) (wanted project None)
-ForRuns Holds objects (words.replay project schedule options) = Holds (setup options objects) (wanted project (Some schedule))
+ForRuns Holds objects (words.run project options workers) = Holds (setup options objects) (wanted project (by_workers workers))
+ForRuns Holds objects (words.replay project schedule options) = Holds (setup options objects) (wanted project (by_file schedule))
 ForRuns Holds objects (words.demo count workers) = Unit {0}
 
 -- what holds of a demo of so many agents
-abbrev pub ForDemos : (Setup → ℕ → Type 0) → List Used → words.Asked → Type 0
+abbrev pub ForDemos : (Setup → ℕ → Way → Type 0) → List Used → words.Asked → Type 0
 ForDemos Holds objects (words.run project options workers) = Unit {0}
 ForDemos Holds objects (words.replay project schedule options) = Unit {0}
-ForDemos Holds objects (words.demo count workers) = Holds (setup defaults objects) count
+ForDemos Holds objects (words.demo count workers) = Holds (setup defaults objects) count (way_of workers)
 
 -- ---- the cause of each status
 
 -- of what the words ask for
 abbrev pub AskedCaused : (Setup → Texts) → List Used → Told → Told → Status → words.Asked → Type 0
 AskedCaused Is objects before after status (words.run project options workers) =
-    let u = setup options objects in FileCaused (Is u) u (wanted project None) before after status
+    let u = setup options objects in FileCaused (Is u) u (wanted project (by_workers workers)) before after status
 AskedCaused Is objects before after status (words.replay project schedule options) =
-    let u = setup options objects in FileCaused (Is u) u (wanted project (Some schedule)) before after status
-AskedCaused Is objects before after status (words.demo count workers) = DemoCaused (setup defaults objects) count before after status
+    let u = setup options objects in FileCaused (Is u) u (wanted project (by_file schedule)) before after status
+AskedCaused Is objects before after status (words.demo count workers) = DemoCaused (setup defaults objects) count (way_of workers) before after status
 
 -- the words are not read
 pub record IsUsage (given : List (List ℕ)) (before after : Told) (status : Status) : Type 0 where

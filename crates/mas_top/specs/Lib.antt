@@ -1,8 +1,9 @@
 pub mod Opening
 pub mod Fits
+pub mod Ways
 pub mod Runs
-pub mod Laws
 pub mod Caused
 pub mod Demo
 pub mod Headline
 pub mod Playing
+pub mod Laws

@@ -1,9 +1,9 @@
 -- What a run along given numbers writes, and the status of one that fails.
-use Rattle.std.specs.Prelude.{ℕ, ◌≡◌, true, Bool, List, Option, Some}
+use Rattle.std.specs.Prelude.{ℕ, Bool, List, Option}
 use Rattle.asl_term.specs.declared.syntax.Filed.{Filed}
 use Rattle.asl_cycle.specs.Agent.{agent_kind}
 use Rattle.mas_mind.specs.Minds.{Kind}
-use Rattle.mas_core.specs.Platform.{Platform, run, ended}
+use Rattle.mas_core.specs.Platform.{Platform}
 use Rattle.mas_core.specs.declared.replay.PlayFault.{PlayFault}
 use Rattle.mas_core.specs.declared.replay.PlayFault.TheVariants as play
 use Rattle.mas_schedule.specs.declared.reading.LineFault.{LineFault}
@@ -19,13 +19,12 @@ use Rattle.mas_reading.specs.Files.{HasFile, Reader}
 use Rattle.mas_top.specs.Headline.{IsRunReport}
 use Rattle.mas_top.specs.Opening.{Setup, opening}
 use Rattle.mas_top.specs.Runs.{most_bytes, IsFollowed}
+use Rattle.mas_top.specs.Ways.{along, Leads}
 
--- each number has its turn, every agent leaves, and w is the report
+-- w is the report of the run along these numbers
 pub record IsReplayed {V : Type 0} (k : Kind V) (o : Options) (p : Platform V) (names : List ℕ) (spent : Bool) (w : List ℕ) : Type 0 where
-  pub done : Platform V
-  pub ran : run k p names ≡ Some done
-  pub ended : ended done.board.seats ≡ true
-  pub report : IsRunReport k o p (Some names) spent w
+  pub leads : Leads k p names
+  pub report : IsRunReport k o p (along names) spent w
 
 -- the status for the file of a schedule that is no run
 abbrev pub play_status : List ℕ → PlayFault → Status
@@ -50,4 +49,4 @@ lines = record { most = most_bytes; faulty = LineFaulty; large = λ bytes quanti
 pub record ForSchedule (u : Setup) (held : Option (List Filed)) (source : Source) (name : List ℕ) (spent : Bool) (w : List ℕ) : Type 0 where
   pub names : List ℕ
   pub has : HasFile most_bytes held name (λ bytes. IsFollowed u source bytes names)
-  pub report : IsRunReport agent_kind u.options (opening u source) (Some names) spent w
+  pub report : IsRunReport agent_kind u.options (opening u source) (along names) spent w

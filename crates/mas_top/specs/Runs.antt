@@ -1,9 +1,9 @@
--- What is run: a source, along the schedule of a file where one is named.
-use Rattle.std.specs.Prelude.{ℕ, ◌≡◌, ◌⊎◌, true, List, Option, None, Some}
+-- What is run: a source, by workers or along the schedule of a file.
+use Rattle.std.specs.Prelude.{ℕ, ◌≡◌, ◌⊎◌, List, Option, Some}
 use Rattle.asl_term.specs.declared.syntax.Filed.{Filed}
-use Rattle.asl_cycle.specs.Agent.{Mindset, agent_kind}
-use Rattle.mas_core.specs.Platform.{Platform, run, ended}
+use Rattle.asl_cycle.specs.Agent.{agent_kind}
 use Rattle.mas_core.specs.Replay.{follow, Stuck, Stays}
+use Rattle.mas_report.specs.Limits.{IsFrom}
 use Rattle.mas_schedule.specs.Reading.{IsSchedule, IsBadLine}
 use Rattle.mas_reading.specs.declared.sources.Source.{Source}
 use Rattle.mas_reading.specs.declared.status.Reason.{Reason}
@@ -11,51 +11,54 @@ use Rattle.mas_reading.specs.declared.status.Reason.TheVariants as reason
 use Rattle.mas_reading.specs.declared.status.Status.{Status}
 use Rattle.mas_reading.specs.Files.{HasFile, Reader, IsRefusal}
 use Rattle.mas_reading.specs.Known.{known}
+use Rattle.mas_reading.specs.Laws.{Surely}
 use Rattle.mas_reading.specs.Sources.{HasSource, FirstRefused, UnlessMemory}
 use Rattle.mas_top.specs.Opening.{Setup, opening}
+use Rattle.mas_top.specs.Ways.{Way, alone, shared, along, way_of, Leads}
+use Rattle.mas_top.specs.declared.playing.How as code
+use Rattle.mas_top.specs.declared.playing.How.TheVariants as code_variant
 
--- what is wanted: the run of the project of a word, or the run of it along the schedule of a file
+-- by so many workers, or along the schedule of the file of this name
+pub data How : Type 0 where
+  by_workers : ℕ → How
+  by_file : List ℕ → How
+
+-- what is wanted: the run of the project of a word
 pub record Wanted : Type 0 where
   pub project : List ℕ
-  pub schedule : Option (List ℕ)
+  pub how : How
 
-abbrev pub wanted : List ℕ → Option (List ℕ) → Wanted
-wanted project schedule = record { project = project; schedule = schedule }
+abbrev pub wanted : List ℕ → How → Wanted
+wanted project how = record { project = project; how = how }
 
--- a source, and the numbers along which it is run, where they are given
+-- a source, and the order of the turns of its run
 pub record Given : Type 0 where
   pub source : Source
-  pub schedule : Option (List ℕ)
+  pub way : Way
 
-abbrev pub given : Source → Option (List ℕ) → Given
-given source schedule = record { source = source; schedule = schedule }
+abbrev pub given : Source → Way → Given
+given source way = record { source = source; way = way }
 
 -- the most bytes of the file of a schedule
 abbrev pub most_bytes : ℕ
 most_bytes = 268435456
 
--- each of the numbers has its turn, and every agent leaves
-pub record Leads (u : Setup) (source : Source) (names : List ℕ) : Type 0 where
-  pub done : Platform Mindset
-  pub ran : run agent_kind (opening u source) names ≡ Some done
-  pub ended : ended done.board.seats ≡ true
-
--- the bytes are a schedule of such numbers
+-- the bytes are a schedule of these numbers, along which the source runs to its end
 pub record IsFollowed (u : Setup) (source : Source) (bytes names : List ℕ) : Type 0 where
   pub is : IsSchedule bytes names
-  pub leads : Leads u source names
+  pub leads : Leads agent_kind (opening u source) names
 
--- the file of this name, where one is named, is such a schedule
-abbrev pub HasSchedule : Setup → Option (List Filed) → Source → Option (List ℕ) → Option (List ℕ) → Type 0
-HasSchedule u held source None None = Unit {0}
-HasSchedule u held source None (Some names) = ⊥
-HasSchedule u held source (Some name) None = ⊥
-HasSchedule u held source (Some name) (Some names) = HasFile most_bytes held name (λ bytes. IsFollowed u source bytes names)
+-- that is the order of the turns of workers, or the file of this name is such a schedule
+abbrev pub HasWay : Setup → Option (List Filed) → Source → How → Way → Type 0
+HasWay u held source (by_workers count) way = way ≡ way_of count
+HasWay u held source (by_file name) alone = ⊥
+HasWay u held source (by_file name) shared = ⊥
+HasWay u held source (by_file name) (along names) = HasFile most_bytes held name (λ bytes. IsFollowed u source bytes names)
 
 -- the files describe this
 pub record HasGiven (u : Setup) (held : Option (List Filed)) (wanted : Wanted) (g : Given) : Type 0 where
   pub source : HasSource (known u.objects) u.options.cycles held wanted.project g.source
-  pub schedule : HasSchedule u held g.source wanted.schedule g.schedule
+  pub way : HasWay u held g.source wanted.how g.way
 
 -- ---- what is refused of a schedule
 
@@ -90,7 +93,7 @@ pub record ScheduleRefused (u : Setup) (held : Option (List Filed)) (wanted : Wa
   pub source : Source
   pub read : HasSource (known u.objects) u.options.cycles held wanted.project source
   pub name : List ℕ
-  pub named : wanted.schedule ≡ Some name
+  pub named : wanted.how ≡ by_file name
   pub why : IsRefusal (schedules u source) name held before after status
 
 abbrev pub FileRefused : Setup → Option (List Filed) → Wanted → ℕ → ℕ → Status → Type 0
@@ -98,6 +101,21 @@ FileRefused u held wanted before after status =
     FirstRefused (known u.objects) u.options.cycles held wanted.project before after status ⊎
     ScheduleRefused u held wanted before after status
 
+-- none of these files is refused
+abbrev pub NoneRefused : Setup → List Filed → Wanted → Type 0
+NoneRefused u files wanted = (status : Status) → Surely (FileRefused u (Some files) wanted) status → ⊥
+
 -- the first refusal of the files that are asked for
 abbrev pub GivenRefused : Setup → Option (List Filed) → Wanted → ℕ → ℕ → Status → Type 0
 GivenRefused u held wanted before after status = UnlessMemory (FileRefused u held wanted before after) status
+
+-- ---- how the code asks for it
+
+-- from 1 to 64 workers
+abbrev pub CanBe : How → Type 0
+CanBe (by_workers count) = IsFrom 1 64 count
+CanBe (by_file name) = Unit {0}
+
+abbrev pub how_of : code.How → How
+how_of (code_variant.Workers count) = by_workers count
+how_of (code_variant.Schedule name) = by_file name.now

@@ -1,7 +1,7 @@
 //! What is asked for, from the files to the report.
 
-ghost use Rattle.std.specs.Prelude.{◌≡◌, ◌≤◌, IfOk, MatchResult, option_copied};
-ghost use Rattle.mas_report.specs.Limits.{IsWithin};
+ghost use Rattle.std.specs.Prelude.{◌≡◌, ◌≤◌, IfOk, MatchResult};
+ghost use Rattle.mas_report.specs.Limits.{IsFrom, IsWithin};
 ghost use Rattle.mas_schedule.specs.Reading.{IsSchedule};
 ghost use Rattle.mas_reading.specs.Files.{HasFile, IsRefusal};
 ghost use Rattle.mas_reading.specs.Known.{known};
@@ -11,13 +11,14 @@ ghost use Rattle.mas_top.specs.Fits.{CanRun};
 ghost use Rattle.mas_top.specs.Headline.{IsRunReportOf};
 ghost use Rattle.mas_top.specs.Opening.{objects_of, setup};
 ghost use Rattle.mas_top.specs.Playing as spec;
-ghost use Rattle.mas_top.specs.Runs.{wanted, GivenRefused, most_bytes, schedules};
+ghost use Rattle.mas_top.specs.Runs.{wanted, how_of, CanBe, GivenRefused, most_bytes, schedules};
 
 use crate::running::{Output, replay_source, run_source};
-use asl_term::copying::copy_text;
+use asl_term::copying::text_of;
 use asl_term::sequence::{Seq, Starved};
 use asl_term::syntax::Text;
 use mas_core::replay::PlayFault;
+use mas_going::gate::Gate;
 use mas_io::shelf::Shelf;
 use mas_reading::files::bytes_of;
 use mas_reading::known::known_names;
@@ -27,19 +28,28 @@ use mas_report::options::Options;
 use mas_schedule::reading::{LineFault, read_schedule};
 use mas_world::artifact::Artifact;
 use std::alloc::Global;
+use std::sync::Wait;
+use std::thread::Threads;
 
 /// The most bytes of the file of a schedule.
 const MOST_BYTES: u64 = 268_435_456;
 
-fn refused(alloc: Global, name: &Text, place: u64, why: Reason) -> Result<Status, Starved>
+/// How a project is run: by so many workers, or along the schedule of the file of this name.
+#[derive(Clone, Copy)]
+pub enum How<'a> {
+    Workers(u32),
+    Schedule(&'a [u8]),
+}
+
+fn refused(alloc: Global, name: &[u8], place: u64, why: Reason) -> Result<Status, Starved>
     ensures { IfOk result (λ s. s ≡ Status.Refused name.now place why) }
 {
-    let file = copy_text(alloc, name)?;
+    let file = text_of(alloc, name)?;
     Ok(Status::Refused { file, place, why })
 }
 
 /// The status for the file of a schedule whose lines are none.
-fn line_status(alloc: Global, name: &Text, why: LineFault) -> Result<Status, Starved>
+fn line_status(alloc: Global, name: &[u8], why: LineFault) -> Result<Status, Starved>
     ensures { IfOk result (λ s. s ≡ spec.line_status name.now why) }
 {
     match why {
@@ -49,7 +59,7 @@ fn line_status(alloc: Global, name: &Text, why: LineFault) -> Result<Status, Sta
 }
 
 /// The status for the file of a schedule that is no run.
-fn play_status(alloc: Global, name: &Text, why: PlayFault) -> Result<Status, Starved>
+fn play_status(alloc: Global, name: &[u8], why: PlayFault) -> Result<Status, Starved>
     ensures { IfOk result (λ s. s ≡ spec.play_status name.now why) }
 {
     match why {
@@ -61,7 +71,7 @@ fn play_status(alloc: Global, name: &Text, why: PlayFault) -> Result<Status, Sta
 
 /// The numbers of the schedule of the file of this name, or why its lines are none.
 #[tactic(auto, using(crate::proofs::Played::read_lines, crate::proofs::Played::bad_lines, crate::proofs::Played::no_lines))]
-fn schedule_of<S: Shelf>(alloc: Global, name: &Text, shelf: &mut S) -> Result<Seq<u64>, Status>
+fn schedule_of<S: Shelf>(alloc: Global, name: &[u8], shelf: &mut S) -> Result<Seq<u64>, Status>
     ensures same { S.holds shelf.new ≡ S.holds shelf.old }
     ensures later { S.faults shelf.old ≤ S.faults shelf.new }
     ensures answer { let held = S.holds shelf.old in
@@ -69,7 +79,8 @@ fn schedule_of<S: Shelf>(alloc: Global, name: &Text, shelf: &mut S) -> Result<Se
         (λ names. HasFile most_bytes held name.now (λ bytes. IsSchedule bytes names))
         (IsRefusal spec.lines name.now held (S.faults shelf.old) (S.faults shelf.new)) }
 {
-    match bytes_of(alloc, name, MOST_BYTES, shelf) {
+    let file = text_of(alloc, name)?;
+    match bytes_of(alloc, &file, MOST_BYTES, shelf) {
         Err(status) => Err(status),
         Ok(bytes) => match read_schedule(alloc, bytes.as_slice()) {
             Ok(names) => Ok(names),
@@ -85,7 +96,7 @@ fn replay_file<S: Shelf, A: Artifact>(
     o: &Options,
     source: Source,
     artifacts: Vec<A>,
-    name: &Text,
+    name: &[u8],
     shelf: &mut S,
 ) -> Result<Output, Status>
     requires within { IsWithin o.now }
@@ -99,7 +110,11 @@ fn replay_file<S: Shelf, A: Artifact>(
         (IsRefusal (schedules u source) name.now held (S.faults shelf.old) (S.faults shelf.new)) }
 {
     match schedule_of(alloc, name, shelf) {
-        Err(status) => Err(status),
+        Err(status) => {
+            drop(source);
+            drop(artifacts);
+            Err(status)
+        }
         Ok(names) => match replay_source(alloc, o, source, artifacts, &names) {
             Ok(out) => Ok(out),
             Err(why) => Err(play_status(alloc, name, why)?),
@@ -130,27 +145,31 @@ pub fn read_source<S: Shelf, A: Artifact>(
 
 /// The report of the run that is asked for, or why a file is refused.
 #[tactic(auto, using(crate::proofs::Played::asked_for))]
-pub fn run_files<S: Shelf, A: Artifact>(
+pub fn run_files<R: Threads + Wait + Sync, S: Shelf, A: Artifact + Send, G: Gate + Sync>(
+    rt: &R,
     alloc: Global,
     o: &Options,
-    project: &Text,
-    schedule: Option<&Text>,
+    project: &[u8],
+    how: How<'_>,
     shelf: &mut S,
+    gate: &G,
     artifacts: Vec<A>,
 ) -> Result<Output, Status>
-    requires { IsWithin o.now }
+    requires within { IsWithin o.now }
+    requires can { CanBe (how_of how) }
     ensures same { S.holds shelf.new ≡ S.holds shelf.old }
     ensures later { S.faults shelf.old ≤ S.faults shelf.new }
     ensures answer { let held = S.holds shelf.old in
-        let a = wanted project.now (option_copied schedule.entry) in
+        let a = wanted project.now (how_of how.entry) in
         let u = setup o.now (objects_of A.named A.table A.facts artifacts.items) in
         MatchResult result
         (λ out. ForFiles (IsRunReportOf u) u held a out.spent out.text)
         (GivenRefused u held a (S.faults shelf.old) (S.faults shelf.new)) }
 {
-    let source = read_source(alloc, o.cycles, project, &artifacts, shelf)?;
-    match schedule {
-        None => Ok(run_source(alloc, o, source, artifacts)?),
-        Some(name) => replay_file(alloc, o, source, artifacts, name, shelf),
+    let word = text_of(alloc, project)?;
+    let source = read_source(alloc, o.cycles, &word, &artifacts, shelf)?;
+    match how {
+        How::Workers(workers) => Ok(run_source(rt, alloc, o, source, artifacts, workers, gate)?),
+        How::Schedule(name) => replay_file(alloc, o, source, artifacts, name, shelf),
     }
 }

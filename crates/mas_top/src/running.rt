@@ -1,17 +1,18 @@
 //! A run, from its source to the report.
 
-ghost use Rattle.std.specs.Prelude.{◌≡◌, [], IfOk, IfSome, IfErr, None, Some, MatchResult};
+ghost use Rattle.std.specs.Prelude.{◌≡◌, [], false, IfOk, IfSome, IfErr};
 ghost use Rattle.asl_cycle.specs.Agent.{agent_kind};
 ghost use Rattle.mas_board.specs.Boards as boards;
 ghost use Rattle.mas_core.specs.Fits.{Start};
 ghost use Rattle.mas_core.specs.Platform.{opening_platform};
 ghost use Rattle.mas_core.specs.Replay.{Faulted};
-ghost use Rattle.mas_report.specs.Limits.{IsWithin};
+ghost use Rattle.mas_report.specs.Limits.{IsFrom, IsWithin};
 ghost use Rattle.mas_report.specs.Report as spec;
 ghost use Rattle.mas_top.specs.Fits.{CanOpen, CanRun};
 ghost use Rattle.mas_top.specs.Headline.{IsRunReport};
 ghost use Rattle.mas_top.specs.Opening.{no_text, objects_of, opening, opening_board, opening_minds, opening_world, setup};
 ghost use Rattle.mas_top.specs.Playing.{IsReplayed};
+ghost use Rattle.mas_top.specs.Ways.{way_of};
 
 use crate::minds::open_minds;
 use asl_cycle::agent::Agent;
@@ -20,8 +21,10 @@ use asl_term::sequence::{Seq, Starved};
 use asl_term::syntax::Text;
 use mas_board::board::{Board, open_board};
 use mas_core::replay::{PlayFault, replay};
-use mas_core::robin::{Done, round_robin};
+use mas_core::robin::Done;
+use mas_going::gate::Gate;
 use mas_mind::thinking::Mind;
+use mas_pool::pool::run_pool;
 use mas_reading::sources::Source;
 use mas_report::options::Options;
 use mas_report::report::{is_spent, report};
@@ -30,6 +33,8 @@ use mas_world::artifact::Artifact;
 use mas_world::opening::open_world;
 use mas_world::world::World;
 use std::alloc::Global;
+use std::sync::Wait;
+use std::thread::Threads;
 
 /// What a run writes: its report, and whether an end in it is `budget`.
 #[derive(Drop)]
@@ -83,7 +88,7 @@ pub fn open_source<A: Artifact>(
     requires within { IsWithin o.now }
     requires can { CanRun (objects_of A.named A.table A.facts artifacts.items) source }
     ensures board { let u = setup o.now (objects_of A.named A.table A.facts artifacts.items) in
-        IfOk result (λ p. p.board ≡ record { state = opening_board u source; schedule = [] }) }
+        IfOk result (λ p. p.board ≡ record { state = opening_board u source; schedule = []; halted = false }) }
     ensures minds { IfOk result (λ p. p.minds ≡ opening_minds o.now source) }
 {
     let Source {
@@ -111,20 +116,32 @@ fn told<M: Mind, A: Artifact>(
     Ok(Output { text, spent })
 }
 
-/// The round robin of these minds over this board, and its report.
-fn run_out<M: Mind, A: Artifact>(
+/// The run of these minds over this board by so many workers, and its report.
+fn run_out<R: Threads + Wait + Sync, M: Mind + Send, A: Artifact + Send, G: Gate + Sync>(
+    rt: &R,
     alloc: Global,
     o: &Options,
     opened: Opened<M, A>,
+    workers: u32,
+    gate: &G,
 ) -> Result<Output, Starved>
-    requires { Start M.kind opened.board opened.minds }
-    ensures { IfOk result (λ out. IsRunReport M.kind o.now (opening_platform opened.board.state opened.minds) None out.spent out.text) }
+    requires start { Start M.kind opened.board opened.minds }
+    requires workers { IsFrom 1 64 workers }
+    ensures { IfOk result (λ out. IsRunReport M.kind o.now (opening_platform opened.board.state opened.minds) (way_of workers) out.spent out.text) }
 {
     let Opened { board, minds } = opened;
     board.holds();
-    let done = round_robin(alloc, board, minds)?;
-    let out = told(alloc, o, &done)?;
-    Ok(out)
+    let done = run_pool(rt, alloc, board, minds, workers, gate)?;
+    match told(alloc, o, &done) {
+        Ok(out) => {
+            drop(done);
+            Ok(out)
+        }
+        Err(starved) => {
+            drop(done);
+            Err(starved)
+        }
+    }
 }
 
 /// The run of these minds over this board along these numbers, and its report.
@@ -142,26 +159,38 @@ fn run_along<M: Mind, A: Artifact>(
     board.holds();
     let done = replay(alloc, board, minds, names)?;
     match told(alloc, o, &done) {
-        Ok(out) => Ok(out),
-        Err(_) => Err(PlayFault::Memory),
+        Ok(out) => {
+            drop(done);
+            Ok(out)
+        }
+        Err(_) => {
+            drop(done);
+            Err(PlayFault::Memory)
+        }
     }
 }
 
-/// The report of the run of a source, by the round robin.
-#[tactic(auto, using(crate::proofs::Runs::starts))]
-pub fn run_source<A: Artifact>(
+/// The report of the run of a source by so many workers.
+#[tactic(auto, using(crate::proofs::Runs::starts, asl_cycle::proofs::Sends::agent_send))]
+pub fn run_source<R: Threads + Wait + Sync, A: Artifact + Send, G: Gate + Sync>(
+    rt: &R,
     alloc: Global,
     o: &Options,
     source: Source,
     artifacts: Vec<A>,
+    workers: u32,
+    gate: &G,
 ) -> Result<Output, Starved>
     requires within { IsWithin o.now }
     requires can { CanRun (objects_of A.named A.table A.facts artifacts.items) source }
+    requires workers { IsFrom 1 64 workers }
     ensures { let u = setup o.now (objects_of A.named A.table A.facts artifacts.items) in
-        IfOk result (λ out. IsRunReport agent_kind o.now (opening u source) None out.spent out.text) }
+        IfOk result (λ out. IsRunReport agent_kind o.now (opening u source) (way_of workers) out.spent out.text) }
 {
-    let opened = open_source(alloc, o, source, artifacts)?;
-    run_out(alloc, o, opened)
+    match open_source(alloc, o, source, artifacts) {
+        Ok(opened) => run_out(rt, alloc, o, opened, workers, gate),
+        Err(starved) => Err(starved),
+    }
 }
 
 /// The report of the run of a source along these numbers.

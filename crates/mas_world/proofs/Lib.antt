@@ -10,3 +10,4 @@ pub mod Sights
 pub mod Uses
 pub mod Boxes
 pub mod Unchanged
+pub mod Sends

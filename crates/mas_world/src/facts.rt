@@ -38,7 +38,8 @@ pub fn is_fact(facts: &[Literal], f: &Literal) -> bool
 
 /// Puts a literal last, where it is not there yet.
 pub fn add_new(alloc: Global, facts: &mut Literals, f: &Literal) -> Result<(), Starved>
-    ensures { OnOk result (facts.new ≡ facts.old ++ spec.news facts.old (f.now ∷ [])) }
+    ensures ok { OnOk result (facts.new ≡ facts.old ++ spec.news facts.old (f.now ∷ [])) }
+    ensures err { OnErr result (facts.new ≡ facts.old) }
 {
     if !is_fact(facts.as_slice(), f) {
         facts.push(copy_literal(alloc, f)?)?;

@@ -49,6 +49,7 @@ impl Post {
         ensures list { spec.messages self.new a ≡ spec.messages self.old a }
         ensures room { OnOk result (n ≤ spec.spare self.new a) }
         ensures kept { spec.spare self.old a ≤ spec.spare self.new a }
+        ensures enough { n ≤ spec.spare self.old a → IsOk result }
         ensures others { spec.OthersStay a self.old self.new }
     {
         self.boxes.at_mut((a - 1) as u64).reserve(n)
@@ -72,6 +73,7 @@ impl Post {
         requires { IsAgent (length self.old) a }
         ensures value { result ≡ slice_get (spec.messages self.old a) 0 }
         ensures rest { spec.messages self.new a ≡ drop 1 (spec.messages self.old a) }
+        ensures room { 0 < length (spec.messages self.old a) → spec.spare self.new a ≡ spec.spare self.old a + 1 }
         ensures kept { spec.spare self.old a ≤ spec.spare self.new a }
         ensures addressed { IfSome result (IsFor a (length self.old)) }
         ensures others { spec.OthersStay a self.old self.new }

@@ -1,6 +1,6 @@
 //! What an agent sees of a fact.
 
-ghost use Rattle.std.specs.Prelude.{◌≡◌, ◌++◌, ◌∷◌, [], false, IfOk, OnOk};
+ghost use Rattle.std.specs.Prelude.{◌≡◌, ◌++◌, ◌∷◌, [], false, IfOk, OnOk, OnErr};
 ghost use Rattle.std.specs.List.{flat_map, list_any};
 ghost use Rattle.std.specs.Option.{option_copied, option_map, option_to_list};
 ghost use Rattle.std.specs.Str.{bytes_eq};
@@ -147,7 +147,8 @@ fn see(
     l: &Literal,
     seen: &mut Literals,
 ) -> Result<(), Starved>
-    ensures { OnOk result (seen.new ≡ seen.old ++ facts.news seen.old (spec.shown hidden.now agent.now l.now)) }
+    ensures ok { OnOk result (seen.new ≡ seen.old ++ facts.news seen.old (spec.shown hidden.now agent.now l.now)) }
+    ensures err { OnErr result (seen.new ≡ seen.old) }
 {
     match sight(hidden, agent, l) {
         None => Ok(()),
@@ -163,10 +164,18 @@ pub fn see_all(
     ls: &[Literal],
     seen: &mut Literals,
 ) -> Result<(), Starved>
-    ensures { OnOk result (seen.new ≡ seen.old ++ facts.news seen.old (flat_map (spec.shown hidden.now agent.now) ls.now)) }
+    ensures ok { OnOk result (seen.new ≡ seen.old ++ facts.news seen.old (flat_map (spec.shown hidden.now agent.now) ls.now)) }
+    ensures err { OnErr result (seen.new ≡ seen.old) }
 {
+    let before = seen.len();
     for l in ls {
-        see(alloc, hidden, agent, l, seen)?;
+        match see(alloc, hidden, agent, l, seen) {
+            Ok(()) => {}
+            Err(starved) => {
+                seen.truncate(before);
+                return Err(starved);
+            }
+        }
     }
     Ok(())
 }

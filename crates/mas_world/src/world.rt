@@ -79,7 +79,8 @@ impl<A: Artifact> Artifacts<A> {
 
     /// Puts an artifact last.
     pub fn push(&mut self, artifact: Kept<A>) -> Result<(), Starved>
-        ensures { OnOk result (self.new ≡ self.old ++ artifact ∷ []) }
+        ensures ok { OnOk result (self.new ≡ self.old ++ artifact ∷ []) }
+        ensures err { OnErr result (self.new ≡ self.old) }
     {
         match self.kept.push(artifact) {
             Ok(()) => Ok(()),

@@ -3,12 +3,10 @@
 use crate::pings::Pings;
 use asl_term::copying::text_of;
 use asl_term::measure::ground_literal;
-use asl_term::printing_expr::write_literal;
+use asl_term::printing_expr::print_literal;
 use asl_term::sequence::{Seq, Starved};
 use asl_term::syntax::{Literal, LiteralOf, Term, Text};
-use mas_artifact::belt::Belt;
-use mas_artifact::slot::Slot;
-use mas_artifact::tally::Tally;
+use mas_artifact::opening;
 use mas_mind::mind::Feedback;
 use mas_world::artifact::Artifact;
 use std::alloc::Global;
@@ -48,7 +46,7 @@ fn shown<A: Artifact>(alloc: Global, artifact: &A) -> Result<Text, Starved> {
     artifact.observe(&mut facts)?;
     let mut out = Seq::new(alloc);
     for fact in facts.as_slice() {
-        write_literal(alloc, fact, &mut out)?;
+        print_literal(fact, &mut out)?;
     }
     Ok(out)
 }
@@ -56,7 +54,7 @@ fn shown<A: Artifact>(alloc: Global, artifact: &A) -> Result<Text, Starved> {
 #[test]
 fn a_slot_is_held_by_one(rt: HostRuntime) -> Result<(), Starved> {
     let alloc = rt.alloc();
-    let mut slot = Slot::new(alloc)?;
+    let mut slot = opening::slot(alloc)?;
     assert!(rt; slot.name().as_slice() == b"slot".as_slice());
     assert!(rt; does(alloc, &mut slot, b"a", b"slot_take", None)?);
     assert!(rt; !does(alloc, &mut slot, b"b", b"slot_take", None)?);
@@ -72,7 +70,7 @@ fn a_slot_is_held_by_one(rt: HostRuntime) -> Result<(), Starved> {
 #[test]
 fn a_tally_adds(rt: HostRuntime) -> Result<(), Starved> {
     let alloc = rt.alloc();
-    let mut tally = Tally::new(alloc)?;
+    let mut tally = opening::tally(alloc)?;
     assert!(rt; tally.name().as_slice() == b"tally".as_slice());
     assert!(rt; does(alloc, &mut tally, b"a", b"tally_add", Some(5))?);
     assert!(rt; !does(alloc, &mut tally, b"a", b"tally_add", Some(0))?);
@@ -108,7 +106,7 @@ fn all_are<A: Artifact>(
 #[test]
 fn a_belt_is_a_row_of_four(rt: HostRuntime) -> Result<(), Starved> {
     let alloc = rt.alloc();
-    let mut belt = Belt::new(alloc)?;
+    let mut belt = opening::belt(alloc)?;
     let steps: [(&[u8], i64, bool); 7] = [
         (b"belt_put", 1, true),
         (b"belt_put", 2, true),

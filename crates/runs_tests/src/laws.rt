@@ -20,4 +20,6 @@ fn laws_are_called() {
     mas_demo::laws::demo_is_refused();
     mas_top::laws::not_refused();
     mas_top::laws::one_refusal();
+    mas_top::laws::can_repeat();
+    mas_top::laws::reports_keep_laws();
 }

@@ -1,9 +1,11 @@
--- What the rows for the current stack keep: an action that they hand on has no variable, and the stacks that run stay.
-use Rattle.std.specs.Prelude.{◌≡◌, ℕ, Bool, true, false, cond, if◌then◌else◌, refl, List, [], ◌∷◌, ◌++◌, Option, None, Some, Ok, Err, codes}
+-- What the rows for the current stack keep: an action that they hand on has no variable, the stacks that run stay, and one
+-- waits for its action exactly where they hand one on.
+use Rattle.std.specs.Prelude.{◌≡◌, ℕ, Bool, true, false, cond, if◌then◌else◌, refl, List, [], ◌∷◌, ◌++◌, Option, None, Some, is_some, Ok, Err, codes}
 use Rattle.std.specs.Str.{bytes_eq}
 use Rattle.std.proofs.Common.{sym, ap, ◌∙◌}
 use Rattle.asl_term.specs.declared.syntax.LiteralOf.{LiteralOf}
 use Rattle.asl_term.specs.declared.syntax.CallOf.{CallOf}
+use Rattle.asl_term.specs.declared.syntax.Plan.{Plan}
 use Rattle.asl_term.specs.declared.syntax.Term.{Term}
 use Rattle.asl_term.specs.declared.syntax.Expr.{Expr}
 use Rattle.asl_term.specs.declared.syntax.Expr.TheVariants as expr
@@ -39,7 +41,7 @@ use Rattle.asl_cycle.specs.declared.config.After.{After}
 use Rattle.asl_cycle.specs.declared.config.After.TheVariants as after
 use Rattle.asl_cycle.specs.declared.rows.Sofar.{Sofar}
 use Rattle.asl_cycle.specs.Turns.{dropped_by_call, dropped_by_settled, dropped_by_head}
-use Rattle.asl_cycle.specs.Steps.{after_row, after_of, of_acted, deed, exec_by, exec_step, clear_step}
+use Rattle.asl_cycle.specs.Steps.{after_row, after_of, acts, of_acted, deed, exec_by, exec_step, clear_step}
 
 nothing_behind : {A : Type 0} (xs : List A) → xs ++ [] ≡ xs
 nothing_behind [] = refl
@@ -82,10 +84,25 @@ falls k n e a (m ∷ below) = falls_by (is_raised k.plans n e m.trigger) (has_me
   falls_by false true h = h
   falls_by false false h = refl
 
+-- nor is the one that waits for its action
+pub falls_acting : (plans : List Plan) (n : ℕ) (e : Error) (a : Agenda) (stack : List Means) → (fails plans n e a stack).agenda.acting ≡ a.acting
+falls_acting plans n e a [] = refl
+falls_acting plans n e a (m ∷ below) = falls_by (is_raised plans n e m.trigger) (has_means below) (falls_acting plans n e a below) where
+  falls_by : (raises more : Bool) → (fails plans n e a below).agenda.acting ≡ a.acting
+      → (if raises then raised e a m below else (if more then popped_one (fails plans n e a below) else dropped a)).agenda.acting ≡ a.acting
+  falls_by true more h = refl
+  falls_by false true h = h
+  falls_by false false h = refl
+
+-- where none waited before, one does where the row hands an action on
+abbrev pub IsHeld : Parts → Made → Type 0
+IsHeld p x = p.agenda.acting ≡ None → is_some x.parts.agenda.acting ≡ acts (after_of x.went)
+
 -- a row of the parts p
 record Keeps (named : Option (LiteralOf Term)) (p : Parts) (x : Made) : Type 0 where
   sound : IsSound named x.went
   running : x.parts.agenda.running ≡ p.agenda.running
+  held : IsHeld p x
 
 module _ (k : Around) (p : Parts) (cur : List Means) where
   -- the goal that the head drops or ends
@@ -95,23 +112,29 @@ module _ (k : Around) (p : Parts) (cur : List Means) where
   abbrev Kept : Made → Type 0
   Kept = Keeps Named p
 
+  none_held : p.agenda.acting ≡ None → is_some p.agenda.acting ≡ false
+  none_held none = ap (λ a. is_some a) none
+
+  fell_held : (r : Row) (e : Error) (stack : List Means) → IsHeld p (failed k r e p stack)
+  fell_held r e stack none = ap (λ a. is_some a) (falls_acting k.plans p.number e p.agenda stack ∙ none)
+
   fallen : (r : Row) (e : Error) → IsSound Named (went.Row r) → Kept (failed k r e p cur)
-  fallen r e h = record { sound = tt; running = falls k p.number e p.agenda cur }
+  fallen r e h = record { sound = tt; running = falls k p.number e p.agenda cur; held = fell_held r e cur }
 
   acts_by : (l : LiteralOf Term) (b : Bool) → is_ground_literal l ≡ b
       → Kept (cond b (made (spec.waiting p cur l) [] (went.Action l)) (failed k row.ExecFree error.NotGround p cur))
-  acts_by l true h = record { sound = h; running = refl }
+  acts_by l true h = record { sound = h; running = refl; held = λ none. refl }
   acts_by l false h = fallen row.ExecFree error.NotGround tt
 
   tests : (g : LiteralOf Term) (a : Answer) → Kept (spec.tested k p cur g a)
-  tests g (answer.Found s n) = record { sound = tt; running = refl }
-  tests g answer.Nothing = record { sound = tt; running = refl }
+  tests g (answer.Found s n) = record { sound = tt; running = refl; held = none_held }
+  tests g answer.Nothing = record { sound = tt; running = refl; held = none_held }
   tests g answer.Arith = fallen row.TestErr error.Arith tt
   tests g answer.TermLimit = fallen row.TestErr error.TermLimit tt
-  tests g (answer.Spent s) = record { sound = tt; running = refl }
+  tests g (answer.Spent s) = record { sound = tt; running = refl; held = none_held }
 
   relates : (h : Holding) → Kept (spec.related k p cur h)
-  relates (Gives (Some s)) = record { sound = tt; running = refl }
+  relates (Gives (Some s)) = record { sound = tt; running = refl; held = none_held }
   relates (Gives None) = fallen row.RelNo error.TestFailed tt
   relates (Fails e) = fallen row.ExecArith error.Arith tt
   relates Passes = fallen row.ExecLimit error.TermLimit tt
@@ -119,17 +142,17 @@ module _ (k : Around) (p : Parts) (cur : List Means) where
   answers : (a : Answer) → Kept (spec.answered k p cur a)
   answers answer.Arith = fallen row.ExecArith error.Arith tt
   answers answer.TermLimit = fallen row.IaBig error.TermLimit tt
-  answers (answer.Spent s) = record { sound = tt; running = refl }
+  answers (answer.Spent s) = record { sound = tt; running = refl; held = none_held }
   answers answer.Nothing = fallen row.IaFail error.IaFailed tt
-  answers (answer.Found s n) = record { sound = tt; running = refl }
+  answers (answer.Found s n) = record { sound = tt; running = refl; held = none_held }
 
   adds : (b : LiteralOf Term) → Kept (spec.add k p cur b)
   adds b = either Kept (is_ground_literal b) (spec.changed row.AddBel p cur (added b p.beliefs)) (failed k row.ExecFree error.NotGround p cur)
-      (record { sound = tt; running = refl }) (fallen row.ExecFree error.NotGround tt)
+      (record { sound = tt; running = refl; held = none_held }) (fallen row.ExecFree error.NotGround tt)
 
   replaces : (b : LiteralOf Term) → Kept (spec.replace k p cur b)
   replaces b = either Kept (is_ground_literal b) (spec.changed row.RepBel p cur (replaced b p.beliefs)) (failed k row.ExecFree error.NotGround p cur)
-      (record { sound = tt; running = refl }) (fallen row.ExecFree error.NotGround tt)
+      (record { sound = tt; running = refl; held = none_held }) (fallen row.ExecFree error.NotGround tt)
 
   abbrev deed_or : CallOf Expr → Made
   deed_or c = cond (spec.is_deed c.name) (made p cur (went.Outer c)) (spec.searched k p cur c)
@@ -139,7 +162,7 @@ module _ (k : Around) (p : Parts) (cur : List Means) where
 
   deeds : (c : CallOf Expr) → Named ≡ dropped_by_call c → Kept (deed_or c)
   deeds c is = either Kept (spec.is_deed c.name) (made p cur (went.Outer c)) (spec.searched k p cur c)
-      (record { sound = is; running = refl }) (answers (spec.sought k p (expr.Inner c)))
+      (record { sound = is; running = refl; held = none_held }) (answers (spec.sought k p (expr.Inner c)))
 
   fails_or : (c : CallOf Expr) → Named ≡ dropped_by_call c → Kept (fails_first c)
   fails_or c is = either Kept (bytes_eq c.name (codes "fail")) (failed k row.IaFail error.IaFailed p cur) (deed_or c)
@@ -147,15 +170,15 @@ module _ (k : Around) (p : Parts) (cur : List Means) where
 
   inners : (c : CallOf Expr) → Named ≡ dropped_by_call c → Kept (spec.inner k p cur c)
   inners c is = either Kept (bytes_eq c.name (codes "print")) (made p (without_head cur) (went.Say (print_text c.args))) (fails_first c)
-      (record { sound = tt; running = refl }) (fails_or c is)
+      (record { sound = tt; running = refl; held = none_held }) (fails_or c is)
 
   formulas : (f : Formula) → Named ≡ dropped_by_settled (Ok f) → Kept (spec.of_formula k p cur f)
   formulas (formula.Act l) is = acts_by l (is_ground_literal l) refl
-  formulas (formula.Achieve g) is = record { sound = tt; running = refl }
-  formulas (formula.Spawn g) is = record { sound = tt; running = refl }
+  formulas (formula.Achieve g) is = record { sound = tt; running = refl; held = none_held }
+  formulas (formula.Spawn g) is = record { sound = tt; running = refl; held = none_held }
   formulas (formula.Test g) is = tests g (spec.sought k p (expr.Holds g))
   formulas (formula.Add b) is = adds (with_source b)
-  formulas (formula.Del b) is = record { sound = tt; running = refl }
+  formulas (formula.Del b) is = record { sound = tt; running = refl; held = none_held }
   formulas (formula.Replace b) is = replaces (with_source b)
   formulas (formula.Rel r) is = relates (holds r [])
   formulas (formula.Inner c) is = inners c is
@@ -165,7 +188,7 @@ module _ (k : Around) (p : Parts) (cur : List Means) where
   settles (Ok f) is = formulas f is
 
   heads : (o : Option Formula) → Named ≡ dropped_by_head o → Kept (spec.of_head k p cur o)
-  heads None is = record { sound = tt; running = refl }
+  heads None is = record { sound = tt; running = refl; held = none_held }
   heads (Some f) is = either Kept (within_formula f) (spec.of_settled k p cur (settle_formula f)) (failed k row.ExecLimit error.TermLimit p cur)
       (settles (settle_formula f) is) (fallen row.ExecLimit error.TermLimit tt)
 
@@ -175,6 +198,9 @@ module _ (k : Around) (p : Parts) (cur : List Means) where
 
   pub exec_running : (spec.exec k p cur).parts.agenda.running ≡ p.agenda.running
   exec_running = exec_keeps.running
+
+  pub exec_held : IsHeld p (spec.exec k p cur)
+  exec_held = exec_keeps.held
 
   exec_leads : IsGround (after_of (spec.exec k p cur).went)
   exec_leads = leads Named (spec.exec k p cur).went exec_keeps.sound
@@ -205,6 +231,21 @@ module _ (k : Around) (p : Parts) (cur : List Means) where
   clear_keeps : Back (clearing.clear k p cur)
   unfolding clearing.clear
   clear_keeps = either Back (has_head cur) (clearing.waits p cur) (clearing.emptied k p cur) (tt, (cur ∷ [], refl)) (empties cur)
+
+  -- Clr hands no action on
+  pops_held : (below : List Means) (l : LiteralOf Term) → IsHeld p (clearing.popped k p l below)
+  pops_held below l = either (IsHeld p) (is_bounded (head below)) (clearing.done_below p l below) (failed k row.ClrLimit error.TermLimit p below)
+      none_held (fell_held row.ClrLimit error.TermLimit below)
+
+  empties_held : (c : List Means) → IsHeld p (clearing.emptied k p c)
+  empties_held [] = none_held
+  empties_held (m ∷ []) = none_held
+  empties_held (m ∷ n ∷ below) = either (IsHeld p) (is_bounded_trigger m.trigger) (clearing.popped k p m.trigger.lit (n ∷ below))
+      (failed k row.ClrLimit error.TermLimit p (n ∷ below)) (pops_held (n ∷ below) m.trigger.lit) (fell_held row.ClrLimit error.TermLimit (n ∷ below))
+
+  pub clear_held : IsHeld p (clearing.clear k p cur)
+  unfolding clearing.clear
+  clear_held = either (IsHeld p) (has_head cur) (clearing.waits p cur) (clearing.emptied k p cur) none_held (empties_held cur)
 
   pub clear_ground : IsGround (clear_step k p cur).next.after
   clear_ground = leads Named (clearing.clear k p cur).went clear_keeps.0

@@ -12,7 +12,7 @@ returns-clause-answer g c =
     let a = c.args in
     let found = λ (fs : List Fact) (e : Expr).
     decide a.k.now.budgets.tries (marks (base fs (g.A.Actions.solve a.k.now.actions)) a.k.now.budgets.depth e a.s.now a.p.now.number) in
-    IfOk-weaker c.first.result _ _ (λ r h. (
+    IfOk-weaker c.first-answer.result _ _ (λ r h. (
     h ∙ ap (found (g.B.Facts.clauses a.p.now.beliefs)) c.in_ok-context.ensures
     ∙ ap (λ fs. found fs (renamed_expr a.number a.plan.now.context)) (g.met.B.BeliefBase.parts a.p.now.beliefs)
-    )) c.first.ensures.decided
+    )) c.first-answer.ensures.decided

@@ -1,5 +1,9 @@
+use Rattle.std.proofs.Common.{sym, ap, ◌∙◌}
 use Rattle.std.proofs.lemmas.Result.{IfOk-weaker}
 use Rattle.asl_exec.specs.Parts.{around, parts}
+use Rattle.asl_kqml.specs.Receive.{Received}
+use Rattle.asl_cycle.proofs.Awaiting.{on_ok}
+use Rattle.asl_cycle.proofs.Letters.{reads_acting}
 use Rattle.asl_cycle.proofs.Moving.{read_on}
 use Rattle.asl_cycle.proofs.steps.msg.Goals as goal
 
@@ -13,3 +17,11 @@ returns-in_ok-took-in-Some-clause-made g c =
     IfOk-weaker c.put_took.result _ _ (λ next h.
     read_on e a.peers.now old new a.sofar.now c.put_took.new.sofar a.message.now c.in-Some.m c.in_ok-took-in-Some.took next
     c.in-Some.is c.in_ok-took-in-Some.ensures.made h) (c.put_took.ensures.made new)
+
+pub returns-in_ok-took-in-Some-clause-acting : goal.returns-in_ok-took-in-Some-clause-acting
+returns-in_ok-took-in-Some-clause-acting g c =
+    let a = c.args in
+    let e = around a.k.now.lib.plans (g.B.BeliefBase.rules a.p.now.beliefs) (g.A.Actions.solve a.k.now.actions) a.k.now.budgets in
+    let old = parts (g.B.BeliefBase.beliefs a.p.now.beliefs) a.p.now.agenda a.p.now.number in
+    on_ok c.put_took.result (ap (λ (r : Received). r.parts.agenda.acting) (sym c.in_ok-took-in-Some.ensures.made)
+    ∙ reads_acting e a.peers.now old c.in-Some.m)

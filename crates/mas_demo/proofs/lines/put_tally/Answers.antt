@@ -11,7 +11,7 @@ returns-in-Some c =
     let t = c.in-Some.term.now in
     let found : Some t ≡ counted c.fact-item.result = search rules in
     let told : tally_text all ≡ text t = tally_here all c.facts.fact-index c.fact-item.result t c.facts-test.true c.fact-item.is found i.same in
-    rw (told, ← i.out) c.write.ensures
+    rw (told, ← i.out) c.print.ensures.ok
 
 pub returns : goal.returns
 returns c =

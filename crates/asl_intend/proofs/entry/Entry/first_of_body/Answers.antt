@@ -1,4 +1,4 @@
-use Rattle.std.proofs.Common.{◌≡◌, ◌∙◌, ap, sym, subst, drop, slice_get, Some}
+use Rattle.std.proofs.Common.{◌≡◌, ◌∙◌, ap, subst, drop, Some}
 use Rattle.std.specs.Option.{option_map}
 use Rattle.asl_unify.specs.Limits.{Passes}
 use Rattle.asl_unify.specs.Applied.{put_formula}

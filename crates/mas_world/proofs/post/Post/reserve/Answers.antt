@@ -21,6 +21,10 @@ pub returns-clause-kept : goal.returns-clause-kept
 returns-clause-kept c =
     b.grows c.self.inside.boxes c.args.self.now c.self.view_is c.args.a c.requires c.at_mut.result.now c.reserve.new.self c.at_mut.ensures.value c.reserve.ensures.kept
 
+pub returns-clause-enough : goal.returns-clause-enough
+returns-clause-enough c h =
+    c.reserve.ensures.enough (subst (λ n. c.args.n ≤ n) (b.was_spare c.self.inside.boxes c.args.self.now c.self.view_is c.args.a c.requires c.at_mut.result.now c.reserve.new.self c.at_mut.ensures.value) h)
+
 pub returns-clause-others : goal.returns-clause-others
 returns-clause-others c =
     b.others c.self.inside.boxes c.args.self.now c.self.view_is c.args.a c.requires c.at_mut.result.now c.reserve.new.self c.at_mut.ensures.value

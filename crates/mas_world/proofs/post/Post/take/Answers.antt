@@ -1,4 +1,4 @@
-use Rattle.std.proofs.Common.{length, sym, ap, subst, ◌∙◌, drop, IfSome, slice_get}
+use Rattle.std.proofs.Common.{◌<◌, ◌+◌, length, sym, ap, subst, ◌∙◌, drop, IfSome, slice_get}
 use Rattle.mas_mind.specs.Minds.{IsFor}
 use Rattle.mas_world.proofs.Boxes as b
 use Rattle.mas_world.proofs.post.Post.take.Goals as goal
@@ -17,6 +17,13 @@ returns-clause-rest c =
     b.now_list c.self.inside.boxes c.args.self.now c.self.view_is c.args.a c.requires c.at_mut.result.now c.remove.new.self c.at_mut.ensures.value
     ∙ c.remove.ensures.rest ∙ b.rest c.at_mut.result.now.list
     ∙ ap (drop 1) (sym (b.was_list c.self.inside.boxes c.args.self.now c.self.view_is c.args.a c.requires c.at_mut.result.now c.remove.new.self c.at_mut.ensures.value))
+
+pub returns-clause-room : goal.returns-clause-room
+returns-clause-room c h =
+    b.now_spare c.self.inside.boxes c.args.self.now c.self.view_is c.args.a c.requires c.at_mut.result.now c.remove.new.self c.at_mut.ensures.value
+    ∙ c.remove.ensures.room
+    (subst (λ ms. 0 < length ms) (b.was_list c.self.inside.boxes c.args.self.now c.self.view_is c.args.a c.requires c.at_mut.result.now c.remove.new.self c.at_mut.ensures.value) h)
+    ∙ ap (λ n. n + 1) (sym (b.was_spare c.self.inside.boxes c.args.self.now c.self.view_is c.args.a c.requires c.at_mut.result.now c.remove.new.self c.at_mut.ensures.value))
 
 pub returns-clause-kept : goal.returns-clause-kept
 returns-clause-kept c =

@@ -1,0 +1,17 @@
+use Rattle.std.proofs.Common.{reverse, sym, ap, ◌∙◌, slice_get, ◌≡◌, Some}
+use Rattle.std.proofs.lemmas.Result.{IfOk-weaker}
+use Rattle.asl_intend.specs.Entries.{seen}
+use Rattle.asl_intend.specs.Stacks as stacks
+use Rattle.asl_intend.proofs.Logs as logs
+use Rattle.asl_intend.proofs.stack.Stack.is_matched.Goals as goal
+
+pub returns-in-Some : goal.returns-in-Some
+returns-in-Some c =
+    let log = c.self.inside.log in
+    let g = c.args.g.now in
+    let at = ap (λ l. slice_get (reverse l) c.args.k) (sym c.deref.ensures.value) ∙ c.in-Some.ensures in
+    let same : Some (seen c.as_slice.result.now c.in-Some.e.now).trigger ≡ stacks.trigger_at c.args.self.now c.args.k =
+    ap (λ l. Some (seen l c.in-Some.e.now).trigger) c.as_slice.ensures ∙ sym (logs.trigger_shown log
+    (reverse c.self.inside.entries.items) c.args.k c.in-Some.e.now at) ∙ ap (λ l. stacks.trigger_at l c.args.k) c.self.view_is in
+    IfOk-weaker c.is_matched.result _ (λ r. r ≡ stacks.matched_at g c.args.more.now (stacks.trigger_at c.args.self.now c.args.k))
+    (λ r p. p ∙ ap (stacks.matched_at g c.args.more.now) same) c.is_matched.ensures

@@ -1,0 +1,4 @@
+pub mod Exchanges
+pub mod Openings
+pub mod Closings
+pub mod Sends

@@ -1,0 +1,55 @@
+-- A board may go to another thread where the artifacts of its world may.
+use denote.Param.Send.{IsSend, sendable, view_send}
+use denote.Param.SendFields.{as_row_send, declared_send}
+use denote.RattleType.{RattleType}
+use denote.Plain.{UInt}
+use mir.Syntax.{w64}
+use Rattle.asl_term.proofs.names.Names.TheSendSync.{the_send as names_send}
+use Rattle.asl_term.proofs.room.Roomy.TheSendSync.{the_send as roomy_send}
+use Rattle.asl_term.proofs.sequence.Seq.TheSendSync.{the_send as seq_send}
+use Rattle.mas_world.proofs.Sends.{post_send, world_send}
+use Rattle.mas_world.specs.declared.artifact.Artifact.{Ghosts}
+use Rattle.mas_board.proofs.seats.Place.TheSendSync.{the_send as place_send}
+use Rattle.mas_board.specs.contracts.board.Board as board
+use Rattle.mas_board.specs.contracts.board.Board.TheInside as inside
+
+number_send : IsSend (UInt w64)
+number_send = search sendable
+
+module _ (A : RattleType) (g : Ghosts A.Denot) where
+  -- field by field
+  inside_send : IsSend A → IsSend (inside.the_row A g)
+  inside_send s = declared_send (inside.the_type A g) (
+    names_send,
+    (
+      world_send A g s,
+      (
+        post_send,
+        (
+          search (sendable, as_row_send),
+          (
+            search (sendable, as_row_send),
+            (
+              search (sendable, as_row_send),
+              (
+                search (sendable, as_row_send),
+                (
+                  seq_send _ place_send,
+                  (
+                    roomy_send _ number_send,
+                    (
+                      search (sendable, as_row_send),
+                      tt,
+                    ),
+                  ),
+                ),
+              ),
+            ),
+          ),
+        ),
+      ),
+    ),
+  )
+
+  pub board_send : IsSend A → IsSend (board.the_row A g)
+  board_send s = view_send (inside.the_row A g) _ _ _ _ (inside_send s)
