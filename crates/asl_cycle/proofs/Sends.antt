@@ -42,7 +42,14 @@ use Rattle.asl_stdlib.specs.contracts.standard.StandardActions as standard
 use Rattle.asl_cycle.specs.contracts.agent.Agent as agent
 use Rattle.asl_cycle.specs.contracts.agent.Agent.TheInside as inside
 use Rattle.asl_plans.specs.contracts.library.Library as library
-use Rattle.asl_beliefs.specs.contracts.beliefs.Beliefs as beliefs
+use Rattle.asl_plans.specs.contracts.library.Library.TheInside as library_inside
+use Rattle.asl_plans.proofs.filing.Filed.TheSendSync.{the_send as filed_send}
+use Rattle.asl_places.proofs.frames.Frames.TheSendSync.{the_send as frames_send}
+use Rattle.asl_places.proofs.keys.Keys.TheSendSync.{the_send as keys_send}
+use Rattle.asl_index.specs.contracts.store.Store as store
+use Rattle.asl_index.specs.contracts.store.Store.TheInside as store_inside
+use Rattle.asl_index.specs.contracts.indexed.Indexed as indexed
+use Rattle.asl_index.specs.contracts.indexed.Indexed.TheInside as indexed_inside
 
 relation_field_send : IsSend (relation.the_field).row
 relation_field_send = search (sendable, relop.the_field_send, term_field_send)
@@ -78,10 +85,16 @@ plan_send : IsSend plan.the_row
 plan_send = search (sendable, as_row_send, seq_send, trigger_field_send, expr_field_send, formula_send) depth 14
 
 library_send : IsSend library.the_row
-library_send = search (sendable, as_row_send, seq_send, plan_send) depth 12
+library_send = view_send library_inside.the_row _ _ _ _ (declared_send library_inside.the_type (seq_send _ plan_send, (filed_send, tt)))
 
-beliefs_send : IsSend beliefs.the_row
-beliefs_send = search (sendable, as_row_send, seq_send, literal.the_send, term_send, clause_send) depth 12
+store_send : IsSend store.the_row
+store_send = view_send store_inside.the_row _ _ _ _ (declared_send store_inside.the_type (
+  search (sendable, as_row_send, seq_send, literal.the_field_send, literal.the_send, term_send) depth 14,
+  (frames_send, (keys_send, (search sendable, tt))),
+))
+
+indexed_send : IsSend indexed.the_row
+indexed_send = view_send indexed_inside.the_row _ _ _ _ (declared_send indexed_inside.the_type (store_send, (seq_send _ clause_send, (frames_send, tt))))
 
 -- ---- stacks, and what waits with one
 
@@ -123,8 +136,8 @@ parts_of B s = declared_send (parts.the_type B) (search (sendable, as_row_send),
 around_of : (A : RattleType) → IsSend A → IsSend (around.the_row A)
 around_of A s = declared_send (around.the_type A) (library_send, (search (sendable, as_row_send), (search (sendable, as_row_send), tt)))
 
-parts_send : IsSend (parts.the_row beliefs.the_row)
-parts_send = parts_of beliefs.the_row beliefs_send
+parts_send : IsSend (parts.the_row indexed.the_row)
+parts_send = parts_of indexed.the_row indexed_send
 
 around_send : IsSend (around.the_row standard.the_row)
 around_send = around_of standard.the_row standard_send

@@ -8,8 +8,8 @@ ghost use Rattle.mas_mind.specs.Minds.{asks_feedback};
 use crate::cycle::cycle;
 use crate::opening::{add_goals, copy_names, copy_plans};
 use crate::trace::write_lines;
-use asl_beliefs::beliefs::Beliefs;
 use asl_exec::parts::{Around, Parts};
+use asl_index::indexed::Indexed;
 use asl_intend::opening::agenda;
 use asl_kqml::peers::{Peers, agent_name};
 use asl_plans::library::Library;
@@ -27,7 +27,7 @@ use std::marker::Model;
 #[derive(Drop)]
 pub struct Agent {
     around: Around<StandardActions>,
-    parts: Parts<Beliefs>,
+    parts: Parts<Indexed>,
     asks: u64,
     kept: Option<Feedback>,
     awaits: bool,
@@ -84,16 +84,16 @@ pub fn open_agent(
     requires tries { budgets.tries ≤ 10000000 }
     ensures { IfOk result (λ a. a ≡ opening_mind me names.now source.now budgets level) }
 {
-    let plans = copy_plans(alloc, source.plans.as_slice())?;
+    let lib = Library::of(alloc, copy_plans(alloc, source.plans.as_slice())?)?;
     let mut events = Seq::new(alloc);
-    let beliefs = Beliefs::open(alloc, source, &mut events)?;
+    let beliefs = Indexed::open(alloc, source, &mut events)?;
     add_goals(alloc, source.goals.as_slice(), &mut events)?;
     let agenda = agenda(alloc, events)?;
     let actions = StandardActions::new(agent_name(alloc, names, me)?);
     let names = copy_names(alloc, names)?;
     Ok(Agent {
         around: Around {
-            lib: Library { plans },
+            lib,
             actions,
             budgets,
         },

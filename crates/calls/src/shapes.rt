@@ -57,13 +57,15 @@ pub enum Does {
     WithSource,
 }
 
-/// What the arguments of a call are: its text as it stands; terms, literals or formulas; or the formulas of the first given plan.
+/// What the arguments of a call are: its text as it stands; terms, literals or formulas; a term and a formula; or the formulas
+/// of the first given plan.
 #[derive(Clone, Copy)]
 pub enum Kind {
     Text,
     Term,
     Literal,
     Expr,
+    Search,
     Body,
 }
 
@@ -128,7 +130,7 @@ const CALLS: [(&str, Does, Kind, u64, u64, bool); 64] = [
     ("variables", Does::Variables, Kind::Term, 1, 1, false),
     ("within", Does::Within, Kind::Term, 1, 1, false),
     ("agenda", Does::Agenda, Kind::Literal, 0, ANY, false),
-    ("all", Does::All, Kind::Term, 2, 4, true),
+    ("all", Does::All, Kind::Search, 2, 4, true),
     ("change", Does::Change, Kind::Literal, 0, ANY, false),
     ("clauses", Does::Clauses, Kind::Literal, 1, 2, false),
     ("compare", Does::Compare, Kind::Term, 1, 1, true),
@@ -141,7 +143,7 @@ const CALLS: [(&str, Does, Kind, u64, u64, bool); 64] = [
         0,
         false,
     ),
-    ("first", Does::First, Kind::Term, 2, 4, true),
+    ("first", Does::First, Kind::Search, 2, 4, true),
     ("first_match", Does::FirstMatch, Kind::Literal, 2, 2, true),
     ("list", Does::List, Kind::Literal, 0, ANY, false),
     ("match_annots", Does::MatchAnnots, Kind::Term, 2, 2, true),

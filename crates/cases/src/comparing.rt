@@ -2,9 +2,8 @@
 
 ghost use Rattle.std.specs.Prelude.{◌≡◌, ◌≢◌, ◌+◌, ◌==◌, ◌↔◌, IsNone, IfSome, IsTrue, count_by, take, slice_get};
 
-use crate::form::{Mode, Place, Plain, Wanted};
+use crate::form::{Desk, Mode, Place, Plain, Wanted};
 use crate::lines::{is_feed, line_of};
-use asl_term::sequence::Starved;
 use asl_term::syntax::Text;
 
 /// What a call did: its status by its code, the fault line, and what was written.
@@ -75,9 +74,12 @@ fn line_difference<'a>(wanted: &'a [u8], got: &'a [u8]) -> Option<Difference<'a>
     })
 }
 
-/// The lines of a report from each `agent NAME` to its `end NAME`.
-pub fn agent_lines(report: &[u8], lines: &mut Text) -> Result<(), Starved> {
-    let mut inside = false;
+/// What of the output is compared: the whole, or the lines of a report from each `agent NAME` to its `end NAME`.
+pub fn put_shown(mode: Mode, report: &[u8], lines: &mut Text, desk: &mut Desk) {
+    let mut inside = match mode {
+        Mode::Whole | Mode::InOrder => return desk.put(report, lines),
+        Mode::Agents => false,
+    };
     for line in report.split_inclusive(is_feed) {
         if line.starts_with(b"agent ") {
             inside = true;
@@ -86,10 +88,9 @@ pub fn agent_lines(report: &[u8], lines: &mut Text) -> Result<(), Starved> {
             inside = false;
         }
         if inside {
-            lines.append(line)?;
+            desk.put(line, lines);
         }
     }
-    Ok(())
 }
 
 /// A line up to its last blank.

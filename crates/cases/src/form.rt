@@ -2,8 +2,9 @@
 
 ghost use Rattle.std.specs.Prelude.{◌≤◌};
 
+use asl_term::copying::text_of;
 use asl_term::sequence::{Seq, Starved};
-use asl_term::syntax::{Files, Numbers, Text};
+use asl_term::syntax::{Filed, Files, Numbers, Text};
 use std::alloc::Global;
 
 /// A line of a file: its number, from 1, its first word, and what stands behind the blank that ends this word.
@@ -38,11 +39,60 @@ pub struct Fault {
     pub what: &'static str,
 }
 
-impl From<Starved> for Fault {
-    fn from(_starved: Starved) -> Fault {
-        Fault {
-            line: 0,
-            what: "memory",
+/// What reads and tells: what it allocates with, and the first fault that it met, if any.
+#[derive(Clone, Copy)]
+pub struct Desk {
+    pub alloc: Global,
+    pub fault: Option<Fault>,
+}
+
+impl Desk {
+    pub fn new(alloc: Global) -> Desk {
+        Desk { alloc, fault: None }
+    }
+
+    /// Says why a file can't be read. The first fault stays.
+    pub fn refuse(&mut self, line: u64, what: &'static str) {
+        if self.fault.is_none() {
+            self.fault = Some(Fault { line, what });
+        }
+    }
+
+    /// Refuses where memory is short.
+    pub fn check(&mut self, outcome: Result<(), Starved>) {
+        if outcome.is_err() {
+            self.refuse(0, "memory");
+        }
+    }
+
+    pub fn put(&mut self, bytes: &[u8], out: &mut Text) {
+        self.check(out.append(bytes));
+    }
+
+    /// A word, and a number in decimal.
+    pub fn put_named(&mut self, name: &str, number: u64, out: &mut Text) {
+        match format!(in self.alloc; "{name}{number}") {
+            Ok(text) => self.put(text.as_bytes(), out),
+            Err(_) => self.refuse(0, "memory"),
+        }
+    }
+
+    pub fn put_word(&mut self, word: &str, words: &mut Vec<String>) {
+        match word.to_string(self.alloc) {
+            Ok(word) => {
+                if words.push(word).is_err() {
+                    self.refuse(0, "memory");
+                }
+            }
+            Err(_) => self.refuse(0, "memory"),
+        }
+    }
+
+    /// A file of this name.
+    pub fn put_file(&mut self, name: &[u8], bytes: Text, files: &mut Files) {
+        match text_of(self.alloc, name) {
+            Ok(name) => self.check(files.push(Filed { name, bytes })),
+            Err(starved) => self.check(Err(starved)),
         }
     }
 }

@@ -2,7 +2,7 @@
 
 ghost use Rattle.std.specs.Prelude.{◌≡◌, ◌==◌, ◌<◌, length};
 
-use crate::form::{Entry, Fault, Line, Section};
+use crate::form::{Desk, Entry, Line, Section};
 use asl_term::sequence::Starved;
 
 /// The words that begin a line of a text.
@@ -148,10 +148,6 @@ pub fn find<'a>(section: &Section<'a>, key: &str) -> Option<Entry<'a>> {
     None
 }
 
-pub fn fault_at(line: u64, what: &'static str) -> Fault {
-    Fault { line, what }
-}
-
 /// Whether a word begins one of these lines.
 pub fn has_word(lines: &[Line<'_>], word: &[u8]) -> bool {
     for line in lines {
@@ -163,43 +159,42 @@ pub fn has_word(lines: &[Line<'_>], word: &[u8]) -> bool {
 }
 
 /// Refuses a line that has no known key and is no part of a text, and a key that stands twice.
-fn check_lines(lines: &[Line<'_>], texts: &[&str], plain: &[&str]) -> Result<(), Fault> {
+fn check_lines(lines: &[Line<'_>], texts: &[&str], plain: &[&str], desk: &mut Desk) {
     let mut takes_text = false;
     for at in 0..lines.len() {
         let line = lines[at];
         if is_key(&line) {
             takes_text = is_among(line.word, texts);
             if !takes_text && !is_among(line.word, plain) {
-                return Err(fault_at(line.number, "unknown key"));
+                desk.refuse(line.number, "unknown key");
             }
             let is_file = line.word == b"file".as_slice();
             if !is_file && has_word(&lines[..at], line.word) {
-                return Err(fault_at(line.number, "this key stands twice"));
+                desk.refuse(line.number, "this key stands twice");
             }
         } else if !takes_text {
-            return Err(fault_at(line.number, "no text stands here"));
+            desk.refuse(line.number, "no text stands here");
         }
     }
-    Ok(())
 }
 
-pub fn check_case(section: &Section<'_>) -> Result<(), Fault> {
-    check_lines(section.body, &TEXT_KEYS, &PLAIN_KEYS)
-}
-
-pub fn check_refused(section: &Section<'_>) -> Result<(), Fault> {
-    check_lines(section.body, &REFUSED_KEYS, &[])
+/// Refuses what has no known key, or one twice, in a case or in a refused file.
+pub fn check_section(section: &Section<'_>, desk: &mut Desk) {
+    if section.is_case {
+        check_lines(section.body, &TEXT_KEYS, &PLAIN_KEYS, desk);
+    } else {
+        check_lines(section.body, &REFUSED_KEYS, &[], desk);
+    }
 }
 
 /// Refuses a name that is empty or stands twice.
-pub fn check_name(lines: &[Line<'_>], head: &Line<'_>) -> Result<(), Fault> {
+pub fn check_name(lines: &[Line<'_>], head: &Line<'_>, desk: &mut Desk) {
     if head.rest.is_empty() {
-        return Err(fault_at(head.number, "it has no name"));
+        desk.refuse(head.number, "it has no name");
     }
     for line in lines {
         if is_head(line) && line.rest == head.rest {
-            return Err(fault_at(head.number, "this name stands twice"));
+            desk.refuse(head.number, "this name stands twice");
         }
     }
-    Ok(())
 }

@@ -9,11 +9,11 @@ mod running;
 mod telling;
 mod values;
 
-use asl_term::sequence::{Seq, Starved};
+use asl_term::sequence::Seq;
 use asl_term::syntax::Text;
-use form::{Fault, Line, Section};
+use form::{Desk, Section};
 use lines::{is_head, read_lines, section_at};
-use reading::check_file;
+use reading::fault_of;
 use running::{run_case, run_refused};
 use std::alloc::Global;
 use std::io::Write;
@@ -23,7 +23,6 @@ use std::sync::Wait;
 use std::thread::Threads;
 use std::{env, fs, io};
 use telling::put_fault;
-use values::put_named;
 
 /// How many cases passed, how many failed, and the lines that tell why.
 #[derive(Drop)]
@@ -31,34 +30,29 @@ struct Tally {
     passed: u64,
     failed: u64,
     lines: Text,
-}
-
-fn put_failure(file: &str, name: &[u8], reason: &[u8], lines: &mut Text) -> Result<(), Starved> {
-    lines.append(file.as_bytes())?;
-    lines.append(b": ")?;
-    if !name.is_empty() {
-        lines.append(name)?;
-        lines.append(b": ")?;
-    }
-    lines.append(reason)?;
-    lines.push(b'\n')
+    desk: Desk,
 }
 
 impl Tally {
-    fn pass(&mut self) {
-        self.passed = self.passed.saturating_add(1);
-    }
-
-    /// Counts a failure. Its line is left out where memory is short.
+    /// Counts a failure, of the case of a name or, where it is empty, of a whole file.
     fn fail(&mut self, file: &str, name: &[u8], reason: &[u8]) {
         self.failed = self.failed.saturating_add(1);
-        let _ = put_failure(file, name, reason, &mut self.lines);
+        self.desk.put(file.as_bytes(), &mut self.lines);
+        self.desk.put(b": ", &mut self.lines);
+        if !name.is_empty() {
+            self.desk.put(name, &mut self.lines);
+            self.desk.put(b": ", &mut self.lines);
+        }
+        self.desk.put(reason, &mut self.lines);
+        self.desk.put(b"\n", &mut self.lines);
     }
 
-    fn fail_at(&mut self, alloc: Global, file: &str, name: &[u8], fault: &Fault) {
-        let mut reason = Seq::new(alloc);
-        let _ = put_fault(alloc, fault, &mut reason);
-        self.fail(file, name, reason.as_slice());
+    /// Tells how many cases passed, and how many failed.
+    fn put_counts(&mut self) {
+        self.desk.put_named("", self.passed, &mut self.lines);
+        self.desk
+            .put_named(" passed, ", self.failed, &mut self.lines);
+        self.desk.put(b" failed\n", &mut self.lines);
     }
 }
 
@@ -69,30 +63,21 @@ fn run_section<R: Threads + Wait + Sync>(
     section: &Section<'_>,
     tally: &mut Tally,
 ) {
-    let mut reason = Seq::new(alloc);
-    let outcome = if section.is_case {
-        run_case(rt, alloc, section, &mut reason)
+    let (mut reason, mut desk) = (Seq::new(alloc), Desk::new(alloc));
+    let is_passed = if section.is_case {
+        run_case(rt, section, &mut reason, &mut desk)
     } else {
-        run_refused(alloc, section, &mut reason)
+        run_refused(section, &mut reason, &mut desk)
     };
-    match outcome {
-        Ok(true) => tally.pass(),
-        Ok(false) => tally.fail(file, section.name, reason.as_slice()),
-        Err(fault) => tally.fail_at(alloc, file, section.name, &fault),
+    if let Some(fault) = desk.fault {
+        reason.truncate(0);
+        put_fault(&fault, &mut reason, &mut desk);
+        return tally.fail(file, section.name, reason.as_slice());
     }
-}
-
-fn run_lines<R: Threads + Wait + Sync>(
-    rt: &R,
-    alloc: Global,
-    file: &str,
-    lines: &[Line<'_>],
-    tally: &mut Tally,
-) {
-    for at in 0..lines.len() {
-        if is_head(&lines[at]) {
-            run_section(rt, alloc, file, &section_at(&*lines, at), tally);
-        }
+    if is_passed {
+        tally.passed = tally.passed.saturating_add(1);
+    } else {
+        tally.fail(file, section.name, reason.as_slice());
     }
 }
 
@@ -108,16 +93,15 @@ fn run_text<R: Threads + Wait + Sync>(
     if read_lines(text, &mut lines).is_err() {
         return tally.fail(file, &[], b"memory");
     }
-    match check_file(alloc, lines.as_slice()) {
-        Ok(()) => run_lines(rt, alloc, file, lines.as_slice(), tally),
-        Err(fault) => tally.fail_at(alloc, file, &[], &fault),
+    if let Some(fault) = fault_of(alloc, lines.as_slice()) {
+        let mut reason = Seq::new(alloc);
+        put_fault(&fault, &mut reason, &mut Desk::new(alloc));
+        return tally.fail(file, &[], reason.as_slice());
     }
-}
-
-fn run_file<R: Files + AllocGlobal + Threads + Wait + Sync>(rt: &R, file: &str, tally: &mut Tally) {
-    match fs::read(rt, file) {
-        Ok(text) => run_text(rt, rt.alloc(), file, text.as_slice(), tally),
-        Err(_) => tally.fail(file, &[], b"it can't be read"),
+    for at in 0..lines.len() {
+        if is_head(&lines[at]) {
+            run_section(rt, alloc, file, &section_at(lines.as_slice(), at), tally);
+        }
     }
 }
 
@@ -127,16 +111,13 @@ fn run_files<R: Files + Env + AllocGlobal + Threads + Wait + Sync>(
     tally: &mut Tally,
 ) -> io::Result<()> {
     for word in env::args(rt)?.skip(1) {
-        run_file(rt, word.as_str(), tally);
+        let file = word.as_str();
+        match fs::read(rt, file) {
+            Ok(text) => run_text(rt, rt.alloc(), file, text.as_slice(), tally),
+            Err(_) => tally.fail(file, &[], b"it can't be read"),
+        }
     }
     Ok(())
-}
-
-/// Tells how many cases passed, and how many failed.
-fn put_counts(alloc: Global, passed: u64, failed: u64, lines: &mut Text) -> Result<(), Starved> {
-    put_named(alloc, "", passed, lines)?;
-    put_named(alloc, " passed, ", failed, lines)?;
-    lines.append(b" failed\n")
 }
 
 fn main(rt: HostRuntime) -> ExitCode {
@@ -144,16 +125,17 @@ fn main(rt: HostRuntime) -> ExitCode {
         passed: 0,
         failed: 0,
         lines: Seq::new(rt.alloc()),
+        desk: Desk::new(rt.alloc()),
     };
     if run_files(&rt, &mut tally).is_err() {
         return ExitCode::from(2);
     }
-    let (passed, failed) = (tally.passed, tally.failed);
-    if put_counts(rt.alloc(), passed, failed, &mut tally.lines).is_err() {
+    tally.put_counts();
+    if tally.desk.fault.is_some() {
         return ExitCode::from(2);
     }
     let is_told = io::writer(&rt).write_all(tally.lines.as_slice()).is_ok();
-    if is_told && failed == 0 && passed > 0 {
+    if is_told && tally.failed == 0 && tally.passed > 0 {
         ExitCode::SUCCESS
     } else {
         ExitCode::from(1)

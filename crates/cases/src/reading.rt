@@ -2,19 +2,13 @@
 
 ghost use Rattle.std.specs.Prelude.{◌≡◌, ◌≢◌, ◌++◌, ◌∷◌, [], OnOk};
 
-use crate::form::{Entry, Fault, Given, Line, Mode, Place, Plain, Section, Wanted};
+use crate::form::{Desk, Entry, Fault, Given, Line, Mode, Place, Plain, Section, Wanted};
 use crate::lines::{
-    check_case, check_name, check_refused, entry_at, fault_at, find, has_word, is_feed, is_head,
-    line_of, section_at,
+    check_name, check_section, entry_at, find, has_word, is_feed, is_head, line_of, section_at,
 };
-use crate::values::{
-    lines_into, number, number_at, numbers_into, put_named, put_pieces, text_at, text_into,
-};
-use asl_term::copying::text_of;
+use crate::values::{lines_into, number, number_at, numbers_into, put_pieces, text_at, text_into};
 use asl_term::sequence::{Seq, Starved};
-use asl_term::syntax::{Filed, Files, Numbers, Text};
-use mas_mind::mind::Level;
-use mas_report::options::Options;
+use asl_term::syntax::{Files, Numbers, Text};
 use std::alloc::Global;
 
 /// The name of the file that `source` makes.
@@ -39,63 +33,58 @@ const OPTIONS: [(&str, &str); 5] = [
     ("level", "--level"),
 ];
 
+const LEVELS: [&str; 3] = ["say", "acts", "rules"];
+
 /// The keys of which each makes a case the call of a project.
 const PROJECT_KEYS: [&str; 7] = [
     "project", "schedule", "cycles", "lead", "depth", "tries", "level",
 ];
 
-fn level_of(section: &Section<'_>) -> Result<Level, Fault> {
+/// The level of a run, by its word.
+fn level_of<'a>(section: &Section<'a>, desk: &mut Desk) -> &'a [u8] {
     let Some(entry) = find(section, "level") else {
-        return Ok(Level::Acts);
+        return b"acts";
     };
-    if entry.rest == b"say".as_slice() {
-        Ok(Level::Say)
-    } else if entry.rest == b"acts".as_slice() {
-        Ok(Level::Acts)
-    } else if entry.rest == b"rules".as_slice() {
-        Ok(Level::Rules)
-    } else {
-        Err(fault_at(entry.number, "unknown level"))
+    for known in &LEVELS {
+        if entry.rest == known.as_bytes() {
+            return entry.rest;
+        }
     }
+    desk.refuse(entry.number, "unknown level");
+    entry.rest
 }
 
-/// The options that the case has, and the usual ones for those that it leaves out.
-fn options_of(section: &Section<'_>) -> Result<Options, Fault> {
-    Ok(Options {
-        cycles: number_at(section, "cycles", 1, 1_000_000, 1000)?,
-        lead: number_at(section, "lead", 1, 1000, 8)?,
-        depth: number_at(section, "depth", 1, 10_000, 500)?,
-        tries: number_at(section, "tries", 1, 10_000_000, 100_000)?,
-        level: level_of(section)?,
-    })
-}
-
-fn put_word(alloc: Global, word: &str, words: &mut Vec<String>) -> Result<(), Starved> {
-    words.push(word.to_string(alloc)?)?;
-    Ok(())
+/// The first two lines of a report: the options that the case has, and the usual ones for those that it leaves out.
+fn put_front(section: &Section<'_>, out: &mut Text, desk: &mut Desk) {
+    let cycles = number_at(section, "cycles", 1, 1_000_000, 1000, desk);
+    let lead = number_at(section, "lead", 1, 1000, 8, desk);
+    let depth = number_at(section, "depth", 1, 10_000, 500, desk);
+    let tries = number_at(section, "tries", 1, 10_000_000, 100_000, desk);
+    desk.put_named("jasonrun 1\ncycles ", cycles, out);
+    desk.put_named(" lead ", lead, out);
+    desk.put_named(" depth ", depth, out);
+    desk.put_named(" tries ", tries, out);
+    desk.put(b" level ", out);
+    let level = level_of(section, desk);
+    desk.put(level, out);
+    desk.put(b"\n", out);
 }
 
 /// The word of these bytes.
-fn put_bytes(alloc: Global, line: u64, bytes: &[u8], words: &mut Vec<String>) -> Result<(), Fault> {
+fn put_bytes(line: u64, bytes: &[u8], words: &mut Vec<String>, desk: &mut Desk) {
     match std::str::from_utf8(bytes) {
-        Ok(word) => put_word(alloc, word, words)?,
-        Err(_) => return Err(fault_at(line, "a word is no text")),
+        Ok(word) => desk.put_word(word, words),
+        Err(_) => desk.refuse(line, "a word is no text"),
     }
-    Ok(())
 }
 
 fn without_feed(line: &[u8]) -> &[u8] {
     line.split(is_feed).next().unwrap_or(line)
 }
 
-/// Whether the case has a world.
-fn has_world(section: &Section<'_>) -> bool {
-    has_word(section.body, b"world")
-}
-
 /// The name of the project that is run where none is named.
 fn usual_project(section: &Section<'_>) -> &'static str {
-    if has_world(section) {
+    if has_word(section.body, b"world") {
         PROJECT_NAME
     } else {
         SOURCE_NAME
@@ -103,18 +92,16 @@ fn usual_project(section: &Section<'_>) -> &'static str {
 }
 
 /// The words of the command line: the lines under `words`, or the usual ones.
-fn words_into(alloc: Global, section: &Section<'_>, words: &mut Vec<String>) -> Result<(), Fault> {
+fn words_into(section: &Section<'_>, words: &mut Vec<String>, desk: &mut Desk) {
     let Some(entry) = find(section, "words") else {
-        put_word(alloc, "run", words)?;
-        put_word(alloc, usual_project(section), words)?;
-        return Ok(());
+        desk.put_word("run", words);
+        return desk.put_word(usual_project(section), words);
     };
-    let mut text = Seq::new(alloc);
-    lines_into(&entry, &mut text)?;
+    let mut text = Seq::new(desk.alloc);
+    lines_into(&entry, &mut text, desk);
     for line in text.as_slice().split_inclusive(is_feed) {
-        put_bytes(alloc, entry.number, without_feed(line), words)?;
+        put_bytes(entry.number, without_feed(line), words, desk);
     }
-    Ok(())
 }
 
 fn is_of_project(section: &Section<'_>) -> bool {
@@ -127,235 +114,181 @@ fn is_of_project(section: &Section<'_>) -> bool {
 }
 
 /// The word of a project: what stands under `project`, or the usual name.
-fn project_into(
-    alloc: Global,
-    section: &Section<'_>,
-    words: &mut Vec<String>,
-) -> Result<(), Fault> {
-    let mut name = Seq::new(alloc);
-    if find(section, "project").is_none() {
-        name.append(usual_project(section).as_bytes())?;
+fn project_into(section: &Section<'_>, words: &mut Vec<String>, desk: &mut Desk) {
+    let mut name = Seq::new(desk.alloc);
+    match find(section, "project") {
+        Some(entry) => text_into(&entry, &mut name, desk),
+        None => desk.put(usual_project(section).as_bytes(), &mut name),
     }
-    text_at(section, "project", &mut name)?;
-    put_bytes(alloc, section.number, name.as_slice(), words)
+    put_bytes(section.number, name.as_slice(), words, desk);
 }
 
 /// The words of a run of a project, or of its replay where there is a schedule, with the options that the case has. One worker
 /// makes the run, where the case does not tell how many.
-fn project_words_into(
-    alloc: Global,
-    section: &Section<'_>,
-    words: &mut Vec<String>,
-) -> Result<(), Fault> {
+fn project_words_into(section: &Section<'_>, words: &mut Vec<String>, desk: &mut Desk) {
     let replays = has_word(section.body, b"schedule");
-    put_word(alloc, if replays { "replay" } else { "run" }, words)?;
-    project_into(alloc, section, words)?;
+    desk.put_word(if replays { "replay" } else { "run" }, words);
+    project_into(section, words, desk);
     if replays {
-        put_word(alloc, SCHEDULE_NAME, words)?;
+        desk.put_word(SCHEDULE_NAME, words);
     }
     for (key, option) in &OPTIONS {
         if let Some(entry) = find(section, *key) {
-            put_word(alloc, *option, words)?;
-            put_bytes(alloc, entry.number, entry.rest, words)?;
+            desk.put_word(*option, words);
+            put_bytes(entry.number, entry.rest, words, desk);
         }
     }
     if !replays && find(section, "workers").is_none() {
-        put_word(alloc, "--workers", words)?;
-        put_word(alloc, "1", words)?;
+        desk.put_word("--workers", words);
+        desk.put_word("1", words);
     }
-    Ok(())
 }
 
 /// The words that are called.
-fn ask_into(alloc: Global, section: &Section<'_>, words: &mut Vec<String>) -> Result<(), Fault> {
-    if !is_of_project(section) {
-        return words_into(alloc, section, words);
+fn ask_into(section: &Section<'_>, words: &mut Vec<String>, desk: &mut Desk) {
+    match find(section, "words") {
+        _ if !is_of_project(section) => words_into(section, words, desk),
+        Some(entry) => desk.refuse(entry.number, "words stand beside project or options"),
+        None => project_words_into(section, words, desk),
     }
-    if let Some(entry) = find(section, "words") {
-        return Err(fault_at(entry.number, "words stand beside project or options"));
-    }
-    project_words_into(alloc, section, words)
 }
 
 /// The numbers of workers, which no replay has.
-fn workers_into(section: &Section<'_>, workers: &mut Numbers) -> Result<(), Fault> {
+fn workers_into(section: &Section<'_>, workers: &mut Numbers, desk: &mut Desk) {
     match (find(section, "workers"), find(section, "schedule")) {
-        (Some(entry), Some(_)) => Err(fault_at(entry.number, "workers stand beside a schedule")),
-        _ => numbers_into(section, "workers", 64, workers),
+        (Some(entry), Some(_)) => desk.refuse(entry.number, "workers stand beside a schedule"),
+        _ => numbers_into(section, "workers", 64, workers, desk),
     }
-}
-
-/// What a file holds that has a name of its own, and this name.
-fn file_into<'a>(entry: &Entry<'a>, bytes: &mut Text) -> Result<&'a [u8], Fault> {
-    if entry.rest.is_empty() {
-        return Err(fault_at(entry.number, "a file has no name"));
-    }
-    put_pieces(entry.pieces, bytes)?;
-    Ok(entry.rest)
-}
-
-fn put_file(alloc: Global, entry: &Entry<'_>, files: &mut Files) -> Result<(), Fault> {
-    let mut bytes = Seq::new(alloc);
-    let name = file_into(entry, &mut bytes)?;
-    let name = text_of(alloc, name)?;
-    files.push(Filed { name, bytes })?;
-    Ok(())
 }
 
 /// A file of a usual name.
-fn put_usual(alloc: Global, name: &str, entry: &Entry<'_>, files: &mut Files) -> Result<(), Fault> {
-    let mut bytes = Seq::new(alloc);
-    text_into(entry, &mut bytes)?;
-    let name = text_of(alloc, name.as_bytes())?;
-    files.push(Filed { name, bytes })?;
-    Ok(())
+fn put_usual(name: &str, entry: &Entry<'_>, files: &mut Files, desk: &mut Desk) {
+    let mut bytes = Seq::new(desk.alloc);
+    text_into(entry, &mut bytes, desk);
+    desk.put_file(name.as_bytes(), bytes, files);
+}
+
+/// A file of the name behind its key.
+fn put_named_file(entry: &Entry<'_>, files: &mut Files, desk: &mut Desk) {
+    if entry.rest.is_empty() {
+        desk.refuse(entry.number, "a file has no name");
+    }
+    let mut bytes = Seq::new(desk.alloc);
+    put_pieces(entry.pieces, &mut bytes, desk);
+    desk.put_file(entry.rest, bytes, files);
 }
 
 /// The project of a world, and the world.
-fn put_world(alloc: Global, entry: &Entry<'_>, files: &mut Files) -> Result<(), Fault> {
-    let name = text_of(alloc, PROJECT_NAME.as_bytes())?;
-    let bytes = text_of(alloc, PROJECT_TEXT.as_bytes())?;
-    files.push(Filed { name, bytes })?;
-    put_usual(alloc, WORLD_NAME, entry, files)
+fn put_world(entry: &Entry<'_>, files: &mut Files, desk: &mut Desk) {
+    let mut project = Seq::new(desk.alloc);
+    desk.put(PROJECT_TEXT.as_bytes(), &mut project);
+    desk.put_file(PROJECT_NAME.as_bytes(), project, files);
+    put_usual(WORLD_NAME, entry, files, desk);
 }
 
 /// The files of the shelf in the order in which they stand.
-fn files_into(alloc: Global, section: &Section<'_>, files: &mut Files) -> Result<(), Fault> {
+fn files_into(section: &Section<'_>, files: &mut Files, desk: &mut Desk) {
     let lines = section.body;
     for at in 0..lines.len() {
+        let entry = entry_at(lines, at);
         if lines[at].word == b"source".as_slice() {
-            put_usual(alloc, SOURCE_NAME, &entry_at(lines, at), files)?;
+            put_usual(SOURCE_NAME, &entry, files, desk);
         } else if lines[at].word == b"schedule".as_slice() {
-            put_usual(alloc, SCHEDULE_NAME, &entry_at(lines, at), files)?;
+            put_usual(SCHEDULE_NAME, &entry, files, desk);
         } else if lines[at].word == b"world".as_slice() {
-            put_world(alloc, &entry_at(lines, at), files)?;
+            put_world(&entry, files, desk);
         } else if lines[at].word == b"file".as_slice() {
-            put_file(alloc, &entry_at(lines, at), files)?;
+            put_named_file(&entry, files, desk);
         }
     }
-    Ok(())
 }
 
-fn put_level(level: &Level, out: &mut Text) -> Result<(), Starved> {
-    match level {
-        Level::Say => out.append(b" level say\n"),
-        Level::Acts => out.append(b" level acts\n"),
-        Level::Rules => out.append(b" level rules\n"),
-    }
-}
-
-/// The first two lines of a report.
-fn put_front(alloc: Global, o: &Options, out: &mut Text) -> Result<(), Starved> {
-    put_named(alloc, "jasonrun 1\ncycles ", o.cycles, out)?;
-    put_named(alloc, " lead ", o.lead, out)?;
-    put_named(alloc, " depth ", o.depth, out)?;
-    put_named(alloc, " tries ", o.tries, out)?;
-    put_level(&o.level, out)
-}
-
-/// The facts of the world at the end, where there are some.
-fn put_facts(section: &Section<'_>, out: &mut Text) -> Result<(), Fault> {
-    out.append(b"world\n")?;
+/// The last lines of the report of one agent that has so many turns: the facts of the world at the end, where there are some,
+/// and the schedule.
+fn put_end(section: &Section<'_>, turns: u64, out: &mut Text, desk: &mut Desk) {
+    desk.put(b"world\n", out);
     if let Some(entry) = find(section, "facts") {
-        lines_into(&entry, out)?;
+        lines_into(&entry, out, desk);
     }
-    Ok(())
-}
-
-/// The last lines of the report of one agent that has so many turns.
-fn put_end(alloc: Global, turns: u64, out: &mut Text) -> Result<(), Starved> {
-    put_named(alloc, "mail\nschedule ", turns, out)?;
-    out.append(b"\n1")?;
+    desk.put_named("mail\nschedule ", turns, out);
+    desk.put(b"\n1", out);
     for _ in 1..turns {
-        out.append(b" 1")?;
+        desk.put(b" 1", out);
     }
-    out.push(b'\n')
+    desk.put(b"\n", out);
 }
 
 /// The lines under `trace`, as a whole report where its turns are told.
-fn trace_into(
-    alloc: Global,
-    section: &Section<'_>,
-    trace: &Entry<'_>,
-    o: &Options,
-    out: &mut Text,
-) -> Result<Mode, Fault> {
+fn trace_into(section: &Section<'_>, trace: &Entry<'_>, out: &mut Text, desk: &mut Desk) -> Mode {
     let Some(entry) = find(section, "turns") else {
-        lines_into(trace, out)?;
-        return Ok(Mode::Agents);
+        lines_into(trace, out, desk);
+        return Mode::Agents;
     };
-    let turns = number(entry.number, entry.rest, 1, 5_000_000)?;
-    put_front(alloc, o, out)?;
-    lines_into(trace, out)?;
-    put_facts(section, out)?;
-    put_end(alloc, turns, out)?;
-    Ok(Mode::Whole)
+    let turns = number(entry.number, entry.rest, 1, 5_000_000, desk);
+    put_front(section, out, desk);
+    lines_into(trace, out, desk);
+    put_end(section, turns, out, desk);
+    Mode::Whole
 }
 
 /// The lines under `has`, of which there is one.
-fn has_into(has: &Entry<'_>, out: &mut Text) -> Result<Mode, Fault> {
-    lines_into(has, out)?;
+fn has_into(has: &Entry<'_>, out: &mut Text, desk: &mut Desk) -> Mode {
+    lines_into(has, out, desk);
     if out.len() == 0 {
-        return Err(fault_at(has.number, "no line stands behind this one"));
+        desk.refuse(has.number, "no line stands behind this one");
     }
-    Ok(Mode::InOrder)
+    Mode::InOrder
 }
 
-fn full_output(
-    alloc: Global,
-    section: &Section<'_>,
-    o: &Options,
-    out: &mut Text,
-) -> Result<Mode, Fault> {
+/// What is wanted of the output, as far as it is written whole.
+fn full_output(section: &Section<'_>, out: &mut Text, desk: &mut Desk) -> Mode {
     match (
         find(section, "trace"),
         find(section, "has"),
         find(section, "output"),
     ) {
-        (Some(trace), None, None) => trace_into(alloc, section, &trace, o, out),
-        (None, Some(has), None) => has_into(&has, out),
+        (Some(trace), None, None) => trace_into(section, &trace, out, desk),
+        (None, Some(has), None) => has_into(&has, out, desk),
         (None, None, Some(output)) => {
-            text_into(&output, out)?;
-            Ok(Mode::Whole)
+            text_into(&output, out, desk);
+            Mode::Whole
         }
-        (None, None, None) => Ok(Mode::Whole),
-        _ => Err(fault_at(
-            section.number,
-            "it has more than one of trace, has and output",
-        )),
+        (None, None, None) => Mode::Whole,
+        _ => {
+            desk.refuse(
+                section.number,
+                "it has more than one of trace, has and output",
+            );
+            Mode::Whole
+        }
     }
 }
 
 /// Turns stand with a trace, and facts with turns.
-fn check_trace(section: &Section<'_>) -> Result<(), Fault> {
-    let turns = find(section, "turns");
-    if let Some(turns) = turns {
-        if find(section, "trace").is_none() {
-            return Err(fault_at(turns.number, "turns stand without trace"));
-        }
-    }
-    match (find(section, "facts"), turns) {
-        (Some(facts), None) => Err(fault_at(facts.number, "facts stand without turns")),
-        _ => Ok(()),
+fn check_trace(section: &Section<'_>, desk: &mut Desk) {
+    match (
+        find(section, "trace"),
+        find(section, "turns"),
+        find(section, "facts"),
+    ) {
+        (None, Some(turns), _) => desk.refuse(turns.number, "turns stand without trace"),
+        (_, None, Some(facts)) => desk.refuse(facts.number, "facts stand without turns"),
+        _ => {}
     }
 }
 
 /// The output, cut where `wrote` tells how many of its bytes were written.
-fn output_into(
-    alloc: Global,
-    section: &Section<'_>,
-    o: &Options,
-    out: &mut Text,
-) -> Result<Mode, Fault> {
-    let mode = full_output(alloc, section, o, out)?;
-    check_trace(section)?;
-    if let Some(wrote) = find(section, "wrote") {
-        let Mode::Whole = mode else {
-            return Err(fault_at(wrote.number, "wrote stands without a whole output"));
-        };
-        out.truncate(number(wrote.number, wrote.rest, 0, out.len())?);
+fn output_into(section: &Section<'_>, out: &mut Text, desk: &mut Desk) -> Mode {
+    let mode = full_output(section, out, desk);
+    check_trace(section, desk);
+    match (find(section, "wrote"), mode) {
+        (None, _) => {}
+        (Some(wrote), Mode::Whole) => {
+            out.truncate(number(wrote.number, wrote.rest, 0, out.len(), desk));
+        }
+        (Some(wrote), _) => desk.refuse(wrote.number, "wrote stands without a whole output"),
     }
-    Ok(mode)
+    mode
 }
 
 /// Ends a fault line, where there is one.
@@ -369,96 +302,102 @@ fn end_line(fault: &mut Text) -> Result<(), Starved>
     fault.push(b'\n')
 }
 
-fn place_of(entry: &Entry<'_>) -> Result<Place, Fault> {
+/// The place at which the call has to differ first, if any.
+fn differs_of(section: &Section<'_>, desk: &mut Desk) -> Option<Place> {
+    let entry = find(section, "differs")?;
+    let named = line_of(entry.number, entry.rest);
     if entry.rest == b"status".as_slice() {
-        return Ok(Place::Status);
+        return Some(Place::Status);
     }
     if entry.rest == b"fault".as_slice() {
-        return Ok(Place::Fault);
+        return Some(Place::Fault);
     }
-    let named = line_of(entry.number, entry.rest);
     if named.word == b"line".as_slice() {
-        return Ok(Place::Line(number(entry.number, named.rest, 1, 1_000_000_000)?));
+        return Some(Place::Line(number(entry.number, named.rest, 1, 1_000_000_000, desk)));
     }
     if named.word == b"has".as_slice() {
-        return Ok(Place::InOrder(number(entry.number, named.rest, 1, 1_000_000_000)?));
+        return Some(Place::InOrder(number(entry.number, named.rest, 1, 1_000_000_000, desk)));
     }
-    Err(fault_at(entry.number, "unknown place"))
+    desk.refuse(entry.number, "unknown place");
+    None
 }
 
-/// The place at which the call has to differ first, if any.
-fn differs_of(section: &Section<'_>) -> Result<Option<Place>, Fault> {
-    match find(section, "differs") {
-        None => Ok(None),
-        Some(entry) => Ok(Some(place_of(&entry)?)),
-    }
+/// Refuses options outside their limits, also where no report is wanted that tells them.
+fn check_options(section: &Section<'_>, desk: &mut Desk) {
+    let mut front = Seq::new(desk.alloc);
+    put_front(section, &mut front, desk);
 }
 
 /// Reads a case.
 pub fn read_case(
-    alloc: Global,
     section: &Section<'_>,
     given: &mut Given,
     wanted: &mut Wanted,
-) -> Result<Plain, Fault> {
-    check_case(section)?;
-    let options = options_of(section)?;
-    files_into(alloc, section, &mut given.files)?;
-    numbers_into(section, "shelf_fails", 1_000_000, &mut given.shelf_fails)?;
-    numbers_into(section, "sink_fails", 1_000_000, &mut given.sink_fails)?;
-    ask_into(alloc, section, &mut given.words)?;
-    workers_into(section, &mut given.workers)?;
-    text_at(section, "fault", &mut wanted.fault)?;
-    end_line(&mut wanted.fault)?;
-    Ok(Plain {
-        short: number_at(section, "short", 1, 1_000_000, 1_000_000)?,
-        room: number_at(section, "room", 0, 10_000_000, 100_000)?,
-        status: number_at(section, "status", 0, 255, 0)?,
-        mode: output_into(alloc, section, &options, &mut wanted.output)?,
-        differs: differs_of(section)?,
-    })
+    desk: &mut Desk,
+) -> Plain {
+    check_section(section, desk);
+    check_options(section, desk);
+    files_into(section, &mut given.files, desk);
+    numbers_into(
+        section,
+        "shelf_fails",
+        1_000_000,
+        &mut given.shelf_fails,
+        desk,
+    );
+    numbers_into(
+        section,
+        "sink_fails",
+        1_000_000,
+        &mut given.sink_fails,
+        desk,
+    );
+    ask_into(section, &mut given.words, desk);
+    workers_into(section, &mut given.workers, desk);
+    text_at(section, "fault", &mut wanted.fault, desk);
+    desk.check(end_line(&mut wanted.fault));
+    Plain {
+        short: number_at(section, "short", 1, 1_000_000, 1_000_000, desk),
+        room: number_at(section, "room", 0, 10_000_000, 100_000, desk),
+        status: number_at(section, "status", 0, 255, 0, desk),
+        mode: output_into(section, &mut wanted.output, desk),
+        differs: differs_of(section, desk),
+    }
 }
 
 /// Reads the text of a file that has to be refused, and the message.
-pub fn read_refused(
-    section: &Section<'_>,
-    file: &mut Text,
-    message: &mut Text,
-) -> Result<(), Fault> {
-    check_refused(section)?;
+pub fn read_refused(section: &Section<'_>, file: &mut Text, message: &mut Text, desk: &mut Desk) {
+    check_section(section, desk);
     if find(section, "text").is_none() || find(section, "message").is_none() {
-        return Err(fault_at(section.number, "it has no text or no message"));
+        desk.refuse(section.number, "it has no text or no message");
     }
-    text_at(section, "text", file)?;
-    text_at(section, "message", message)
+    text_at(section, "text", file, desk);
+    text_at(section, "message", message, desk);
 }
 
-fn check_section(alloc: Global, section: &Section<'_>) -> Result<(), Fault> {
+fn read_section(section: &Section<'_>, desk: &mut Desk) {
     if section.is_case {
-        let (mut given, mut wanted) = (Given::new(alloc), Wanted::new(alloc));
-        read_case(alloc, section, &mut given, &mut wanted)?;
-        return Ok(());
+        let (mut given, mut wanted) = (Given::new(desk.alloc), Wanted::new(desk.alloc));
+        read_case(section, &mut given, &mut wanted, desk);
+    } else {
+        let (mut file, mut message) = (Seq::new(desk.alloc), Seq::new(desk.alloc));
+        read_refused(section, &mut file, &mut message, desk);
     }
-    let (mut file, mut message) = (Seq::new(alloc), Seq::new(alloc));
-    read_refused(section, &mut file, &mut message)
 }
 
 /// The first fault of a file, if any.
-pub fn check_file(alloc: Global, lines: &[Line<'_>]) -> Result<(), Fault> {
-    let Some(first) = lines.first() else {
-        return Err(Fault {
-            line: 0,
-            what: "no case",
-        });
-    };
-    if !is_head(first) {
-        return Err(fault_at(first.number, "no case stands before it"));
+pub fn fault_of(alloc: Global, lines: &[Line<'_>]) -> Option<Fault> {
+    let mut desk = Desk::new(alloc);
+    match lines.first() {
+        None => desk.refuse(0, "no case"),
+        Some(first) if !is_head(first) => desk.refuse(first.number, "no case stands before it"),
+        Some(_) => {}
     }
     for at in 0..lines.len() {
         if is_head(&lines[at]) {
-            check_name(&lines[..at], &lines[at])?;
-            check_section(alloc, &section_at(&*lines, at))?;
+            check_name(&lines[..at], &lines[at], &mut desk);
+            read_section(&section_at(&*lines, at), &mut desk);
         }
     }
-    Ok(())
+    desk.fault
 }

@@ -1,60 +1,61 @@
 //! The lines that tell why a case failed.
 
 use crate::comparing::Difference;
-use crate::form::{Fault, Place, Plain};
-use crate::values::put_named;
-use asl_term::sequence::Starved;
+use crate::form::{Desk, Fault, Place, Plain};
 use asl_term::syntax::Text;
-use std::alloc::Global;
 
 /// Why a file can't be read, with its line where it has one.
-pub fn put_fault(alloc: Global, fault: &Fault, out: &mut Text) -> Result<(), Starved> {
+pub fn put_fault(fault: &Fault, out: &mut Text, desk: &mut Desk) {
     if fault.line > 0 {
-        put_named(alloc, "line ", fault.line, out)?;
-        out.append(b": ")?;
+        desk.put_named("line ", fault.line, out);
+        desk.put(b": ", out);
     }
-    out.append(fault.what.as_bytes())
+    desk.put(fault.what.as_bytes(), out);
 }
 
-pub fn put_place(alloc: Global, place: &Place, out: &mut Text) -> Result<(), Starved> {
+fn put_place(place: &Place, out: &mut Text, desk: &mut Desk) {
     match place {
-        Place::Status => out.append(b"status"),
-        Place::Fault => out.append(b"fault"),
-        Place::Line(number) => put_named(alloc, "line ", *number, out),
-        Place::InOrder(number) => put_named(alloc, "has ", *number, out),
+        Place::Status => desk.put(b"status", out),
+        Place::Fault => desk.put(b"fault", out),
+        Place::Line(number) => desk.put_named("line ", *number, out),
+        Place::InOrder(number) => desk.put_named("has ", *number, out),
     }
 }
 
-/// The bytes in quotes, as far as they are a text.
-fn put_quoted(alloc: Global, bytes: &[u8], out: &mut Text) -> Result<(), Starved> {
+/// A word, and the bytes in quotes, as far as they are a text.
+fn put_quoted(word: &[u8], bytes: &[u8], out: &mut Text, desk: &mut Desk) {
+    desk.put(word, out);
     let Ok(text) = std::str::from_utf8(bytes) else {
-        return out.append(b"bytes that are no text");
+        return desk.put(b"bytes that are no text", out);
     };
-    match format!(in alloc; "{text:?}") {
-        Ok(quoted) => out.append(quoted.as_bytes()),
-        Err(_) => Err(Starved),
+    match format!(in desk.alloc; "{text:?}") {
+        Ok(quoted) => desk.put(quoted.as_bytes(), out),
+        Err(_) => desk.refuse(0, "memory"),
     }
 }
 
-fn put_texts(alloc: Global, difference: &Difference<'_>, out: &mut Text) -> Result<(), Starved> {
-    out.append(b": wanted ")?;
-    put_quoted(alloc, difference.wanted, out)?;
-    out.append(b", got ")?;
-    put_quoted(alloc, difference.got, out)
-}
-
-/// The place that differs, with what was wanted there and what came.
-pub fn put_difference(
-    alloc: Global,
+/// Why a case has not passed: the place that differs, with what was wanted there and what came, or that nothing does.
+pub fn put_reason(
     plain: &Plain,
     code: u64,
-    difference: &Difference<'_>,
+    found: &Option<Difference<'_>>,
     out: &mut Text,
-) -> Result<(), Starved> {
-    put_place(alloc, &difference.place, out)?;
-    if let Place::Status = difference.place {
-        put_named(alloc, ": wanted ", plain.status, out)?;
-        return put_named(alloc, ", got ", code, out);
+    desk: &mut Desk,
+) {
+    match (found, &plain.differs) {
+        (Some(difference), _) => {
+            put_place(&difference.place, out, desk);
+            if let Place::Status = difference.place {
+                desk.put_named(": wanted ", plain.status, out);
+                return desk.put_named(", got ", code, out);
+            }
+            put_quoted(b": wanted ", difference.wanted, out, desk);
+            put_quoted(b", got ", difference.got, out, desk);
+        }
+        (None, Some(place)) => {
+            desk.put(b"does not differ at ", out);
+            put_place(place, out, desk);
+        }
+        (None, None) => {}
     }
-    put_texts(alloc, difference, out)
 }

@@ -42,13 +42,14 @@ use Rattle.env_file.specs.declared.statement.Statement.TheVariants as statement
 use Rattle.env_file.specs.Statements.{is_variable, States, a_fact, a_hide, a_use, an_act, Says}
 use Rattle.env_file.specs.Guards.{said_parts}
 use Rattle.env_file.specs.Binding.{unbound}
-use Rattle.env_file.specs.Worlds.{same_literal, with_fact, with_use, has_name, bound_made, made, nothing, Answers, all_read, is_read, IsWorld}
-use Rattle.env_file.proofs.Facts.{literal_apart}
+use Rattle.mas_world.specs.Facts.{same_fact}
+use Rattle.mas_world.proofs.Sound.{fact_equiv}
+use Rattle.env_file.specs.Worlds.{with_fact, with_use, has_name, bound_made, made, nothing, Answers, all_read, is_read, IsWorld}
 
 -- no two are the same
 abbrev pub are_once : List (LiteralOf Term) → Bool
 are_once [] = true
-are_once (l ∷ ls) = (if list_any (same_literal l) ls then false else true) && are_once ls
+are_once (l ∷ ls) = (if list_any (same_fact l) ls then false else true) && are_once ls
 
 -- what the facts that are read are
 pub record AreRead (facts : List (LiteralOf Term)) : Type 0 where
@@ -245,20 +246,20 @@ any_last : (p : LiteralOf Term → Bool) (ls : List (LiteralOf Term)) (l : Liter
 any_last p [] l e = ap (λ (b : Bool). b || false) e
 any_last p (m ∷ ls) l e = ap (λ (b : Bool). p m || b) (any_last p ls l e)
 
-once_last : (ls : List (LiteralOf Term)) (l : LiteralOf Term) → are_once ls ≡ true → list_any (same_literal l) ls ≡ false → are_once (ls ++ l ∷ []) ≡ true
+once_last : (ls : List (LiteralOf Term)) (l : LiteralOf Term) → are_once ls ≡ true → list_any (same_fact l) ls ≡ false → are_once (ls ++ l ∷ []) ≡ true
 once_last [] l h e = refl
-once_last (m ∷ ls) l h e = go (same_literal l m) refl (list_any (same_literal m) ls) refl e h (λ k f. once_last ls l k f)
+once_last (m ∷ ls) l h e = go (same_fact l m) refl (list_any (same_fact m) ls) refl e h (λ k f. once_last ls l k f)
   where
-    go : (b : Bool) → same_literal l m ≡ b → (c : Bool) → list_any (same_literal m) ls ≡ c → (b || list_any (same_literal l) ls) ≡ false → (opposite c && are_once ls) ≡ true
-        → (are_once ls ≡ true → list_any (same_literal l) ls ≡ false → are_once (ls ++ l ∷ []) ≡ true) → (opposite (list_any (same_literal m) (ls ++ l ∷ [])) && are_once (ls ++ l ∷ [])) ≡ true
+    go : (b : Bool) → same_fact l m ≡ b → (c : Bool) → list_any (same_fact m) ls ≡ c → (b || list_any (same_fact l) ls) ≡ false → (opposite c && are_once ls) ≡ true
+        → (are_once ls ≡ true → list_any (same_fact l) ls ≡ false → are_once (ls ++ l ∷ []) ≡ true) → (opposite (list_any (same_fact m) (ls ++ l ∷ [])) && are_once (ls ++ l ∷ [])) ≡ true
     go true f c g e h again = absurd cc
     go false f true g e h again = absurd cc
-    go false f false g e h again = both_hold (ap opposite (any_last (same_literal m) ls l (literal_apart l m f) ∙ g)) (again h e)
+    go false f false g e h again = both_hold (ap opposite (any_last (same_fact m) ls l (fact_equiv.symm m l ∙ f) ∙ g)) (again h e)
 
 fact_kept : (ls : List (LiteralOf Term)) (l : LiteralOf Term) → AreRead ls → IsGood (statement.Fact l) → AreRead (with_fact ls l)
-fact_kept ls l h g = go (list_any (same_literal l) ls) refl
+fact_kept ls l h g = go (list_any (same_fact l) ls) refl
   where
-    go : (b : Bool) → list_any (same_literal l) ls ≡ b → AreRead (cond b ls (ls ++ l ∷ []))
+    go : (b : Bool) → list_any (same_fact l) ls ≡ b → AreRead (cond b ls (ls ++ l ∷ []))
     go true e = h
     go false e = record { ground = all_last is_ground_literal ls l h.ground g.0; plain = all_last is_plain_literal ls l h.plain g.1; once = once_last ls l h.once e }
 

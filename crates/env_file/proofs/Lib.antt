@@ -9,7 +9,7 @@ pub mod Answered
 pub mod Single
 pub mod Total
 pub mod Lists
-pub mod Facts
+pub mod Naming
 pub mod Ground
 pub mod Bare
 pub mod Opened

@@ -22,7 +22,7 @@ use Rattle.env_file.specs.declared.statement.Statement.{Statement}
 use Rattle.env_file.specs.declared.statement.Statement.TheVariants as statement
 use Rattle.env_file.specs.Guards.{said_parts}
 use Rattle.env_file.specs.Binding.{unbound}
-use Rattle.env_file.specs.Worlds.{same_literal, has_name, with_use, bound_made, made, Answers, all_read, is_read, IsWorld}
+use Rattle.env_file.specs.Worlds.{has_name, with_use, bound_made, made, Answers, all_read, is_read, IsWorld}
 use Rattle.env_file.proofs.Ground.{are_once, AreRead, read_facts}
 
 -- ---- without arithmetic
@@ -62,11 +62,11 @@ none_of p (l ∷ ls) e = first (p l) refl e (none_of p ls)
 distinct : (ls : List (LiteralOf Term)) → are_once ls ≡ true → IsDistinct same_fact ls
 unfolding IsDistinct
 distinct [] e = tt
-distinct (l ∷ ls) e = apart (list_any (same_literal l) ls) refl e (distinct ls)
+distinct (l ∷ ls) e = apart (list_any (same_fact l) ls) refl e (distinct ls)
   where
-    apart : (b : Bool) → list_any (same_literal l) ls ≡ b → ((if b then false else true) && are_once ls) ≡ true → (are_once ls ≡ true → IsDistinct same_fact ls)
+    apart : (b : Bool) → list_any (same_fact l) ls ≡ b → ((if b then false else true) && are_once ls) ≡ true → (are_once ls ≡ true → IsDistinct same_fact ls)
         → AllByRecursion (λ y. same_fact l y ≡ false) ls × IsDistinct same_fact ls
-    apart false f e h = (none_of (same_literal l) ls f, h e)
+    apart false f e h = (none_of (same_fact l) ls f, h e)
     apart true f e h = absurd cc
 
 pub good_facts : (artifacts : List (List ℕ)) (bytes : List ℕ) (text : WorldText) → IsWorld artifacts bytes text → AreFacts text.facts

@@ -8,8 +8,6 @@ use Rattle.asl_lexer.specs.Words.{pieces, is_end}
 use Rattle.asl_lexer.specs.Lexing.{AreTokens, IsFirstFault}
 use Rattle.asl_term.specs.declared.syntax.LiteralOf.{LiteralOf}
 use Rattle.asl_term.specs.declared.syntax.Term.{Term}
-use Rattle.asl_term.specs.declared.syntax.Term.TheVariants as term
-use Rattle.asl_term.specs.Same.{same_tree}
 use Rattle.asl_term.specs.Names.{with_name}
 use Rattle.asl_term.specs.Exprs.{is_ground_literal}
 use Rattle.asl_meaning.specs.Plain.{is_plain_literal}
@@ -17,6 +15,7 @@ use Rattle.asl_meaning.specs.Lexemes.{lexemes}
 use Rattle.asl_meaning.specs.Limits.{too_deep}
 use Rattle.mas_world.specs.declared.acts.Act.{Act}
 use Rattle.mas_world.specs.declared.acts.WorldText.{WorldText}
+use Rattle.mas_world.specs.Facts.{is_fact}
 use Rattle.env_file.specs.declared.fault.WorldFault.{WorldFault}
 use Rattle.env_file.specs.declared.fault.WorldFault.TheVariants.{Memory, Lex, Clause, Limit, Unbound, UnknownArtifact}
 use Rattle.env_file.specs.declared.statement.Part.{Part}
@@ -31,12 +30,9 @@ use Rattle.env_file.specs.Binding.{unbound}
 
 -- ---- what is said
 
-abbrev pub same_literal : LiteralOf Term → LiteralOf Term → Bool
-same_literal l m = same_tree (term.Lit l) (term.Lit m)
-
 -- a fact goes last, unless it is there
 abbrev pub with_fact : List (LiteralOf Term) → LiteralOf Term → List (LiteralOf Term)
-with_fact facts l = if list_any (same_literal l) facts then facts else facts ++ l ∷ []
+with_fact facts l = if is_fact facts l then facts else facts ++ l ∷ []
 
 -- what is added, or taken away, in order
 abbrev pub changes : Bool → List Effect → List (LiteralOf Term)

@@ -1,7 +1,6 @@
 //! What a statement makes of the world of those before it.
 
 ghost use Rattle.std.specs.Prelude.{◌≡◌, IfOk, OnOk, Err};
-ghost use Rattle.std.specs.List.{list_any};
 ghost use Rattle.asl_term.specs.Names.{with_name};
 ghost use Rattle.env_file.specs.declared.fault.WorldFault.TheVariants.{Clause, UnknownArtifact};
 ghost use Rattle.env_file.specs.Answering.{Makes, Told};
@@ -13,32 +12,13 @@ use crate::fault::WorldFault;
 use crate::guards::{exprs_of, said_parts};
 use crate::statement::{Effect, Part, Statement, WrittenAct};
 use asl_lexer::token::Tok;
-use asl_term::compare_expr::equal_literal;
 use asl_term::copying::{copy, copy_literal, copy_text};
 use asl_term::names::{Names, find, number};
 use asl_term::sequence::{Seq, Starved};
 use asl_term::syntax::{Literal, Literals, Text};
 use mas_world::acts::{Act, WorldText};
+use mas_world::facts::is_fact;
 use std::alloc::Global;
-
-fn is_same(a: &Literal, b: &Literal) -> bool
-    ensures { result ≡ spec.same_literal a.now b.now }
-{
-    equal_literal(a, b)
-}
-
-fn is_fact(facts: &[Literal], l: &Literal) -> bool
-    ensures { result ≡ list_any (spec.same_literal l.now) facts.now }
-{
-    let mut rest = facts;
-    'facts: while let Some((m, after)) = rest.split_first() {
-        if is_same(l, m) {
-            return true;
-        }
-        rest = after;
-    }
-    false
-}
 
 /// A repeated fact is kept once.
 fn put_fact(alloc: Global, text: &mut WorldText, l: &Literal) -> Result<(), Starved>
@@ -50,7 +30,7 @@ fn put_fact(alloc: Global, text: &mut WorldText, l: &Literal) -> Result<(), Star
     text.facts.push(copy_literal(alloc, l)?)
 }
 
-#[tactic(auto, using(crate::proofs::Facts::has_some, crate::proofs::Facts::has_none))]
+#[tactic(auto, using(crate::proofs::Naming::has_some, crate::proofs::Naming::has_none))]
 fn has_name(names: &Names, name: &Text) -> bool
     ensures { result ≡ spec.has_name names.now name.now }
 {
@@ -60,8 +40,8 @@ fn has_name(names: &Names, name: &Text) -> bool
     }
 }
 
-/// The name goes last, unless it is there. There may be 4,294,967,295 names.
-fn put_name(names: &mut Names, name: &Text) -> Result<(), Starved>
+/// The name goes last, unless it is there. There may be 4,294,967,295 names: so many would fill any memory.
+pub fn put_name(names: &mut Names, name: &Text) -> Result<(), Starved>
     ensures { OnOk result (names.new ≡ with_name names.old name.now) }
 {
     if names.len() == u32::MAX {

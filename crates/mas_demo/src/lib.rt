@@ -4,4 +4,3 @@
 pub mod files;
 pub mod laws;
 pub mod lines;
-pub mod shelf;

@@ -5,4 +5,5 @@ pub mod memory;
 pub mod real;
 pub mod shelf;
 pub mod sink;
+pub mod sure;
 pub mod writing;

@@ -123,6 +123,18 @@ gone_all (s ∷ seats) h = two_true (is_gone s.phase) (ended seats) (h 0 (omega 
 pub all_gone : (n : ℕ) (seats : List board.Place) → AllGone n seats → n ≡ length seats → ended seats ≡ true
 all_gone n seats h e = gone_all seats (λ i l. subst (λ (m : ℕ). is_gone (seat_or_none (slice_get seats m)).phase ≡ true) (let z : suc i - 1 ≡ i = omega arith in z) (h (suc i) (record { from_one = omega arith; named = omega arith })))
 
+-- where one has not left, not all have
+pub one_stays : (seats : List board.Place) (a : ℕ) (p : Phase) → IsAgent (length seats) a → p ≡ (seat_of seats a).phase → is_gone p ≡ false → false ≡ ended seats
+one_stays seats a p agent e g = go (ended seats) refl
+  where
+    go : (b : Bool) → ended seats ≡ b → false ≡ b
+    go false f = refl
+    go true f =
+        let n = agent.from_one in
+        let m = agent.named in
+        let d : false ≡ true = sym g ∙ ap is_gone e ∙ gone_at seats (a - 1) (omega arith) f in
+        cc
+
 not_busy : (p : Phase) → is_gone p ≡ true → p ≢ Busy
 not_busy p g e = let d : false ≡ true = ap is_gone (sym e) ∙ g in cc
 

@@ -1,12 +1,12 @@
 -- Each step keeps the rule of the queue.
-use Rattle.std.proofs.Common.{◌≡◌, ◌≢◌, ℕ, zero, suc, ◌+◌, ◌-◌, ◌<◌, ◌≤◌, Option, Some, None, List, [], ◌∷◌, ◌++◌, length, map, set, drop, sym, refl, ap, ◌∙◌, subst, length-append, arith}
+use Rattle.std.proofs.Common.{◌≡◌, ℕ, zero, suc, ◌+◌, ◌-◌, ◌<◌, Option, Some, None, List, [], ◌∷◌, ◌++◌, length, set, drop, sym, refl, ap, ◌∙◌, subst, length-append, arith}
 use Rattle.std.specs.Prelude.{MatchOption, slice_get}
 use mathlib.Core.Option.{some, some-injective, some-ne-none}
 use lib.ListN.{get_elem?}
 use Rattle.crossbeam_queue.specs.Fifo.{Pushes, Pops, Forks, Merges, Learns, Held}
-use Rattle.mas_lists.specs.Lists.{Each, total, times, numbers_from}
+use Rattle.mas_lists.specs.Lists.{Each, times, numbers_from}
 use Rattle.mas_ready.specs.declared.rule.Hand.{Hand}
-use Rattle.mas_ready.specs.Rule.{hand, blank, grown, took, gave, less, one_part, both_of, spent, numbers, CameOf, Knows, Holds, Taken, Tells, IsDry, HasLast}
+use Rattle.mas_ready.specs.Rule.{blank, grown, took, gave, less, one_part, both_of, spent, numbers, CameOf, Knows, Holds, Taken, Tells, IsDry, HasLast}
 use Rattle.mas_lists.proofs.Sums.{total_set, total_snoc, at_total, two_total, all_set, all_snoc, each_append, each_map}
 use Rattle.mas_lists.proofs.Times.{times_append}
 use Rattle.mas_ready.proofs.Counts.{total_only, from_snoc, few}

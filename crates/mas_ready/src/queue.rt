@@ -1,8 +1,8 @@
 //! The queue: opened with all items, each of which any pass may take, and put back.
 ghost use Rattle.std.specs.Prelude.{◌≡◌, ◌<◌, ◌≤◌, ◌+◌, [], length, MatchOption, IfOk};
 ghost use Rattle.crossbeam_queue.specs.Passes.{view, IsPassOf};
-ghost use Rattle.mas_ready.specs.Rule.{numbers, blank, grown, gave, less, one_part, both_of, CameOf, Taken, IsDry, HasLast};
-ghost use Rattle.mas_lists.specs.Lists.{Each, numbers_from, total, times};
+ghost use Rattle.mas_ready.specs.Rule.{numbers, blank, grown, gave, both_of, CameOf, Taken, IsDry, HasLast};
+ghost use Rattle.mas_lists.specs.Lists.{Each, numbers_from};
 ghost use Rattle.mas_ready.specs.Passes as spec;
 
 use crate::rule::{Grows, Hand, Kept, Numbered, Parts, Puts, Takes};
@@ -132,7 +132,9 @@ impl<T: Numbered + Drop> Ready<T> {
         requires pass { spec.IsOf self.now pass.old }
         ensures pass { spec.IsOf self.now pass.new }
         ensures kept { pass.new.kept ≡ pass.old.kept }
-        ensures taken { MatchOption result ((spec.known pass.new ≡ spec.known pass.old) × IsDry (spec.known pass.old)) (λ x. Taken T.number_of T.became (spec.known pass.old) x (spec.known pass.new)) }
+        ensures taken { let was = spec.known pass.old in
+            let is = spec.known pass.new in
+            MatchOption result ((is ≡ was) × IsDry was) (λ x. Taken T.number_of T.became was x is) }
     {
         self.line.pop_as::<Takes<T>, R>(rt, &mut pass.ticket)
     }

@@ -18,7 +18,6 @@ use Rattle.mas_board.specs.declared.seats.Phase.TheVariants.{Idle, Busy, Left as
 use Rattle.mas_board.specs.declared.seats.Place.{Place}
 use Rattle.mas_board.specs.Boards.{State, seat_at, box_of, name_of, name_or_none}
 use Rattle.mas_core.specs.Platform.{Platform, run, ended}
-use Rattle.mas_core.specs.Robin.{turns}
 use Rattle.mas_report.specs.declared.options.Options.{Options}
 use Rattle.mas_schedule.specs.Schedule.{schedule_text, line_feed, printed}
 
@@ -136,7 +135,3 @@ pub record IsReport {V : Type 0} (k : Kind V) (o : Options) (p : Platform V) (sp
   pub ended : ended done.board.seats ≡ true
   pub spent_is : is_spent done.board.seats ≡ spent
   pub is : w ≡ report_text k.lines o done.board done.minds (printed w)
-
--- the numbers in the last line of the text are the schedule of the round robin from p
-pub record IsRobin {V : Type 0} (k : Kind V) (p : Platform V) (w : List ℕ) : Type 0 where
-  pub robin : printed w ≡ turns k p

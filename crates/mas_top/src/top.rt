@@ -139,8 +139,8 @@ fn run_read<R: Threads + Wait + Sync, S: Shelf, K: Sink, A: Artifact + Send, G: 
     }
 }
 
-/// The top call: does what the words ask for, and calls the gate beside each cycle of an agent in a run by more workers than
-/// one. The words leave out the program's own name. For a run or a replay, of the files and the options that the words name,
+/// The top call: does what the words ask for, and calls the gate beside each cycle of an agent where more workers than one
+/// are started, which is no more than one for each agent. The words leave out the program's own name. For a run or a replay, of the files and the options that the words name,
 /// the clauses say what a report is that was written whole, by `Ok` or `Budget`, in which order the turns of its schedule are,
 /// when no fault may be answered, and the cause of each status; after a write fault a prefix of the report is written, or
 /// nothing. Of a demo they are `demo`, `untouched` and `caused`. Words that are not read, the status of which is `Usage`, leave

@@ -2,8 +2,6 @@
 #![tactic(auto)]
 
 #[cfg(test)]
-mod artifacts;
-#[cfg(test)]
 mod edge;
 #[cfg(test)]
 mod laws;

@@ -1,8 +1,8 @@
 //! Artifacts of one's own, handed in to runs.
 
-use crate::artifacts::does;
-use crate::pings::Pings;
+use crate::pings::{Pings, ping};
 use asl_term::copying::text_of;
+use asl_term::printing_expr::print_literal;
 use asl_term::room::Roomy;
 use asl_term::sequence::{Seq, Starved};
 use asl_term::syntax::{Filed, Files, Text};
@@ -42,12 +42,12 @@ fn project(alloc: Global, world: &[u8]) -> Result<Files, Starved> {
 }
 
 /// An artifact of this name that counted a ping already, or none.
-fn pings(alloc: Global, name: &[u8], pinged: bool) -> Result<Pings, WorldFault> {
-    let mut pings = Pings::new(alloc, name)?;
-    if pinged {
-        does(alloc, &mut pings, b"b", b"ping", None)?;
+fn counter(alloc: Global, name: &[u8], is_pinged: bool) -> Result<Pings, WorldFault> {
+    let mut counter = Pings::new(alloc, name)?;
+    if is_pinged {
+        ping(alloc, &mut counter, b"b")?;
     }
-    Ok(pings)
+    Ok(counter)
 }
 
 /// What this command and its name write over this world with artifacts of these names, which counted a ping already or none,
@@ -61,7 +61,7 @@ fn told<R: Threads + Wait + Sync>(
 ) -> Result<Text, Starved> {
     let mut all: Vec<Box<dyn Artifact + Send>> = Vec::new(alloc);
     for (name, pinged) in named {
-        let Ok(one) = pings(alloc, *name, *pinged) else {
+        let Ok(one) = counter(alloc, *name, *pinged) else {
             return Err(Starved);
         };
         all.push(Box::new(alloc, one)?)?;
@@ -77,21 +77,6 @@ fn told<R: Threads + Wait + Sync>(
     let mut out = text_of(alloc, sink.written())?;
     out.append(fault_line(alloc, &status)?.as_slice())?;
     Ok(out)
-}
-
-/// Whether it is that.
-fn tells<R: Threads + Wait + Sync>(
-    rt: &R,
-    alloc: Global,
-    asked: (&str, &str),
-    world: &[u8],
-    named: &[(&[u8], bool)],
-    wanted: &[u8],
-) -> bool {
-    match told(rt, alloc, asked, world, named) {
-        Ok(out) => out.as_slice() == wanted,
-        Err(_) => false,
-    }
 }
 
 const RUN: (&str, &str) = ("run", "m.mas2j");
@@ -124,33 +109,39 @@ schedule 7
 1 1 1 1 1 1 1
 ";
 
-/// A counter of pings that a test wrote is acted on and seen.
+/// An artifact that a test wrote answers for itself.
 #[test]
-fn an_artifact_of_ones_own_runs(rt: HostRuntime) {
-    let named: [(&[u8], bool); 1] = [(b"pings", false)];
-    assert!(rt; tells(&rt, rt.alloc(), RUN, b"use pings.", &named, PINGED_ONCE));
+fn an_artifact_of_ones_own_acts(rt: HostRuntime) -> Result<(), Starved> {
+    let alloc = rt.alloc();
+    let Ok(mut one) = counter(alloc, b"pings", true) else {
+        return Err(Starved);
+    };
+    assert!(rt; one.name().as_slice() == b"pings".as_slice());
+    assert!(rt; ping(alloc, &mut one, b"a")?);
+    let mut facts = Seq::new(alloc);
+    one.observe(&mut facts)?;
+    let mut told = Seq::new(alloc);
+    for fact in facts.as_slice() {
+        print_literal(fact, &mut told)?;
+    }
+    assert!(rt; told.as_slice() == b"pings(2)".as_slice());
+    Ok(())
 }
 
-/// Of two artifacts with one name a world takes the first.
+/// A counter of pings that a test wrote is acted on and seen; of two artifacts with one name a world takes the first; a world
+/// names no artifact that was not handed in; a demo wants a tally, whatever else is handed in.
 #[test]
-fn of_two_names_the_first(rt: HostRuntime) {
-    let named: [(&[u8], bool); 3] = [(b"others", true), (b"pings", true), (b"pings", false)];
-    let world = b"use pings. hide pings.".as_slice();
-    assert!(rt; tells(&rt, rt.alloc(), RUN, world, &named, PINGED_AGAIN));
-}
-
-/// A world names no artifact that was not handed in.
-#[test]
-fn only_those_handed_in(rt: HostRuntime) {
-    let named: [(&[u8], bool); 1] = [(b"others", false)];
-    let refused = b"refused w.env 1 artifact pings\n".as_slice();
-    assert!(rt; tells(&rt, rt.alloc(), RUN, b"use pings.", &named, refused));
-}
-
-/// A demo wants a tally, whatever else is handed in.
-#[test]
-fn a_demo_wants_a_tally(rt: HostRuntime) {
-    let named: [(&[u8], bool); 1] = [(b"others", false)];
-    let refused = b"refused demo.env 1 artifact tally\n".as_slice();
-    assert!(rt; tells(&rt, rt.alloc(), ("demo", "3"), b"", &named, refused));
+fn artifacts_of_ones_own_run(rt: HostRuntime) -> Result<(), Starved> {
+    let one: [(&[u8], bool); 1] = [(b"pings", false)];
+    let told_once = told(&rt, rt.alloc(), RUN, b"use pings.", &one)?;
+    assert!(rt; told_once.as_slice() == PINGED_ONCE);
+    let two: [(&[u8], bool); 3] = [(b"others", true), (b"pings", true), (b"pings", false)];
+    let told_again = told(&rt, rt.alloc(), RUN, b"use pings. hide pings.", &two)?;
+    assert!(rt; told_again.as_slice() == PINGED_AGAIN);
+    let others: [(&[u8], bool); 1] = [(b"others", false)];
+    let refused = told(&rt, rt.alloc(), RUN, b"use pings.", &others)?;
+    assert!(rt; refused.as_slice() == b"refused w.env 1 artifact pings\n".as_slice());
+    let demo = told(&rt, rt.alloc(), ("demo", "3"), b"", &others)?;
+    assert!(rt; demo.as_slice() == b"refused demo.env 1 artifact tally\n".as_slice());
+    Ok(())
 }

@@ -4,9 +4,10 @@ ghost use Rattle.std.specs.Prelude.{◌≡◌, [], IfOk};
 ghost use Rattle.mas_world.specs.Worlds as spec;
 
 use asl_term::copying::text_of;
+use asl_term::measure::ground_literal;
 use asl_term::names::Names;
-use asl_term::sequence::Starved;
-use asl_term::syntax::{Literal, Literals, Text};
+use asl_term::sequence::{Seq, Starved};
+use asl_term::syntax::{Literal, LiteralOf, Literals, Text};
 use env_file::fault::WorldFault;
 use env_file::laws::worlds_open;
 use env_file::world::world;
@@ -75,4 +76,16 @@ impl Artifact for Pings {
     ) -> Result<Feedback, Starved> {
         self.segment.act(alloc, agent, action)
     }
+}
+
+/// Whether the ping of an agent is done.
+pub fn ping(alloc: Global, pings: &mut Pings, agent: &[u8]) -> Result<bool, Starved> {
+    let agent = text_of(alloc, agent)?;
+    let action = LiteralOf {
+        neg: false,
+        functor: text_of(alloc, b"ping")?,
+        args: Seq::new(alloc),
+        annots: Seq::new(alloc),
+    };
+    Ok(ground_literal(&action) && pings.operate(alloc, &agent, &action)? == Feedback::Done)
 }

@@ -63,4 +63,4 @@ returns-clause-ran g c =
     let closed = subst (λ (l : List (Seat g.row.A.Denot)). Closed l after) c.in_ok-seats.ensures.seats c.close-board.ensures in
     subst (λ (l : List g.row.M.Denot). RanAlong g.M.Mind.kind (opening_platform c.args.board.state c.args.minds) after.schedule after l) (sym c.in_ok-seats.ensures.minds)
     (whole_run g.M.Mind.kind c.in_ok-baton.baton c.args.board after c.in_ok-baton.seats c.args.minds c.in_ok-goings-2.goings c.in_ok-baton.ensures (let s = c.holds.ensures.sound.limits.some in omega arith) c.requires.start.fit.number
-    (λ a. ap (λ (x : board.Place). x.phase) (seats_none c.args.board a c.requires.start.unplayed c.holds.ensures.opens)) e closed (c.if-not-have_left.ensures refl))
+    (λ a. ap (λ (x : board.Place). x.phase) (seats_none c.args.board a c.requires.start.unplayed c.holds.ensures.opens)) e closed (sym c.if-not-have_left.ensures))

@@ -1,0 +1,9 @@
+pub mod Filing
+pub mod Finds
+pub mod Heads
+pub mod Changes
+pub mod Steps
+pub mod Walking
+pub mod Forgetting
+pub mod Packs
+pub mod Quiet

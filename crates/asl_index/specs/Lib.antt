@@ -1,0 +1,4 @@
+pub mod Store
+pub mod Rules
+pub mod Hits
+pub mod Packing

@@ -1,0 +1,103 @@
+//! Places of plans by the sign and the kind of their triggers, and by the sign, functor and number of arguments of these.
+
+ghost use Rattle.std.specs.Prelude.{◌≡◌, [], ℕ, Bool, List, IfOk, OnOk};
+ghost use Rattle.asl_places.specs.Frames.{filed};
+ghost use Rattle.asl_term.specs.declared.syntax.Kind.{Kind};
+ghost use Rattle.asl_plans.specs.Filed.{IsPut, IsPutOf, AreFiled, frames_of, of_kind};
+
+use asl_places::frames::Frames;
+use asl_term::sequence::Starved;
+use asl_term::syntax::{Kind, Literal, Plan, Trigger};
+use std::alloc::Global;
+
+/// Places by the kind of a trigger, and then by frame.
+#[derive(Drop)]
+pub struct Kinds {
+    pub belief: Frames,
+    pub achieve: Frames,
+    pub test: Frames,
+}
+
+/// Places by whether a trigger adds, and then by its kind and frame.
+#[derive(Drop)]
+pub struct Filed {
+    pub plus: Kinds,
+    pub minus: Kinds,
+}
+
+impl Kinds {
+    fn new(alloc: Global) -> Kinds
+        ensures { (kind : Kind) (neg : Bool) (functor : List ℕ) (count : ℕ) → filed (of_kind kind result) neg functor count ≡ [] }
+    {
+        Kinds {
+            belief: Frames::new(alloc),
+            achieve: Frames::new(alloc),
+            test: Frames::new(alloc),
+        }
+    }
+
+    fn of(&self, kind: Kind) -> &Frames
+        ensures { result.now ≡ of_kind kind self.now }
+    {
+        match kind {
+            Kind::Belief => &self.belief,
+            Kind::Achieve => &self.achieve,
+            Kind::Test => &self.test,
+        }
+    }
+
+    /// Puts a place last under a kind and the frame of a literal.
+    fn put(&mut self, alloc: Global, kind: Kind, l: &Literal, place: u64) -> Result<(), Starved>
+        ensures { OnOk result (IsPutOf kind l.now place self.old self.new) }
+    {
+        match kind {
+            Kind::Belief => self.belief.put(alloc, l, place),
+            Kind::Achieve => self.achieve.put(alloc, l, place),
+            Kind::Test => self.test.put(alloc, l, place),
+        }
+    }
+}
+
+impl Filed {
+    fn new(alloc: Global) -> Filed
+        ensures { (add : Bool) (kind : Kind) (neg : Bool) (functor : List ℕ) (count : ℕ) → filed (frames_of add kind result) neg functor count ≡ [] }
+    {
+        Filed {
+            plus: Kinds::new(alloc),
+            minus: Kinds::new(alloc),
+        }
+    }
+
+    /// The places of the plans for what has the sign and the kind of an event.
+    pub fn of(&self, event: &Trigger) -> &Frames
+        ensures { result.now ≡ frames_of event.now.add event.now.kind self.now }
+    {
+        if event.add {
+            self.plus.of(event.kind)
+        } else {
+            self.minus.of(event.kind)
+        }
+    }
+
+    /// Puts a place last under a trigger.
+    fn put(&mut self, alloc: Global, t: &Trigger, place: u64) -> Result<(), Starved>
+        ensures { OnOk result (IsPut t.now place self.old self.new) }
+    {
+        if t.add {
+            self.plus.put(alloc, t.kind, &t.lit, place)
+        } else {
+            self.minus.put(alloc, t.kind, &t.lit, place)
+        }
+    }
+}
+
+/// The places of plans, filed by their triggers.
+pub fn file_plans(alloc: Global, plans: &[Plan]) -> Result<Filed, Starved>
+    ensures { IfOk result (λ r. AreFiled plans.now r) }
+{
+    let mut r = Filed::new(alloc);
+    for i in 0..plans.len() {
+        r.put(alloc, &plans[i].trigger, i as u64)?;
+    }
+    Ok(r)
+}

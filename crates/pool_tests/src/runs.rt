@@ -1,0 +1,193 @@
+//! Whole runs.
+
+ghost use Rattle.std.specs.Prelude.{◌≡◌, ◌≤◌, IfOk, length};
+ghost use Rattle.pool_tests.specs.Hungers as spec;
+
+use crate::hungry::Hungry;
+use asl_term::copying::text_of;
+use asl_term::names::{Names, number};
+use asl_term::sequence::{Seq, Starved};
+use mas_artifact::tally::Tally;
+use mas_board::board::{Board, open_board};
+use mas_core::robin::Done;
+use mas_going::gate::{Gate, OpenGate};
+use mas_pool::pool::run_pool;
+use mas_world::segment::Segment;
+use mas_world::world::{Artifacts, World};
+use std::alloc::Global;
+use std::sync::Wait;
+use std::sync::atomic::{AtomicU64, Ordering};
+use std::thread;
+use std::thread::Threads;
+
+fn put_name(alloc: Global, names: &mut Names, name: &[u8]) -> Result<(), Starved> {
+    let text = text_of(alloc, name)?;
+    if names.len() < 3 {
+        number(names, &text)?;
+    }
+    Ok(())
+}
+
+fn three_names(alloc: Global) -> Result<Names, Starved>
+    ensures { IfOk result (λ names. length names ≡ 3) }
+{
+    let mut names = Names::new(alloc)?;
+    put_name(alloc, &mut names, b"x")?;
+    put_name(alloc, &mut names, b"y")?;
+    put_name(alloc, &mut names, b"z")?;
+    if names.len() == 3 {
+        Ok(names)
+    } else {
+        Err(Starved)
+    }
+}
+
+/// A board of three agents in a world without facts, on which each may make ten cycles.
+#[tactic(auto, using(crate::proofs::Starts::opened))]
+fn board_of_three(alloc: Global) -> Result<Board<Tally>, Starved>
+    ensures { IfOk result spec.IsOpened }
+{
+    let hidden = Names::new(alloc)?;
+    let names = three_names(alloc)?;
+    let file = Segment::new(Seq::new(alloc), Seq::new(alloc));
+    let world = World::of(file, hidden, Artifacts::new(alloc));
+    open_board(alloc, world, names, 10, 3)
+}
+
+fn mind(alloc: Global, me: u32, last: u64) -> Hungry
+    ensures { result ≡ spec.hungry me last }
+{
+    Hungry {
+        me,
+        agents: 3,
+        made: 0,
+        waits: false,
+        last,
+        text: Seq::new(alloc),
+    }
+}
+
+/// Their minds, of which the second has no memory for its cycle of this number.
+fn three_minds(alloc: Global, last: u64) -> Result<Seq<Hungry>, Starved>
+    ensures { IfOk result (λ minds. minds ≡ spec.three last) }
+{
+    let mut minds = Seq::new(alloc);
+    minds.push(mind(alloc, 1, 0))?;
+    minds.push(mind(alloc, 2, last))?;
+    minds.push(mind(alloc, 3, 0))?;
+    Ok(minds)
+}
+
+fn run_three<R: Threads + Wait + Sync, G: Gate + Sync>(
+    rt: &R,
+    alloc: Global,
+    last: u64,
+    workers: u32,
+    gate: &G,
+) -> Result<Done<Hungry, Tally>, Starved>
+    requires { (1 ≤ workers) × (workers ≤ 64) }
+{
+    let minds = three_minds(alloc, last)?;
+    let board = board_of_three(alloc)?;
+    run_pool(rt, alloc, board, minds, workers, gate)
+}
+
+/// Whether each mind is in its place, after its ten cycles.
+fn are_back(done: &Done<Hungry, Tally>) -> bool {
+    if done.minds.len() != 3 || done.board.schedule().len() != 63 {
+        return false;
+    }
+    for place in 0..3u32 {
+        let Some(mind) = done.minds.at(place as u64) else {
+            return false;
+        };
+        if mind.me != place + 1 || mind.made != 10 {
+            return false;
+        }
+    }
+    true
+}
+
+/// Whether each mind comes back in its place from its ten cycles, with so many workers.
+fn all_come_back<R: Threads + Wait + Sync>(
+    rt: &R,
+    alloc: Global,
+    workers: u32,
+) -> Result<bool, Starved>
+    requires { (1 ≤ workers) × (workers ≤ 64) }
+{
+    let done = run_three(rt, alloc, 0, workers, &OpenGate)?;
+    let back = are_back(&done);
+    drop(done);
+    Ok(back)
+}
+
+#[test]
+fn every_mind_comes_back(rt: HostRuntime) -> Result<(), Starved> {
+    let alloc = rt.alloc();
+    for workers in [1, 2, 4, 64] {
+        assert!(rt; all_come_back(&rt, alloc, workers)?);
+    }
+    Ok(())
+}
+
+/// Whether the run answers want of memory where the second mind has none for its cycle of this number.
+fn starves<R: Threads + Wait + Sync>(rt: &R, alloc: Global, last: u64, workers: u32) -> bool
+    requires { (1 ≤ workers) × (workers ≤ 64) }
+{
+    match run_three(rt, alloc, last, workers, &OpenGate) {
+        Ok(done) => {
+            drop(done);
+            false
+        }
+        Err(_) => true,
+    }
+}
+
+#[test]
+fn a_mind_without_memory_ends_the_run(rt: HostRuntime) {
+    let alloc = rt.alloc();
+    assert!(rt; starves(&rt, alloc, 1, 2));
+    assert!(rt; starves(&rt, alloc, 4, 3));
+}
+
+/// Holds the first thinking of agent 1 until agent 2 has thought, for so many turns at most.
+#[derive(Drop)]
+struct Holding {
+    thought: AtomicU64,
+    met: AtomicU64,
+}
+
+impl Gate for Holding {
+    fn thinking(&self, agent: u32, cycle: u64) {
+        if agent != 1 || cycle != 1 {
+            return;
+        }
+        for _ in 0..20_000_000u64 {
+            if self.thought.load(Ordering::SeqCst) != 0 {
+                self.met.store(1, Ordering::SeqCst);
+                return;
+            }
+            thread::yield_now();
+        }
+    }
+
+    fn done(&self, agent: u32, _cycle: u64) {
+        if agent == 2 {
+            self.thought.store(1, Ordering::SeqCst);
+        }
+    }
+}
+
+#[test]
+fn two_think_at_once(rt: HostRuntime) -> Result<(), Starved> {
+    let alloc = rt.alloc();
+    let gate = Holding {
+        thought: AtomicU64::new(0),
+        met: AtomicU64::new(0),
+    };
+    let done = run_three(&rt, alloc, 0, 2, &gate)?;
+    drop(done);
+    assert!(rt; gate.met.load(Ordering::SeqCst) == 1);
+    Ok(())
+}
