@@ -1,5 +1,4 @@
 pub mod Clears
-pub mod Naming
 pub mod Cycled
 pub mod Moving
 pub mod Lefts

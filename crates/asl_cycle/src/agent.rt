@@ -6,16 +6,16 @@ ghost use Rattle.asl_cycle.specs.Agent.{opening_mind};
 ghost use Rattle.mas_mind.specs.Minds.{asks_feedback};
 
 use crate::cycle::cycle;
-use crate::opening::{add_goals, copy_names, copy_plans};
+use crate::opening::{add_goals, copy_plans};
 use crate::trace::write_lines;
 use asl_exec::parts::{Around, Parts};
 use asl_index::indexed::Indexed;
 use asl_intend::opening::agenda;
 use asl_kqml::peers::{Peers, agent_name};
+use asl_kqml::shared::SharedNames;
 use asl_plans::library::Library;
 use asl_resolve::answers::Budgets;
 use asl_stdlib::standard::StandardActions;
-use asl_term::names::Names;
 use asl_term::sequence::{Seq, Starved};
 use asl_term::syntax::{AgentText, Text};
 use mas_mind::mind::{Feedback, Input, Level, Thought};
@@ -68,12 +68,12 @@ impl Model for Agent {
         × ((a.awaits || is_fed a.parts.agenda.acting a.kept) ≡ true))))) };
 }
 
-/// The agent of a source before its first cycle. It has the place `me` among the names of all agents, from 1. Its
-/// first events are those of its initial beliefs, in order, and then one for each initial goal.
+/// The agent of a source before its first cycle. It has the place `me` among the names of all agents, from 1, which it
+/// shares. Its first events are those of its initial beliefs, in order, and then one for each initial goal.
 pub fn open_agent(
     alloc: Global,
     me: u32,
-    names: &Names,
+    names: &SharedNames,
     source: &AgentText,
     budgets: Budgets,
     level: Level,
@@ -89,8 +89,8 @@ pub fn open_agent(
     let beliefs = Indexed::open(alloc, source, &mut events)?;
     add_goals(alloc, source.goals.as_slice(), &mut events)?;
     let agenda = agenda(alloc, events)?;
-    let actions = StandardActions::new(agent_name(alloc, names, me)?);
-    let names = copy_names(alloc, names)?;
+    let actions = StandardActions::new(agent_name(alloc, names.get(), me)?);
+    let names = names.again()?;
     Ok(Agent {
         around: Around {
             lib,

@@ -73,7 +73,7 @@ fn mail_of(alloc: Global, peers: &Peers, other: u32, m: &Message) -> Result<Mail
     ensures { IfOk result (λ r. r ≡ spec.mail peers.now other m.now) }
 {
     Ok(Mail {
-        who: agent_name(alloc, &peers.names, other)?,
+        who: agent_name(alloc, peers.names.get(), other)?,
         verb: m.verb,
         content: copy(alloc, &m.content)?,
     })

@@ -5,7 +5,6 @@ ghost use Rattle.asl_cycle.specs.Opening as spec;
 
 use asl_beliefs::sources::with_source;
 use asl_term::copying::copy_plan;
-use asl_term::names::{Names, number};
 use asl_term::sequence::{Seq, Starved};
 use asl_term::syntax::{Kind, Literal, Plan, Plans, Trigger, Triggers};
 use std::alloc::Global;
@@ -17,20 +16,6 @@ pub fn copy_plans(alloc: Global, plans: &[Plan]) -> Result<Plans, Starved>
     let mut r = Seq::new(alloc);
     for p in plans {
         r.push(copy_plan(alloc, p)?)?;
-    }
-    Ok(r)
-}
-
-/// Equal names, in order.
-#[tactic(auto, using(crate::proofs::Naming::next_name, crate::proofs::Naming::no_gap))]
-pub fn copy_names(alloc: Global, names: &Names) -> Result<Names, Starved>
-    ensures { IfOk result (λ r. r ≡ names.now) }
-{
-    let mut r = Names::new(alloc)?;
-    for k in 0..names.len() {
-        if let Some(name) = names.at(k + 1) {
-            number(&mut r, name)?;
-        }
     }
     Ok(r)
 }

@@ -254,7 +254,7 @@ fn to_others(alloc: Global, peers: &Peers, verb: Verb, t: &Term) -> Result<Messa
     ensures { IfOk result (λ r. r ≡ spec.to_others peers.now.me verb t.now 1 peers.now.names) }
 {
     let mut messages = Seq::new(alloc);
-    for k in 0..peers.names.len() {
+    for k in 0..peers.names.get().len() {
         let to = k + 1;
         let is_other = to != peers.me;
         if is_other {

@@ -164,7 +164,7 @@ pub fn send<B: BeliefBase, A: Actions>(
     ensures number { p.new.number ≡ p.old.number }
     ensures asks { asks.new ≤ asks.old + 1 }
 {
-    match letter_of(alloc, &peers.names, args)? {
+    match letter_of(alloc, peers.names.get(), args)? {
         Err(why) => Ok(Acted::Failed(why)),
         Ok(l) => sent_letter(alloc, k, p, asks, cur, peers.me, args, l),
     }

@@ -1,4 +1,5 @@
 pub mod Found
+pub mod Naming
 pub mod Grounds
 pub mod Unasked
 pub mod Walks

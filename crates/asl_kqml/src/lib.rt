@@ -8,5 +8,6 @@ pub mod goals;
 pub mod peers;
 pub mod receive;
 pub mod replies;
+pub mod shared;
 pub mod sourced;
 pub mod took;

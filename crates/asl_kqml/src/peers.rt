@@ -3,6 +3,7 @@
 ghost use Rattle.std.specs.Prelude.{◌≡◌, IfOk};
 ghost use Rattle.asl_kqml.specs.Contents as spec;
 
+use crate::shared::SharedNames;
 use asl_term::copying::copy_text;
 use asl_term::names::Names;
 use asl_term::sequence::{Seq, Starved};
@@ -12,7 +13,7 @@ use std::alloc::Global;
 /// The names of all agents, in order, and the number of the agent itself among them, from 1.
 #[derive(Drop)]
 pub struct Peers {
-    pub names: Names,
+    pub names: SharedNames,
     pub me: u32,
 }
 

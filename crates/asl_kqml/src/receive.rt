@@ -106,7 +106,7 @@ pub fn receive<B: BeliefBase, A: Actions>(
     let number = p.number;
     p.number += 1;
     let content = rename_term(alloc, &m.content, number)?;
-    let took = match agent_name(alloc, &peers.names, m.from) {
+    let took = match agent_name(alloc, peers.names.get(), m.from) {
         Ok(name) => of_verb(alloc, k, peers.me, &name, p, m, &content),
         Err(starved) => Err(starved),
     };

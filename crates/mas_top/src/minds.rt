@@ -8,6 +8,7 @@ ghost use Rattle.mas_top.specs.Fits.{is_ground_role};
 ghost use Rattle.mas_top.specs.Opening as spec;
 
 use asl_cycle::agent::{Agent, open_agent};
+use asl_kqml::shared::SharedNames;
 use asl_resolve::answers::Budgets;
 use asl_term::names::Names;
 use asl_term::sequence::{Seq, Starved};
@@ -29,7 +30,7 @@ fn budgets_of(o: &Options) -> Budgets
 fn open_one(
     alloc: Global,
     o: &Options,
-    names: &Names,
+    names: &SharedNames,
     a: u32,
     source: &AgentText,
 ) -> Result<Agent, Starved>
@@ -43,11 +44,11 @@ fn open_one(
 }
 
 /// The number of the agent behind so many.
-fn next_number(names: &Names, made: u64) -> u32
+fn next_number(names: &SharedNames, made: u64) -> u32
     requires { made + 1 ≤ length names.now }
     ensures { result ≡ made + 1 }
 {
-    let agents = names.len();
+    let agents = names.get().len();
     prove!(made < agents as u64);
     made as u32 + 1
 }
@@ -57,7 +58,7 @@ fn next_number(names: &Names, made: u64) -> u32
 fn add_agents(
     alloc: Global,
     o: &Options,
-    names: &Names,
+    names: &SharedNames,
     role: &Role,
     minds: &mut Seq<Agent>,
 ) -> Result<(), Starved>
@@ -89,10 +90,11 @@ pub fn open_minds(
     requires ground { list_all is_ground_role roles.now ≡ true }
     ensures { IfOk result (λ ms. ms ≡ spec.minds_from o.now names.now 1 (spec.texts_of roles.now)) }
 {
+    let shared = SharedNames::copy_of(alloc, names)?;
     let mut minds = Seq::new(alloc);
     let mut rest = roles;
     'roles: while let Some((role, after)) = rest.split_first() {
-        add_agents(alloc, o, names, role, &mut minds)?;
+        add_agents(alloc, o, &shared, role, &mut minds)?;
         rest = after;
     }
     Ok(minds)

@@ -1,4 +1,4 @@
-use Rattle.std.proofs.Common.{◌≡◌, ◌≢◌, ◌+◌, ◌<◌, ◌∷◌, [], ◌++◌, length, arith, rules, sym, subst}
+use Rattle.std.proofs.Common.{◌≡◌, ◌≢◌, ◌+◌, ◌<◌, ◌∷◌, [], ◌++◌, length, ap, arith, rules, sym, subst}
 use Rattle.asl_goals.specs.Sending.{to_others}
 use Rattle.asl_goals.proofs.Spread.{one, from_on, passes, sends}
 use Rattle.asl_goals.proofs.letter.to_others.Goals as goal
@@ -12,6 +12,7 @@ loop-k-preserved c =
     let names = c.args.peers.now.names in
     let k = c.loop-k.k in
     let all = to_others me v t 1 names in
+    let got : length c.get.result.now ≡ length names = ap length c.get.ensures in
     let low : k < length names = omega (arith, c.len-k-end.ensures.number) in
     elim c.if-is_other.branch [
       | then-is_other+in_ok-content+in_ok-push w ↦

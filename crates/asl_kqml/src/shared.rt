@@ -1,0 +1,70 @@
+//! Names that many agents share.
+
+ghost use Rattle.std.specs.Prelude.{◌≡◌, IfOk};
+
+use asl_term::names::{Names, number};
+use asl_term::sequence::Starved;
+use std::alloc::Global;
+use std::marker::Model;
+use std::sync::Arc;
+
+/// Names that stand once, whoever has them. Contracts see them as `Names`.
+#[derive(Drop)]
+pub struct SharedNames {
+    names: Arc<Names, Global>,
+}
+
+impl Model for SharedNames {
+    ghost use Rattle.std.specs.Prelude.{ℕ, List};
+    ghost use Rattle.std.specs.Arc.{arc_value};
+    ghost use Rattle.std.specs.Coded.{coded_ℕ, coded_list};
+
+    ghost Value = { List (List ℕ) };
+
+    ghost coded = { coded_list (coded_list coded_ℕ) };
+
+    ghost view = { λ s. arc_value s.names };
+}
+
+/// Equal names, in order.
+#[tactic(auto, using(crate::proofs::Naming::next_name, crate::proofs::Naming::no_gap))]
+fn copied(alloc: Global, names: &Names) -> Result<Names, Starved>
+    ensures { IfOk result (λ r. r ≡ names.now) }
+{
+    let mut r = Names::new(alloc)?;
+    for k in 0..names.len() {
+        if let Some(name) = names.at(k + 1) {
+            number(&mut r, name)?;
+        }
+    }
+    Ok(r)
+}
+
+impl SharedNames {
+    /// Equal names, to be shared.
+    pub fn copy_of(alloc: Global, names: &Names) -> Result<SharedNames, Starved>
+        ensures { IfOk result (λ s. s ≡ names.now) }
+    {
+        let names = copied(alloc, names)?;
+        match Arc::new(alloc, names) {
+            Ok(names) => Ok(SharedNames { names }),
+            Err(_) => Err(Starved),
+        }
+    }
+
+    /// The same names for one more.
+    pub fn again(&self) -> Result<SharedNames, Starved>
+        ensures { IfOk result (λ s. s ≡ self.now) }
+    {
+        match Arc::try_clone(&self.names) {
+            Ok(names) => Ok(SharedNames { names }),
+            Err(_) => Err(Starved),
+        }
+    }
+
+    pub fn get(&self) -> &Names
+        ensures { result.now ≡ self.now }
+    {
+        &*self.names
+    }
+}
