@@ -23,6 +23,7 @@ use Rattle.asl_term.specs.contracts.syntax.Trigger as trigger
 use Rattle.asl_unify.specs.contracts.subst.Pair as pair
 use Rattle.asl_unify.specs.contracts.subst.Subst as bound
 use Rattle.asl_unify.specs.contracts.subst.Subst.TheInside as bound_inside
+use Rattle.asl_queue.proofs.queue.Queue.TheSendSync.{the_send as queue_send}
 use Rattle.asl_intend.proofs.agenda.Error.TheSendSync as error
 use Rattle.asl_intend.specs.contracts.entry.First as first
 use Rattle.asl_intend.specs.contracts.entry.Entry as entry
@@ -123,7 +124,7 @@ acting_send : IsSend acting.the_row
 acting_send = search (sendable, as_row_send, literal.the_field_send, term_send, stack_send) depth 20
 
 agenda_send : IsSend agenda.the_row
-agenda_send = search (sendable, as_row_send, seq_send, event_send, stack_send, acting_send, ask_send) depth 20
+agenda_send = search (sendable, as_row_send, seq_send, queue_send, event_send, stack_send, acting_send, ask_send) depth 20
 
 -- ---- the parts of an agent
 

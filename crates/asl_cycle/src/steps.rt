@@ -265,7 +265,7 @@ pub fn sel_ev<B: BeliefBase>(p: &mut Parts<B>, sofar: &mut Sofar) -> Result<Opti
     ensures number { p.new.number ≡ p.old.number }
     ensures acting { OnOk result (p.new.agenda.acting ≡ p.old.agenda.acting) }
 {
-    match p.agenda.events.remove(0) {
+    match p.agenda.take_event() {
         Some(event) => {
             rule(sofar, Row::SelEv1)?;
             Ok(Some(event))

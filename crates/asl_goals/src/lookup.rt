@@ -4,7 +4,7 @@ ghost use Rattle.std.specs.Prelude.{◌≡◌, cond, None, IfOk};
 ghost use Rattle.asl_intend.specs.Stacks as stacks;
 ghost use Rattle.asl_goals.specs.Goals as spec;
 
-use asl_intend::agenda::{Agenda, Ask, Event};
+use asl_intend::agenda::{Agenda, Ask, Event, Events};
 use asl_intend::goal::goal_match;
 use asl_intend::stack::Stack;
 use asl_term::sequence::Starved;
@@ -65,8 +65,8 @@ fn event_match(
     }
 }
 
-/// That of the first event which has one.
-fn events_match(
+/// That of the first of these events which has one.
+fn first_match(
     alloc: Global,
     desired: bool,
     g: &Literal,
@@ -81,6 +81,23 @@ fn events_match(
         }
     }
     Ok(None)
+}
+
+/// That of the first event which has one.
+fn events_match(
+    alloc: Global,
+    desired: bool,
+    g: &Literal,
+    events: &Events,
+) -> Result<Option<Subst>, Starved>
+    ensures { IfOk result (λ r. r ≡ spec.first_of (spec.event_match desired g.now) events.now) }
+{
+    let (front, back) = events.parts();
+    let found = first_match(alloc, desired, g, front)?;
+    match found {
+        Some(s) => Ok(Some(s)),
+        None => first_match(alloc, desired, g, back),
+    }
 }
 
 /// That of the first ask whose stack has one.
@@ -125,7 +142,7 @@ fn later_match(
         (spec.or_else (spec.first_of (λ q. spec.stack_match g.now q.stack) a.now.asks)
         (spec.stack_match g.now cur.now))) }
 {
-    let found = events_match(alloc, desired, g, a.events.as_slice())?;
+    let found = events_match(alloc, desired, g, &a.events)?;
     match found {
         Some(s) => Ok(Some(s)),
         None => waiting_match(alloc, g, a.asks.as_slice(), cur),

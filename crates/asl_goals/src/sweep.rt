@@ -9,9 +9,10 @@ use asl_exec::clear::emptied;
 use asl_exec::parts::{Around, Parts, fails_as};
 use asl_exec::rows::Row;
 use asl_exec::went::Went;
-use asl_intend::agenda::{Ask, Asks, Error, Event, Events, Stacks};
+use asl_intend::agenda::{Ask, Asks, Error, Event, Stacks};
 use asl_intend::stack::Stack;
 use asl_kqml::took::Falls;
+use asl_queue::queue::Queue;
 use asl_resolve::actions::Actions;
 use asl_term::sequence::{Seq, Starved};
 use asl_term::syntax::Literal;
@@ -209,7 +210,7 @@ fn sweep_event<B: BeliefBase, A: Actions>(
     way: Way,
     g: &Literal,
     e: Event,
-    left: &mut Events,
+    left: &mut Seq<Event>,
     falls: &mut Falls,
 ) -> Result<(), Starved>
     ensures made { let s = goals.taken_out
@@ -328,14 +329,14 @@ fn sweep_events<B: BeliefBase, A: Actions>(
     ensures beliefs { p.new.beliefs ≡ p.old.beliefs }
     ensures number { p.new.number ≡ p.old.number }
 {
-    let events = mem::replace(&mut p.agenda.events, Seq::new(alloc));
+    let events = p.agenda.events.take_all(alloc);
     let mut left = Seq::new(alloc);
     for event in events.into_vec() {
         sweep_event(alloc, k, p, way, g, event, &mut left, falls)?;
     }
-    let posted = mem::replace(&mut p.agenda.events, Seq::new(alloc));
+    let posted = p.agenda.events.take_all(alloc);
     left.append_all(posted)?;
-    p.agenda.events = left;
+    p.agenda.events = Queue::from_seq(left);
     Ok(())
 }
 

@@ -4,7 +4,7 @@ ghost use Rattle.std.specs.Prelude.{◌≡◌, ◌++◌, true, refl, IfOk, OnOk}
 ghost use Rattle.asl_beliefs.specs.Bases.{AreBeliefs, all_ground, facts_of, opening, opening_base};
 
 use crate::adding::add_to;
-use crate::finding::{body_of, count_of, heads_of, is_rule_at};
+use crate::finding::{body_of, count_of, head_pairs_of, heads_of, is_rule_at};
 use crate::rules::file_rules;
 use crate::store::Store;
 use crate::taking::{abolish_from, remove_from};
@@ -19,7 +19,7 @@ use asl_term::sequence::Starved;
 use asl_term::syntax::{AgentText, Clauses, Expr, Literal, Literals, Trigger, Triggers};
 use asl_unify::facts::Facts;
 use asl_unify::matching::Substs;
-use asl_unify::subst::Subst;
+use asl_unify::subst::{PairLists, Subst};
 use std::alloc::Global;
 use std::marker::Model;
 
@@ -92,6 +92,26 @@ impl Facts for Indexed {
         s: &Subst,
     ) -> Result<Substs, Starved> {
         heads_of(
+            alloc,
+            &self.store,
+            &self.rules,
+            &self.frames,
+            g,
+            k,
+            number,
+            s,
+        )
+    }
+
+    fn head_pairs(
+        &self,
+        alloc: Global,
+        g: &Literal,
+        k: u64,
+        number: u64,
+        s: &Subst,
+    ) -> Result<PairLists, Starved> {
+        head_pairs_of(
             alloc,
             &self.store,
             &self.rules,

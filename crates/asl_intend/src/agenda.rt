@@ -3,8 +3,9 @@
 ghost use Rattle.std.specs.Prelude.{◌≡◌, ◌+◌, [], ◌∷◌, ◌++◌, None, Some, OnOk, OnErr, IfOk, drop, slice_get};
 ghost use Rattle.asl_intend.specs.Agendas as spec;
 
-use crate::dropping::{drop_named, drop_wanted};
+use crate::dropping::{drop_named, drop_named_events, drop_wanted_events};
 use crate::stack::Stack;
+use asl_queue::queue::Queue;
 use asl_term::sequence::{Seq, Starved};
 use asl_term::syntax::{Literal, Term, Trigger};
 use std::alloc::Global;
@@ -45,7 +46,7 @@ pub struct Acting {
     pub action: Literal,
 }
 
-pub type Events = Seq<Event>;
+pub type Events = Queue<Event>;
 
 pub type Stacks = Seq<Stack>;
 
@@ -74,7 +75,7 @@ impl Agenda {
         ensures value { result ≡ slice_get self.old.events 0 }
         ensures rest { self.new ≡ record self.old { events = drop 1 self.old.events } }
     {
-        self.events.remove(0)
+        self.events.take_first()
     }
 
     /// Puts a stack last among those that run.
@@ -131,7 +132,7 @@ impl Agenda {
         ensures count { IfOk result (λ n. n ≡ spec.intentions g.now self.old) }
         ensures rest { OnOk result (self.new ≡ spec.without_intentions g.now self.old) }
     {
-        let events = drop_named(alloc, &mut self.events, g)?;
+        let events = drop_named_events(alloc, &mut self.events, g)?;
         let running = drop_named(alloc, &mut self.running, g)?;
         let asks = drop_named(alloc, &mut self.asks, g)?;
         let held = both(events, running)?;
@@ -143,7 +144,7 @@ impl Agenda {
         ensures count { IfOk result (λ n. n ≡ spec.desires g.now self.old) }
         ensures rest { OnOk result (self.new ≡ spec.without_desires g.now self.old) }
     {
-        let events = drop_wanted(alloc, &mut self.events, g)?;
+        let events = drop_wanted_events(alloc, &mut self.events, g)?;
         let others = self.drop_intention(alloc, g)?;
         both(events, others)
     }

@@ -1,5 +1,6 @@
 pub mod Calls
 pub mod Base
+pub mod Given
 pub mod Marks
 pub mod Listed
 pub mod Solves

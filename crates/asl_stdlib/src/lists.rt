@@ -2,6 +2,7 @@
 
 ghost use Rattle.std.specs.Prelude.{◌≡◌, pos, IfOk, reverse};
 ghost use Rattle.std.specs.Option.{option_copied, option_map};
+ghost use Rattle.asl_unify.specs.Matches.{behind};
 ghost use Rattle.asl_stdlib.specs.Findings.{solutions};
 ghost use Rattle.asl_stdlib.specs.Rows as spec;
 
@@ -10,14 +11,13 @@ use crate::kinds::{Test, items_of, passes, string_of};
 use asl_term::copying::{copy_all, copy_text};
 use asl_term::sequence::{Seq, Starved};
 use asl_term::syntax::{ListingOf, LiteralOf, Term, Terms, Text};
-use asl_unify::matching::Substs;
 use asl_unify::settle::number_of;
-use asl_unify::subst::Subst;
+use asl_unify::subst::{PairLists, Subst};
 use std::alloc::Global;
 
 /// A test of the one argument.
-pub fn test_row(alloc: Global, test: Test, args: &[Term], s: &Subst) -> Result<Substs, Starved>
-    ensures { IfOk result (λ r. r ≡ solutions (spec.test_row test args.now) s.now) }
+pub fn test_row(alloc: Global, test: Test, args: &[Term], s: &Subst) -> Result<PairLists, Starved>
+    ensures { IfOk result (λ r. behind s.now r ≡ solutions (spec.test_row test args.now) s.now) }
 {
     let holds = match args {
         [t] => passes(test, t),
@@ -40,8 +40,8 @@ fn atom_term(alloc: Global, name: &Text) -> Result<Term, Starved>
 }
 
 /// `.my_name(X)`: the agent's name as an atom.
-pub fn my_name_row(alloc: Global, me: &Text, args: &[Term], s: &Subst) -> Result<Substs, Starved>
-    ensures { IfOk result (λ r. r ≡ solutions (spec.my_name_row me.now args.now) s.now) }
+pub fn my_name_row(alloc: Global, me: &Text, args: &[Term], s: &Subst) -> Result<PairLists, Starved>
+    ensures { IfOk result (λ r. behind s.now r ≡ solutions (spec.my_name_row me.now args.now) s.now) }
 {
     match args {
         [x] => {
@@ -53,8 +53,8 @@ pub fn my_name_row(alloc: Global, me: &Text, args: &[Term], s: &Subst) -> Result
 }
 
 /// `.member(X, L)`: each item of the list that unifies, in order.
-pub fn member_row(alloc: Global, args: &[Term], s: &Subst) -> Result<Substs, Starved>
-    ensures { IfOk result (λ r. r ≡ solutions (spec.member_row args.now) s.now) }
+pub fn member_row(alloc: Global, args: &[Term], s: &Subst) -> Result<PairLists, Starved>
+    ensures { IfOk result (λ r. behind s.now r ≡ solutions (spec.member_row args.now) s.now) }
 {
     match args {
         [x, l] => match items_of(l) {
@@ -79,8 +79,8 @@ fn length_of(t: &Term) -> Option<i64>
 }
 
 /// `.length(L, N)`.
-pub fn length_row(alloc: Global, args: &[Term], s: &Subst) -> Result<Substs, Starved>
-    ensures { IfOk result (λ r. r ≡ solutions (spec.length_row args.now) s.now) }
+pub fn length_row(alloc: Global, args: &[Term], s: &Subst) -> Result<PairLists, Starved>
+    ensures { IfOk result (λ r. behind s.now r ≡ solutions (spec.length_row args.now) s.now) }
 {
     match args {
         [l, n] => match length_of(l) {
@@ -99,8 +99,8 @@ fn item_at(items: &[Term], k: i64) -> Option<&Term>
 }
 
 /// `.nth(I, L, X)`: the item I of the list.
-pub fn nth_row(alloc: Global, args: &[Term], s: &Subst) -> Result<Substs, Starved>
-    ensures { IfOk result (λ r. r ≡ solutions (spec.nth_row args.now) s.now) }
+pub fn nth_row(alloc: Global, args: &[Term], s: &Subst) -> Result<PairLists, Starved>
+    ensures { IfOk result (λ r. behind s.now r ≡ solutions (spec.nth_row args.now) s.now) }
 {
     match args {
         [i, l, x] => match (number_of(i), items_of(l)) {
@@ -124,8 +124,8 @@ fn reversed(alloc: Global, items: &[Term]) -> Result<Terms, Starved>
 }
 
 /// `.reverse(L, R)`.
-pub fn reverse_row(alloc: Global, args: &[Term], s: &Subst) -> Result<Substs, Starved>
-    ensures { IfOk result (λ r. r ≡ solutions (spec.reverse_row args.now) s.now) }
+pub fn reverse_row(alloc: Global, args: &[Term], s: &Subst) -> Result<PairLists, Starved>
+    ensures { IfOk result (λ r. behind s.now r ≡ solutions (spec.reverse_row args.now) s.now) }
 {
     match args {
         [l, r] => match items_of(l) {

@@ -3,6 +3,7 @@
 ghost use Rattle.std.specs.Prelude.{◌≡◌, IfOk};
 ghost use Rattle.std.specs.List.{fold};
 ghost use Rattle.std.specs.Option.{option_map};
+ghost use Rattle.asl_unify.specs.Matches.{behind};
 ghost use Rattle.asl_stdlib.specs.Findings.{solutions};
 ghost use Rattle.asl_stdlib.specs.Rows as spec;
 
@@ -10,9 +11,8 @@ use crate::findings::meet_made;
 use crate::kinds::items_of;
 use asl_term::sequence::{Seq, Starved};
 use asl_term::syntax::Term;
-use asl_unify::matching::Substs;
 use asl_unify::settle::number_of;
-use asl_unify::subst::Subst;
+use asl_unify::subst::{PairLists, Subst};
 use std::alloc::Global;
 
 /// Which end of a row of numbers.
@@ -60,8 +60,8 @@ fn best_of(e: Extreme, ts: &[Term]) -> Option<i64>
 }
 
 /// `.max(L, X)` and `.min(L, X)`, of a list of one or more numbers.
-pub fn best_row(alloc: Global, e: Extreme, args: &[Term], s: &Subst) -> Result<Substs, Starved>
-    ensures { IfOk result (λ r. r ≡ solutions (spec.best_row e args.now) s.now) }
+pub fn best_row(alloc: Global, e: Extreme, args: &[Term], s: &Subst) -> Result<PairLists, Starved>
+    ensures { IfOk result (λ r. behind s.now r ≡ solutions (spec.best_row e args.now) s.now) }
 {
     match args {
         [l, x] => match items_of(l) {

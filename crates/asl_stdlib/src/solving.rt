@@ -6,6 +6,8 @@ ghost use Rattle.asl_unify.specs.Limits.{Passes, within};
 ghost use Rattle.asl_unify.specs.Puts.{apply};
 ghost use Rattle.asl_unify.specs.Settling.{Faults, each, settle};
 ghost use Rattle.asl_resolve.specs.Calls.{terms};
+ghost use Rattle.asl_resolve.specs.Given.{AreSound, IsGiven, given};
+ghost use Rattle.asl_unify.specs.Matches.{behind};
 ghost use Rattle.asl_stdlib.specs.Findings.{solutions};
 ghost use Rattle.asl_stdlib.specs.Solving as spec;
 
@@ -13,13 +15,13 @@ use crate::lists::{length_row, member_row, my_name_row, nth_row, reverse_row, te
 use crate::named::{Action, named};
 use crate::numbers::{Extreme, best_row};
 use crate::texts::concat_row;
-use asl_resolve::actions::Inner;
+use asl_resolve::actions::{Given, Inner};
 use asl_term::sequence::{Seq, Starved};
 use asl_term::syntax::{Arg, ArgOf, Call, Term, Terms, Text};
 use asl_unify::limits::TermFault;
 use asl_unify::matching::Substs;
 use asl_unify::settle::{ArithFault, settle_term};
-use asl_unify::subst::Subst;
+use asl_unify::subst::{PairLists, Subst, extended};
 use asl_unify::tree::Tree;
 use std::alloc::Global;
 
@@ -63,8 +65,14 @@ fn settled(alloc: Global, args: &[Term]) -> Result<Terms, ArithFault>
 }
 
 /// The solutions of an action on its settled arguments.
-fn solved(alloc: Global, me: &Text, a: Action, args: &[Term], s: &Subst) -> Result<Substs, Starved>
-    ensures { IfOk result (λ r. r ≡ solutions (spec.found me.now a args.now) s.now) }
+fn solved(
+    alloc: Global,
+    me: &Text,
+    a: Action,
+    args: &[Term],
+    s: &Subst,
+) -> Result<PairLists, Starved>
+    ensures { IfOk result (λ r. behind s.now r ≡ solutions (spec.found me.now a args.now) s.now) }
 {
     match a {
         Action::Member => member_row(alloc, args, s),
@@ -86,8 +94,8 @@ fn solved_by(
     name: &Text,
     args: &[Term],
     s: &Subst,
-) -> Result<Substs, Starved>
-    ensures { IfOk result (λ r. r ≡ solutions (spec.found_by me.now (spec.named name.now) args.now) s.now) }
+) -> Result<PairLists, Starved>
+    ensures { IfOk result (λ r. behind s.now r ≡ solutions (spec.found_by me.now (spec.named name.now) args.now) s.now) }
 {
     match named(name) {
         Some(a) => solved(alloc, me, a, args, s),
@@ -102,24 +110,22 @@ fn on_settled(
     name: &Text,
     args: &[Term],
     s: &Subst,
-) -> Result<Inner, Starved>
-    ensures { IfOk result (λ r. r ≡ spec.on_settled me.now name.now s.now (each (map settle args.now))) }
+) -> Result<Given, Starved>
+    ensures { IfOk result (λ r. given s.now r ≡ spec.on_settled me.now name.now s.now (each (map settle args.now))) }
 {
     match settled(alloc, args) {
         Ok(args) => {
             let found = solved_by(alloc, me, name, args.as_slice(), s)?;
-            Ok(Inner::Sols(found))
+            Ok(Given::Sols(found))
         }
         Err(ArithFault::Memory) => Err(Starved),
-        Err(ArithFault::Arith { .. }) => Ok(Inner::Arith),
+        Err(ArithFault::Arith { .. }) => Ok(Given::Arith),
     }
 }
 
-/// What a call of an internal action comes to for the agent `me`: its solutions in order, `TermLimit` where one of
-/// the applied arguments passes the limits, else `Arith` where one of them does not settle. A name that is no
-/// action of these has no solutions. The results themselves have no limits.
-pub fn pure(alloc: Global, c: &Call, me: &Text, s: &Subst) -> Result<Inner, Starved>
-    ensures { IfOk result (λ r. r ≡ spec.solve me.now c.now.name (terms c.now.args) s.now) }
+/// What the action of a name comes to on its arguments: they are applied first.
+fn on_applied(alloc: Global, c: &Call, me: &Text, s: &Subst) -> Result<Given, Starved>
+    ensures { IfOk result (λ r. given s.now r ≡ spec.solve me.now c.now.name (terms c.now.args) s.now) }
 {
     match applied(alloc, c.args.as_slice(), s) {
         Ok(args) => {
@@ -127,6 +133,44 @@ pub fn pure(alloc: Global, c: &Call, me: &Text, s: &Subst) -> Result<Inner, Star
             Ok(r)
         }
         Err(TermFault::Memory) => Err(Starved),
-        Err(TermFault::TermLimit) => Ok(Inner::TermLimit),
+        Err(TermFault::TermLimit) => Ok(Given::TermLimit),
+    }
+}
+
+/// What a call of an internal action comes to for the agent `me`: its solutions in order, each as the pairs that it puts
+/// behind those of the substitution, `TermLimit` where one of the applied arguments passes the limits, else `Arith` where
+/// one of them does not settle. A name that is no action of these has no solutions. The results themselves have no limits.
+pub fn pure_pairs(alloc: Global, c: &Call, me: &Text, s: &Subst) -> Result<Given, Starved>
+    ensures value { IfOk result (λ r. given s.now r ≡ spec.solve me.now c.now.name (terms c.now.args) s.now) }
+    ensures sound { IfOk result (λ r. IsGiven s.now r) }
+{
+    // That its pairs are sound is known once they are read.
+    s.pairs();
+    let r = on_applied(alloc, c, me, s)?;
+    Ok(r)
+}
+
+/// The substitutions that the pairs of each solution make.
+fn whole(alloc: Global, found: PairLists, s: &Subst) -> Result<Substs, Starved>
+    requires { AreSound s.now found }
+    ensures { IfOk result (λ r. r ≡ behind s.now found) }
+{
+    let mut out = Seq::new(alloc);
+    let mut left = found;
+    left.reverse();
+    while let Some(more) = left.pop() {
+        out.push(extended(alloc, s, more)?)?;
+    }
+    Ok(out)
+}
+
+/// The same, with whole substitutions.
+pub fn pure(alloc: Global, c: &Call, me: &Text, s: &Subst) -> Result<Inner, Starved>
+    ensures { IfOk result (λ r. r ≡ spec.solve me.now c.now.name (terms c.now.args) s.now) }
+{
+    match pure_pairs(alloc, c, me, s)? {
+        Given::Sols(found) => Ok(Inner::Sols(whole(alloc, found, s)?)),
+        Given::Arith => Ok(Inner::Arith),
+        Given::TermLimit => Ok(Inner::TermLimit),
     }
 }

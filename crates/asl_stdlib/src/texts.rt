@@ -2,6 +2,7 @@
 
 ghost use Rattle.std.specs.Prelude.{◌≡◌, [], ◌++◌, IfOk, OnOk, map, flat_map, unwrap_or};
 ghost use Rattle.asl_term.specs.Trees.{all};
+ghost use Rattle.asl_unify.specs.Matches.{behind};
 ghost use Rattle.asl_stdlib.specs.Findings.{solutions};
 ghost use Rattle.asl_stdlib.specs.Kinds as kind;
 ghost use Rattle.asl_stdlib.specs.Rows as spec;
@@ -12,8 +13,7 @@ use asl_term::copying::copy_all;
 use asl_term::printing::print;
 use asl_term::sequence::{Seq, Starved};
 use asl_term::syntax::{ListingOf, Term, Terms, Text};
-use asl_unify::matching::Substs;
-use asl_unify::subst::Subst;
+use asl_unify::subst::{PairLists, Subst};
 use std::alloc::Global;
 
 fn all_lists(ts: &[Term]) -> bool
@@ -83,8 +83,8 @@ fn joined(alloc: Global, ts: &[Term]) -> Result<Term, Starved>
 }
 
 /// `.concat(A, .., R)`: three or more arguments, of which all but the last one are joined.
-pub fn concat_row(alloc: Global, args: &[Term], s: &Subst) -> Result<Substs, Starved>
-    ensures { IfOk result (λ r. r ≡ solutions (spec.concat_row args.now) s.now) }
+pub fn concat_row(alloc: Global, args: &[Term], s: &Subst) -> Result<PairLists, Starved>
+    ensures { IfOk result (λ r. behind s.now r ≡ solutions (spec.concat_row args.now) s.now) }
 {
     if args.len() < 3 {
         return Ok(Seq::new(alloc));

@@ -5,15 +5,15 @@ ghost use Rattle.std.specs.Prelude.{◌≤◌, ◌<◌, ◌^◌};
 use crate::asked::{Asked, number_at};
 use crate::out::Out;
 use crate::shapes::Does;
-use asl_beliefs::beliefs::Beliefs;
 use asl_reading::places::Raw;
-use asl_resolve::actions::{Actions, Inner};
+use asl_resolve::actions::{Actions, Given};
 use asl_resolve::all::all;
 use asl_resolve::answers::{Answer, Answers, Budgets};
 use asl_resolve::first::first;
 use asl_term::sequence::{Seq, Starved};
 use asl_term::syntax::{Call, Expr, Term};
-use asl_unify::subst::{Subst, copy_subst};
+use asl_unify::facts::Facts;
+use asl_unify::subst::Subst;
 use asl_unify::tree::Tree;
 use std::alloc::Global;
 
@@ -26,11 +26,13 @@ impl Actions for Twice {
 
     ghost solve = { λ t name args s. gives.Sols (s ∷ s ∷ []) };
 
-    fn solve_call(&self, alloc: Global, _call: &Call, subst: &Subst) -> Result<Inner, Starved> {
+    fn solve_call(&self, alloc: Global, _call: &Call, subst: &Subst) -> Result<Given, Starved> {
+        // That its pairs are sound is known once they are read.
+        subst.pairs();
         let mut found = Seq::new(alloc);
-        found.push(copy_subst(alloc, subst)?)?;
-        found.push(copy_subst(alloc, subst)?)?;
-        Ok(Inner::Sols(found))
+        found.push(Seq::new(alloc))?;
+        found.push(Seq::new(alloc))?;
+        Ok(Given::Sols(found))
     }
 }
 
@@ -55,7 +57,7 @@ fn put_shown(term: &Term, subst: &Subst, out: &mut Out) {
 }
 
 /// The first solution, and the next fresh number.
-fn put_first(base: &Beliefs, q: &Question<'_>, out: &mut Out)
+fn put_first<F: Facts>(base: &F, q: &Question<'_>, out: &mut Out)
     requires { q.now.budgets.tries < 2 ^ 32 }
 {
     match first(out.alloc, base, &Twice, q.asked, q.subst, 1, &q.budgets) {
@@ -73,7 +75,7 @@ fn put_first(base: &Beliefs, q: &Question<'_>, out: &mut Out)
 }
 
 /// All solutions.
-fn put_all(base: &Beliefs, q: &Question<'_>, out: &mut Out)
+fn put_all<F: Facts>(base: &F, q: &Question<'_>, out: &mut Out)
     requires { q.now.budgets.tries < 2 ^ 32 }
 {
     match all(out.alloc, base, &Twice, q.asked, q.subst, 1, &q.budgets) {
@@ -105,7 +107,7 @@ fn budgets_of(raws: &[Raw], out: &mut Out) -> Budgets
 }
 
 /// Searches for the first solution of the second argument, or for all of them; the first argument is what is shown of each.
-pub fn search(asked: &Asked<'_>, base: &Beliefs, out: &mut Out) {
+pub fn search<F: Facts>(asked: &Asked<'_>, base: &F, out: &mut Out) {
     let [Raw::Plain(shown), formula, ..] = asked.raws else {
         return out.refuse("an argument is no term");
     };

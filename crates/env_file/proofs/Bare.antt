@@ -37,7 +37,7 @@ use Rattle.env_file.specs.declared.statement.Part.{Part}
 use Rattle.env_file.specs.declared.statement.Part.TheVariants.{Holds, Denied, Related}
 use Rattle.env_file.specs.declared.statement.Effect.{Effect}
 use Rattle.env_file.specs.declared.statement.Statement.{Statement}
-use Rattle.env_file.specs.Statements.{ends_literal, opens_square, has_annots, before, ReadsGuard, no_guard, a_guard, ReadsEffect, a_change, no_change, ReadsEffects, only_effect, more_effects, States, a_fact, a_hide, a_use, an_act, Says}
+use Rattle.env_file.specs.Statements.{ends_literal, opens_square, has_annots, before, ReadsGuard, no_guard, a_guard, ReadsEffect, a_change, a_drop, no_change, ReadsEffects, only_effect, more_effects, States, a_fact, a_hide, a_use, an_act, Says}
 use Rattle.env_file.specs.Guards.{denied, both, parts_step, parts, guard_parts}
 use Rattle.env_file.specs.Bare.{are_none, bare_step, is_bare, is_bare_literal, is_bare_part, is_bare_effect, IsBare}
 
@@ -310,7 +310,9 @@ BareOne (Some e) = is_bare_effect e ≡ true
 
 bare_effect : {n : ℕ} {xs ys : List Lexeme} {o : Option Effect} → ReadsEffect n xs ys o → Free xs → BareOne o × Free ys
 unfolding BareOne
-bare_effect (a_change {x = x} {xs = xs} e r) f = bare_literal r (behind x xs f).1
+bare_effect (a_change {x = x} {add = true} {xs = xs} e r) f = bare_literal r (behind x xs f).1
+bare_effect (a_change {x = x} {add = false} {xs = xs} e r) f = bare_literal r (behind x xs f).1
+bare_effect (a_drop {x = x} {y = y} {xs = xs} e g) f = (refl, (behind y xs (behind x (y ∷ xs) f).1).1)
 bare_effect (no_change {xs = xs}) f = (tt, (behind (Truth true) xs f).1)
 
 before_bare : (o : Option Effect) (es : List Effect) → BareOne o → list_all is_bare_effect es ≡ true → list_all is_bare_effect (before o es) ≡ true

@@ -9,10 +9,10 @@ use Rattle.asl_meaning.specs.declared.lexeme.Lexeme.TheVariants.{Atom, Var, Trut
 use Rattle.asl_meaning.specs.declared.lexeme.Lexeme.TheVariants as lexeme
 use Rattle.asl_meaning.specs.Limits.{too_deep}
 use Rattle.asl_reading.proofs.Within.{Fits, within, within_literal}
-use Rattle.asl_grammar.specs.Sentences.{adds_of, ReadsFormula, a_formula, ReadsHead, a_head}
+use Rattle.asl_grammar.specs.Sentences.{adds_of, label_of, ReadsFormula, a_formula, ReadsHead, a_head}
 use Rattle.env_file.specs.declared.statement.Effect.{Effect}
 use Rattle.env_file.specs.declared.statement.Statement.{Statement}
-use Rattle.env_file.specs.Statements.{is_word, doer_of, ReadsGuard, no_guard, a_guard, ReadsEffect, a_change, no_change, ReadsEffects, only_effect, more_effects, States, a_fact, a_hide, a_use, an_act, Says}
+use Rattle.env_file.specs.Statements.{is_word, doer_of, ReadsGuard, no_guard, a_guard, ReadsEffect, a_change, a_drop, no_change, ReadsEffects, only_effect, more_effects, States, a_fact, a_hide, a_use, an_act, Says}
 
 formula_within : {m : ℕ} {xs ys : List Lexeme} {f : Expr} → ReadsFormula m xs ys f → (limit count room : ℕ) → limit ≡ count + room → too_deep limit count xs ≡ false → Fits limit count room (λ k. ReadsFormula k xs ys f) ys
 formula_within (a_formula r f) limit count room e h = let w = within r limit count room e h in (a_formula w.0 f, w.1)
@@ -35,6 +35,15 @@ doer_within lexeme.Mod xs by f limit count h = h
 doer_within (Truth b) xs by f limit count h = h
 doer_within _ xs by f limit count h = absurd cc
 
+label_within : (x : Lexeme) (xs : List Lexeme) (name : List ℕ) → label_of x ≡ Some name → (limit count : ℕ) → too_deep limit count (x ∷ xs) ≡ false → too_deep limit count xs ≡ false
+unfolding too_deep
+label_within (Atom text) xs name f limit count h = h
+label_within Not xs name f limit count h = h
+label_within lexeme.Div xs name f limit count h = h
+label_within lexeme.Mod xs name f limit count h = h
+label_within (Truth b) xs name f limit count h = h
+label_within _ xs name f limit count h = absurd cc
+
 adds_within : (x : Lexeme) (xs : List Lexeme) (b : Bool) → adds_of x ≡ Some b → (limit count : ℕ) → too_deep limit count (x ∷ xs) ≡ false → too_deep limit count xs ≡ false
 unfolding too_deep
 adds_within (Sign sign.Plus) xs b f limit count h = h
@@ -49,6 +58,7 @@ guard_within (a_guard r p) limit count room e h = let w = formula_within r limit
 effect_within : {m : ℕ} {xs ys : List Lexeme} {o : Option Effect} → ReadsEffect m xs ys o → (limit count room : ℕ) → limit ≡ count + room → too_deep limit count xs ≡ false → Fits limit count room (λ k. ReadsEffect k xs ys o) ys
 unfolding too_deep
 effect_within (a_change {x = x} {add = add} {xs = xs} f r) limit count room e h = let w = within_literal r limit count room e (adds_within x xs add f limit count h) in (a_change f w.0, w.1)
+effect_within (a_drop {x = x} {y = y} {xs = xs} {name = name} w f) limit count room e h = (a_drop w f, label_within y xs name f limit count (word_within (codes "drop") x (y ∷ xs) w limit count h))
 effect_within no_change limit count room e h = (no_change, h)
 
 effects_within : {m : ℕ} {xs ys : List Lexeme} {es : List Effect} → ReadsEffects m xs ys es → (limit count room : ℕ) → limit ≡ count + room → too_deep limit count xs ≡ false → Fits limit count room (λ k. ReadsEffects k xs ys es) ys

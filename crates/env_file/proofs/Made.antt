@@ -11,8 +11,9 @@ use Rattle.asl_meaning.specs.Holding.{Bounds, KeptLiteral, KeptExpr}
 use Rattle.asl_reading.proofs.Built.{Holds, ReadsLiteral}
 use Rattle.asl_grammar.specs.Sentences.{adds_of, label_of}
 use Rattle.asl_grammar.proofs.Made.{ReadsFormula, ReadsHead}
+use Rattle.env_file.specs.declared.statement.Effect.TheVariants.{Dropped}
 use Rattle.env_file.specs.declared.statement.Statement.TheVariants as statement
-use Rattle.env_file.specs.Statements.{is_word, is_variable, doer_of, has_annots, before as true_before}
+use Rattle.env_file.specs.Statements.{is_word, is_variable, doer_of, has_annots, before as true_before, changed}
 use Rattle.env_file.specs.Statements as grammar
 use Rattle.env_file.specs.Holding.{KeptGuard, KeptEffect, KeptEffects, KeptStatement, guard_of, effect_of, before, hold_guard, hold_effect, hold_effects, hold_statement, fact_of, act_with}
 use Rattle.env_file.proofs.Guarded.{parts_some}
@@ -44,7 +45,10 @@ module _ (bs : Bounds) where
 
   pub a_change : {n : ℕ} {x : Lexeme} {add : Bool} {xs ys : List Lexeme} {l : KeptLiteral} → adds_of x ≡ Some add → ReadsLiteral bs n xs ys l → ReadsEffect n (x ∷ xs) ys (Some (effect_of add l))
   a_change {add = add} f r =
-      record { value = Some (record { add = add; lit = r.value }); holds = grammar.a_change f r.holds; same = ap (λ (k : KeptEffect). Some k) (sym (effect_made bs add r.value) ∙ ap (effect_of add) r.same) }
+      record { value = Some (changed add r.value); holds = grammar.a_change f r.holds; same = ap (λ (k : KeptEffect). Some k) (sym (effect_made bs add r.value) ∙ ap (effect_of add) r.same) }
+
+  pub a_drop : {n : ℕ} {x y : Lexeme} {xs : List Lexeme} {name : List ℕ} → is_word (codes "drop") x ≡ true → label_of y ≡ Some name → ReadsEffect n (x ∷ y ∷ xs) xs (Some (Within (Dropped name)))
+  a_drop {name = name} e f = record { value = Some (Dropped name); holds = grammar.a_drop e f; same = refl }
 
   pub no_change : {n : ℕ} {xs : List Lexeme} → ReadsEffect n (Truth true ∷ xs) xs None
   no_change = record { value = None; holds = grammar.no_change; same = refl }

@@ -26,11 +26,12 @@ use Rattle.asl_grammar.specs.Sentences.{label_of, adds_of, ReadsFormula, a_formu
 use Rattle.asl_grammar.specs.Speaking.{as_condition, after_colon, first_of, formula_by, head_by}
 use Rattle.asl_grammar.proofs.Weighed.{plain_held}
 use Rattle.env_file.specs.declared.statement.Effect.{Effect}
+use Rattle.env_file.specs.declared.statement.Effect.TheVariants.{Dropped}
 use Rattle.env_file.specs.declared.statement.Statement.{Statement}
 use Rattle.env_file.specs.declared.statement.Statement.TheVariants as statement
-use Rattle.env_file.specs.Statements.{is_word, is_variable, doer_of, has_annots, ReadsGuard, no_guard, a_guard, ReadsEffect, a_change, no_change, ReadsEffects, only_effect, more_effects, States, a_fact, a_hide, a_use, an_act, Says}
+use Rattle.env_file.specs.Statements.{is_word, is_variable, doer_of, has_annots, ReadsGuard, no_guard, a_guard, ReadsEffect, a_change, a_drop, no_change, ReadsEffects, only_effect, more_effects, States, a_fact, a_hide, a_use, an_act, Says}
 use Rattle.env_file.specs.Holding.{KeptGuard, KeptEffect, KeptEffects, KeptStatement, guard_of, effect_of, before, hold_guard, hold_effect, hold_effects, hold_statement, fact_of, act_with}
-use Rattle.env_file.specs.Speaking.{after_word, after_right_arrow, is_name, starts_with_name, before_name, when_last, hide_of, use_of, named_by, doer_by, nothing_by, as_guard, effect_list_by, some_guard_by, guard_by, change_by, effect_by, effects_by, act_of, with_effects_by, with_guard_by, act_by, fact_by, act_or_fact, use_or_other, bare_by, statement_by}
+use Rattle.env_file.specs.Speaking.{after_word, after_right_arrow, is_name, starts_with_name, before_name, when_last, hide_of, use_of, named_by, doer_by, nothing_by, dropped_by, word_by, as_guard, effect_list_by, some_guard_by, guard_by, change_by, effect_by, effects_by, act_of, with_effects_by, with_guard_by, act_by, fact_by, act_or_fact, use_or_other, bare_by, statement_by}
 use Rattle.env_file.proofs.Guarded.{parts_told}
 use Rattle.env_file.proofs.Weighed.{guard_there as guard_kept, effect_made, before_made, fact_made, hide_small, use_small, act_made}
 
@@ -89,8 +90,13 @@ word_stops : (text : List ℕ) (x : Lexeme) (us : List Lexeme) → is_word text 
 word_stops text (Atom name) us e = (refl, refl)
 word_stops text _ us e = absurd cc
 
+word_no_sign : (text : List ℕ) (x : Lexeme) → is_word text x ≡ true → adds_of x ≡ None
+word_no_sign text (Atom name) e = refl
+word_no_sign text _ e = absurd cc
+
 pub effect_shorter : {n : ℕ} {xs ys : List Lexeme} {o : Option Effect} → ReadsEffect n xs ys o → length ys < length xs
 effect_shorter (a_change f r) = omega (arith, shorter_literal r)
+effect_shorter (a_drop e f) = omega arith
 effect_shorter no_change = omega arith
 
 -- ---- parts of clauses
@@ -124,9 +130,13 @@ module _ (bs : Bounds) where
   effect_there : {n : ℕ} {xs ys : List Lexeme} {o : Option Effect} → ReadsEffect n xs ys o → StopsPrimary ys → effect_by bs n xs ≡ Some (option_map (hold_effect bs) o, ys)
   unfolding effect_by change_by
   effect_there {n} {ys = ys} (a_change {x = x} {add = add} {xs = xs} {l = l} f r) s =
-      ap (λ (p : Option Bool). option_map_or (change_by bs n) (option_map {T = Bool} {U = Bool × List Lexeme} (λ a. (a, xs)) p) (nothing_by (x ∷ xs))) f
+      ap (λ (p : Option Bool). option_map_or (change_by bs n) (option_map {T = Bool} {U = Bool × List Lexeme} (λ a. (a, xs)) p) (word_by (x ∷ xs))) f
       ∙ ap (λ (p : Front KeptLiteral). p >>= λ l. Some (Some (effect_of add l.0), l.1)) (reads_literal bs n xs ys l r s)
       ∙ ap (λ (k : KeptEffect). Some (Some k, ys)) (effect_made bs add l)
+  effect_there {n} {ys = ys} (a_drop {x = x} {y = y} {name = name} e f) s =
+      ap (λ (p : Option Bool). option_map_or (change_by bs n) (option_map {T = Bool} {U = Bool × List Lexeme} (λ a. (a, y ∷ ys)) p) (word_by (x ∷ y ∷ ys))) (word_no_sign (codes "drop") x e)
+      ∙ ap (λ (o : Option (List Lexeme)). option_map_or dropped_by o (nothing_by (x ∷ y ∷ ys))) (word_there (codes "drop") x (y ∷ ys) e)
+      ∙ ap (λ (o : Option (List ℕ)). option_map {T = List ℕ} {U = List ℕ × List Lexeme} (λ a. (a, ys)) o >>= λ z. Some (Some (Within (Dropped z.0)), z.1)) f
   effect_there no_change s = refl
 
   list_step : (n k : ℕ) (xs : List Lexeme) (x : Option KeptEffect) (us : List Lexeme) (o : Option (List Lexeme)) → effect_by bs n xs ≡ Some (x, us) → after_comma us ≡ o → effect_list_by (effect_by bs n) (suc k) xs ≡ option_map_or {U = Front KeptEffects} (λ us. effect_list_by (effect_by bs n) k us >>= λ r. Some (before x r.0, r.1)) o (Some (before x (Within []), us))

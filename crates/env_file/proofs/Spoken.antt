@@ -20,11 +20,12 @@ use Rattle.asl_grammar.specs.Sentences.{label_of, adds_of}
 use Rattle.asl_grammar.specs.Sentences as grammar
 use Rattle.asl_grammar.specs.Speaking.{after_colon, is_last, first_of, formula_by, head_by}
 use Rattle.asl_grammar.proofs.Made.{ReadsFormula, a_formula, ReadsHead, a_head}
+use Rattle.env_file.specs.declared.statement.Effect.TheVariants.{Dropped}
 use Rattle.env_file.specs.declared.statement.Statement.{Statement}
 use Rattle.env_file.specs.Statements.{is_word, is_variable, doer_of, has_annots}
 use Rattle.env_file.specs.Holding.{KeptGuard, KeptEffect, KeptEffects, KeptStatement, guard_of, effect_of, before, fact_of, act_with}
-use Rattle.env_file.specs.Speaking.{after_word, after_right_arrow, after_true, is_name, starts_with_name, before_name, when_last, hide_of, use_of, named_by, doer_by, nothing_by, effect_list_by, guard_by, change_by, effect_by, effects_by, with_effects_by, with_guard_by, act_by, fact_by, act_or_fact, use_or_other, bare_by, statement_by}
-use Rattle.env_file.proofs.Made.{ReadsGuard, no_guard, a_guard, ReadsEffect, a_change, no_change, ReadsEffects, only_effect, more_effects, States, a_fact, a_hide, a_use, an_act, Says, says}
+use Rattle.env_file.specs.Speaking.{after_word, after_right_arrow, after_true, is_name, starts_with_name, before_name, when_last, hide_of, use_of, named_by, doer_by, nothing_by, dropped_by, word_by, effect_list_by, guard_by, change_by, effect_by, effects_by, with_effects_by, with_guard_by, act_by, fact_by, act_or_fact, use_or_other, bare_by, statement_by}
+use Rattle.env_file.proofs.Made.{ReadsGuard, no_guard, a_guard, ReadsEffect, a_change, a_drop, no_change, ReadsEffects, only_effect, more_effects, States, a_fact, a_hide, a_use, an_act, Says, says}
 
 -- ---- single tokens
 
@@ -146,10 +147,20 @@ module _ (bs : Bounds) where
   unfolding effect_by change_by
   sound_effect n xs ys o e = go (first_of adds_of xs) refl e
     where
-      go : (d : Front Bool) → first_of adds_of xs ≡ d → option_map_or (change_by bs n) d (nothing_by xs) ≡ Some (o, ys) → ReadsEffect bs n xs ys o
-      go None f e =
+      word : (d : Option (List Lexeme)) → after_word (codes "drop") xs ≡ d → option_map_or dropped_by d (nothing_by xs) ≡ Some (o, ys) → ReadsEffect bs n xs ys o
+      word (Some us) f e =
+          let w = word_only (codes "drop") xs us f in
+          let a = bind_some (first_of label_of us) _ (o, ys) e in
+          let b = first_begins label_of us a.0.0 a.0.1 a.1 in
+          let whole = w.whole ∙ ap (λ (z : List Lexeme). w.first ∷ z) b.1 in
+          let part = a_drop bs w.is b.2 in
+          moved (λ z w. ReadsEffect bs n xs z w) (Some (Within (Dropped a.0.0))) a.0.1 o ys a.2 (subst (λ (z : List Lexeme). ReadsEffect bs n z a.0.1 (Some (Within (Dropped a.0.0)))) (sym whole) part)
+      word None f e =
           let a = bind_some (after_true xs) _ (o, ys) e in
           moved (λ z w. ReadsEffect bs n xs z w) None a.0 o ys a.2 (subst (λ (z : List Lexeme). ReadsEffect bs n z a.0 None) (sym (true_only xs a.0 a.1)) (no_change bs))
+
+      go : (d : Front Bool) → first_of adds_of xs ≡ d → option_map_or (change_by bs n) d (word_by xs) ≡ Some (o, ys) → ReadsEffect bs n xs ys o
+      go None f e = word (after_word (codes "drop") xs) refl e
       go (Some d) f e =
           let a = bind_some (literal_by bs (inside bs n) d.1) _ (o, ys) e in
           let b = first_begins adds_of xs d.0 d.1 f in

@@ -1,7 +1,7 @@
 -- No effect of an act keeps a variable, where its variables are bound.
 use Rattle.std.proofs.Common.{◌≡◌, ℕ, Bool, true, false, ◌&&◌, cond, List, [], ◌∷◌, ◌++◌, Option, Some, None, Result, Ok, Err, refl, ap, sym, ◌∙◌, subst}
-use Rattle.std.specs.Bool.{beq}
 use Rattle.std.specs.List.{AllByRecursion, list_all, flat_map}
+use Rattle.std.specs.Option.{option_to_list}
 use Rattle.asl_lexer.specs.declared.token.Tok.{Tok}
 use Rattle.asl_term.specs.declared.syntax.Var.{Var}
 use Rattle.asl_term.specs.declared.syntax.LiteralOf.{LiteralOf}
@@ -32,12 +32,13 @@ use Rattle.env_file.specs.declared.statement.Part.TheVariants.{Holds, Denied, Re
 use Rattle.env_file.specs.declared.fault.WorldFault.{WorldFault}
 use Rattle.env_file.specs.declared.fault.WorldFault.TheVariants.{Clause, UnknownArtifact}
 use Rattle.env_file.specs.declared.statement.Effect.{Effect}
+use Rattle.env_file.specs.declared.statement.Effect.TheVariants.{Added, Deleted, Dropped}
 use Rattle.env_file.specs.declared.statement.WrittenAct.{WrittenAct}
 use Rattle.env_file.specs.declared.statement.Statement.{Statement}
 use Rattle.env_file.specs.declared.statement.Statement.TheVariants as statement
-use Rattle.env_file.specs.Binding.{is_bound, layer_variable, variable_of, target, related, literal_variables, with_part, with_parts, first_free, effect_variables, bound_at_first, unbound}
+use Rattle.env_file.specs.Binding.{is_bound, layer_variable, variable_of, target, related, literal_variables, with_part, with_parts, first_free, variables_in, effect_variables, bound_at_first, unbound}
 use Rattle.env_file.specs.Guards.{expr_of, exprs_of, said_parts}
-use Rattle.env_file.specs.Worlds.{changes, act_of, has_name, with_use, bound_made, made, Answers, all_read, is_read}
+use Rattle.env_file.specs.Worlds.{change, changes, act_of, has_name, with_use, bound_made, made, Answers, all_read, is_read}
 use Rattle.env_file.specs.Laws.{LeavesNone, BoundEffects, GroundEffects}
 use Rattle.env_file.proofs.Values.{both_true, both_are, all_parts, all_joined, has_value, among_all, all_variables}
 use Rattle.env_file.proofs.Known.{Known, At, all_append, all_flat, all_weaker, each_passes, holds_known, denied_known, relation_at, equal_known, entered_known, effect_ready}
@@ -127,21 +128,37 @@ none_free bound (v ∷ vs) e = go (none_free bound vs) (is_bound bound v) refl e
     go more true h e = both_are (is_bound bound v) (list_all (is_bound bound) vs) h (more e)
     go more false h e = absurd cc
 
+-- of the literal of an effect, where it has one
+InEffect : (LiteralOf Term → Type 0) → Effect → Type 0
+InEffect P (Added l) = P l
+InEffect P (Deleted l) = P l
+InEffect P (Dropped name) = Unit {0}
+
+effect_known : (e : Effect) (bound : List Var) (s : List Pair) → Known s bound → list_all (is_bound bound) (variables_in e) ≡ true → InEffect (λ l. effect s l ≡ ready s l) e
+unfolding InEffect
+effect_known (Added l) bound s k h = effect_ready s l (bound_term s bound (term.Lit l) k h)
+effect_known (Deleted l) bound s k h = effect_ready s l (bound_term s bound (term.Lit l) k h)
+effect_known (Dropped name) bound s k h = tt
+
 effects_known : (es : List Effect) (bound : List Var) (s : List Pair) → Known s bound → list_all (is_bound bound) (effect_variables es) ≡ true
-    → AllByRecursion (λ e. effect s e.lit ≡ ready s e.lit) es
+    → AllByRecursion (InEffect (λ l. effect s l ≡ ready s l)) es
 effects_known [] bound s k h = tt
 effects_known (e ∷ es) bound s k h =
-    let parts = all_parts (is_bound bound) (literal_variables e.lit) (effect_variables es) h in
-    (effect_ready s e.lit (bound_term s bound (term.Lit e.lit) k parts.0), effects_known es bound s k parts.1)
+    let parts = all_parts (is_bound bound) (variables_in e) (effect_variables es) h in
+    (effect_known e bound s k parts.0, effects_known es bound s k parts.1)
 
 -- those that are added, or taken away
-changes_all : (P : LiteralOf Term → Type 0) (add : Bool) (es : List Effect) → AllByRecursion (λ e. P e.lit) es → AllByRecursion P (changes add es)
+change_all : (P : LiteralOf Term → Type 0) (add : Bool) (e : Effect) → InEffect P e → AllByRecursion P (option_to_list (change add e))
+unfolding InEffect
+change_all P true (Added l) a = (a, tt)
+change_all P false (Added l) a = tt
+change_all P true (Deleted l) a = tt
+change_all P false (Deleted l) a = (a, tt)
+change_all P add (Dropped name) a = tt
+
+changes_all : (P : LiteralOf Term → Type 0) (add : Bool) (es : List Effect) → AllByRecursion (InEffect P) es → AllByRecursion P (changes add es)
 changes_all P add [] a = tt
-changes_all P add (e ∷ es) a = go (beq e.add add) (changes_all P add es a.1)
-  where
-    go : (b : Bool) → AllByRecursion P (changes add es) → AllByRecursion P (cond b (e.lit ∷ changes add es) (changes add es))
-    go true more = (a.0, more)
-    go false more = more
+changes_all P add (e ∷ es) a = all_append P (option_to_list (change add e)) (changes add es) (change_all P add e a.0) (changes_all P add es a.1)
 
 pub bound_effects : BoundEffects
 bound_effects a ps free facts agent action start ground asked entered =

@@ -14,9 +14,10 @@ use Rattle.asl_meaning.specs.Holding.{Bounds, limited, unlimited, bounded, fits_
 use Rattle.asl_meaning.proofs.Options.{some_is}
 use Rattle.asl_meaning.proofs.Past.{falls, all_terms, never, literal_past}
 use Rattle.env_file.specs.declared.statement.Effect.{Effect}
+use Rattle.env_file.specs.declared.statement.Effect.TheVariants.{Added, Deleted, Dropped}
 use Rattle.env_file.specs.declared.statement.Statement.{Statement}
 use Rattle.env_file.specs.declared.statement.Statement.TheVariants as statement
-use Rattle.env_file.specs.Statements.{before as true_before}
+use Rattle.env_file.specs.Statements.{before as true_before, changed}
 use Rattle.env_file.specs.Limits.{within_guard, within_effect, is_within}
 use Rattle.env_file.specs.Holding.{KeptGuard, KeptEffect, KeptEffects, KeptStatement, guard_of, effect_of, before, fits_guard, hold_guard, is_small_effect, hold_effect, hold_effects, hold_statement, fact_of, act_with}
 
@@ -25,17 +26,27 @@ use Rattle.env_file.specs.Holding.{KeptGuard, KeptEffect, KeptEffects, KeptState
 small_literal : (l : LiteralOf Term) → has_small_parts unlimited l ≡ true
 small_literal l = and_from (list_all (fits_term unlimited) l.args) (list_all (fits_term unlimited) l.annots) (all_terms l.args) (all_terms l.annots)
 
+effect_past : (f : Effect) → is_small_effect limited f ≡ false → within_effect f ≡ false
+effect_past (Added l) e = literal_past limited l e
+effect_past (Deleted l) e = literal_past limited l e
+effect_past (Dropped name) e = absurd cc
+
 effects_past : (es : List Effect) → list_all (is_small_effect limited) es ≡ false → list_all within_effect es ≡ false
 effects_past [] e = absurd cc
 effects_past (f ∷ es) e =
     elim (and_cases (is_small_effect limited f) (list_all (is_small_effect limited) es) e) [
-      | inl h ↦ and_left (within_effect f) (list_all within_effect es) (literal_past limited f.lit h)
+      | inl h ↦ and_left (within_effect f) (list_all within_effect es) (effect_past f h)
       | inr h ↦ and_right (within_effect f) (list_all within_effect es) (effects_past es h)
     ]
 
+small_effect : (f : Effect) → is_small_effect unlimited f ≡ true
+small_effect (Added l) = small_literal l
+small_effect (Deleted l) = small_literal l
+small_effect (Dropped name) = refl
+
 small_effects : (es : List Effect) → list_all (is_small_effect unlimited) es ≡ true
 small_effects [] = refl
-small_effects (f ∷ es) = and_from (is_small_effect unlimited f) (list_all (is_small_effect unlimited) es) (small_literal f.lit) (small_effects es)
+small_effects (f ∷ es) = and_from (is_small_effect unlimited f) (list_all (is_small_effect unlimited) es) (small_effect f) (small_effects es)
 
 all_past : (bs : Bounds) (es : List Effect) → list_all (is_small_effect bs) es ≡ false → bounded bs (list_all within_effect es) ≡ false
 all_past limited es e = effects_past es e
@@ -66,12 +77,13 @@ module _ (bs : Bounds) where
       go true f = (refl, some_is (hold_guard bs (Some x)) g f)
       go false f = absurd cc
 
-  pub effect_made : (add : Bool) (l : LiteralOf Term) → effect_of add (hold_literal bs l) ≡ hold_effect bs (record { add = add; lit = l })
-  effect_made add l = go (has_small_parts bs l)
-    where
-      go : (b : Bool) → effect_of add (keep_if b l (literal_outline (is_action l) (is_plain_literal l))) ≡ keep_if b (record { add = add; lit = l }) tt
-      go true = refl
-      go false = refl
+  change_made : (add b : Bool) (l : LiteralOf Term) → effect_of add (keep_if b l (literal_outline (is_action l) (is_plain_literal l))) ≡ keep_if b (changed add l) tt
+  change_made add true l = refl
+  change_made add false l = refl
+
+  pub effect_made : (add : Bool) (l : LiteralOf Term) → effect_of add (hold_literal bs l) ≡ hold_effect bs (changed add l)
+  effect_made true l = change_made true (has_small_parts bs l) l
+  effect_made false l = change_made false (has_small_parts bs l) l
 
   before_some : (f : Effect) (es : List Effect) (b c : Bool) → before (Some (keep_if b f tt)) (keep_if c es tt) ≡ keep_if (b && c) (f ∷ es) tt
   before_some f es true true = refl

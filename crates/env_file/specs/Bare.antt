@@ -11,6 +11,7 @@ use Rattle.asl_term.specs.Trees.{all, or_true}
 use Rattle.env_file.specs.declared.statement.Part.{Part}
 use Rattle.env_file.specs.declared.statement.Part.TheVariants.{Holds, Denied, Related}
 use Rattle.env_file.specs.declared.statement.Effect.{Effect}
+use Rattle.env_file.specs.declared.statement.Effect.TheVariants.{Added, Deleted, Dropped}
 use Rattle.env_file.specs.declared.statement.Statement.{Statement}
 use Rattle.env_file.specs.declared.statement.Statement.TheVariants as statement
 use Rattle.env_file.specs.Guards.{guard_parts}
@@ -38,7 +39,9 @@ is_bare_part (Denied l) = is_bare_literal l
 is_bare_part (Related r) = is_bare r.left && is_bare r.right
 
 abbrev pub is_bare_effect : Effect → Bool
-is_bare_effect e = is_bare_literal e.lit
+is_bare_effect (Added l) = is_bare_literal l
+is_bare_effect (Deleted l) = is_bare_literal l
+is_bare_effect (Dropped name) = true
 
 -- no literal of a statement has annotations
 abbrev pub IsBare : Statement → Type 0

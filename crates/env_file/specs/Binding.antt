@@ -17,6 +17,7 @@ use Rattle.asl_term.specs.Variables.{variables}
 use Rattle.env_file.specs.declared.statement.Part.{Part}
 use Rattle.env_file.specs.declared.statement.Part.TheVariants.{Holds, Denied, Related}
 use Rattle.env_file.specs.declared.statement.Effect.{Effect}
+use Rattle.env_file.specs.declared.statement.Effect.TheVariants.{Added, Deleted, Dropped}
 use Rattle.env_file.specs.declared.statement.WrittenAct.{WrittenAct}
 
 abbrev pub literal_variables : LiteralOf Term → List Var
@@ -57,8 +58,13 @@ abbrev pub first_free : List Var → List Var → Option (List ℕ)
 first_free bound [] = None
 first_free bound (v ∷ vs) = if is_bound bound v then first_free bound vs else Some v.name
 
+abbrev pub variables_in : Effect → List Var
+variables_in (Added l) = literal_variables l
+variables_in (Deleted l) = literal_variables l
+variables_in (Dropped name) = []
+
 abbrev pub effect_variables : List Effect → List Var
-effect_variables = flat_map (λ e. literal_variables e.lit)
+effect_variables = flat_map variables_in
 
 abbrev pub bound_at_first : WrittenAct → List Var
 bound_at_first a = literal_variables a.head ++ variables a.by

@@ -9,9 +9,11 @@ use Rattle.asl_meaning.specs.declared.bounded.Bounded.TheVariants.{Within, Past}
 use Rattle.asl_meaning.specs.Conjuncts.{has_parts}
 use Rattle.asl_meaning.specs.Holding.{Bounds, bounded, fits_expr, has_small_parts, keep_if, KeptLiteral, KeptExpr}
 use Rattle.env_file.specs.declared.statement.Effect.{Effect}
+use Rattle.env_file.specs.declared.statement.Effect.TheVariants.{Added, Deleted, Dropped}
 use Rattle.env_file.specs.declared.statement.Statement.{Statement}
 use Rattle.env_file.specs.declared.statement.Statement.TheVariants as statement
 use Rattle.env_file.specs.Limits.{is_within}
+use Rattle.env_file.specs.Statements.{changed}
 
 abbrev pub KeptGuard : Type 0
 KeptGuard = Bounded (Option Expr) (Unit {0})
@@ -33,7 +35,7 @@ guard_of (Within e) = if has_parts e then Some (Within (Some e)) else None
 guard_of (Past parts) = if parts then Some (Past tt) else None
 
 abbrev pub effect_of : Bool → KeptLiteral → KeptEffect
-effect_of add (Within l) = Within (record { add = add; lit = l })
+effect_of add (Within l) = Within (changed add l)
 effect_of add (Past o) = Past tt
 
 -- an effect before others, unless it is `true`
@@ -60,7 +62,9 @@ module _ (bs : Bounds) where
 
   -- an effect while each part of its literal is within the limits
   abbrev pub is_small_effect : Effect → Bool
-  is_small_effect e = has_small_parts bs e.lit
+  is_small_effect (Added l) = has_small_parts bs l
+  is_small_effect (Deleted l) = has_small_parts bs l
+  is_small_effect (Dropped name) = true
 
   abbrev pub hold_effect : Effect → KeptEffect
   hold_effect e = keep_if (is_small_effect e) e tt

@@ -4,6 +4,7 @@ use Rattle.std.specs.List.{list_all}
 use Rattle.asl_term.specs.declared.syntax.Expr.{Expr}
 use Rattle.asl_meaning.specs.Limits.{within_literal, within_expr}
 use Rattle.env_file.specs.declared.statement.Effect.{Effect}
+use Rattle.env_file.specs.declared.statement.Effect.TheVariants.{Added, Deleted, Dropped}
 use Rattle.env_file.specs.declared.statement.Statement.{Statement}
 use Rattle.env_file.specs.declared.statement.Statement.TheVariants as statement
 
@@ -12,7 +13,9 @@ within_guard None = true
 within_guard (Some e) = within_expr e
 
 abbrev pub within_effect : Effect → Bool
-within_effect e = within_literal e.lit
+within_effect (Added l) = within_literal l
+within_effect (Deleted l) = within_literal l
+within_effect (Dropped name) = true
 
 -- each tree is within the limits
 abbrev pub is_within : Statement → Bool

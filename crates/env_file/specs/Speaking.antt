@@ -13,6 +13,7 @@ use Rattle.asl_meaning.specs.Leaves.{Front, after_comma}
 use Rattle.asl_reading.specs.Reading.{literal_by, inside}
 use Rattle.asl_grammar.specs.Sentences.{label_of, adds_of}
 use Rattle.asl_grammar.specs.Speaking.{after_colon, is_last, first_of, formula_by, head_by}
+use Rattle.env_file.specs.declared.statement.Effect.TheVariants.{Dropped}
 use Rattle.env_file.specs.declared.statement.Statement.{Statement}
 use Rattle.env_file.specs.declared.statement.Statement.TheVariants as statement
 use Rattle.env_file.specs.Statements.{is_word, is_variable, doer_of, has_annots}
@@ -64,6 +65,13 @@ doer_by ts = after_word (codes "by") ts >>= first_of doer_of
 abbrev pub nothing_by : List Lexeme → Front (Option KeptEffect)
 nothing_by ts = after_true ts >>= λ us. Some (None, us)
 
+abbrev pub dropped_by : List Lexeme → Front (Option KeptEffect)
+dropped_by ts = first_of label_of ts >>= λ x. Some (Some (Within (Dropped x.0)), x.1)
+
+-- an effect without a sign
+abbrev pub word_by : List Lexeme → Front (Option KeptEffect)
+word_by ts = option_map_or dropped_by (after_word (codes "drop") ts) (nothing_by ts)
+
 abbrev pub as_guard : Front KeptExpr → Front KeptGuard
 as_guard found = found >>= λ e. guard_of e.0 >>= λ g. Some (g, e.1)
 
@@ -84,7 +92,7 @@ module _ (bs : Bounds) where
   change_by n a = literal_by bs (inside bs n) a.1 >>= λ l. Some (Some (effect_of a.0 l.0), l.1)
 
   unfoldable pub effect_by : ℕ → List Lexeme → Front (Option KeptEffect)
-  effect_by n ts = option_map_or (change_by n) (first_of adds_of ts) (nothing_by ts)
+  effect_by n ts = option_map_or (change_by n) (first_of adds_of ts) (word_by ts)
 
   abbrev pub effects_by : ℕ → List Lexeme → Front KeptEffects
   effects_by n ts = effect_list_by (effect_by n) (length ts) ts

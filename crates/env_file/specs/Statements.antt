@@ -16,6 +16,7 @@ use Rattle.asl_reading.specs.Grammar.{ReadsLiteral}
 use Rattle.asl_grammar.specs.Sentences.{label_of, adds_of, ReadsFormula, ReadsHead}
 use Rattle.env_file.specs.declared.statement.Part.{Part}
 use Rattle.env_file.specs.declared.statement.Effect.{Effect}
+use Rattle.env_file.specs.declared.statement.Effect.TheVariants.{Added, Deleted, Dropped}
 use Rattle.env_file.specs.declared.statement.Statement.{Statement}
 use Rattle.env_file.specs.declared.statement.Statement.TheVariants as statement
 use Rattle.env_file.specs.Guards.{parts}
@@ -63,10 +64,16 @@ pub data ReadsGuard : ℕ → List Lexeme → List Lexeme → Option Expr → Ty
   a_guard : {n : ℕ} {xs ys : List Lexeme} {e : Expr} {ps : List Part} → ReadsFormula n xs ys e → parts e ≡ Some ps
       → ReadsGuard n (Sign sign.Colon ∷ xs) ys (Some e)
 
--- an effect, None for `true`, which adds nothing
+abbrev pub changed : Bool → LiteralOf Term → Effect
+changed true l = Added l
+changed false l = Deleted l
+
+-- an effect, None for `true`, which does nothing; any word may be dropped
 pub data ReadsEffect : ℕ → List Lexeme → List Lexeme → Option Effect → Type 0 where
   a_change : {n : ℕ} {x : Lexeme} {add : Bool} {xs ys : List Lexeme} {l : LiteralOf Term} → adds_of x ≡ Some add → ReadsLiteral n xs ys l
-      → ReadsEffect n (x ∷ xs) ys (Some (record { add = add; lit = l }))
+      → ReadsEffect n (x ∷ xs) ys (Some (changed add l))
+  a_drop : {n : ℕ} {x y : Lexeme} {xs : List Lexeme} {name : List ℕ} → is_word (codes "drop") x ≡ true → label_of y ≡ Some name
+      → ReadsEffect n (x ∷ y ∷ xs) xs (Some (Dropped name))
   no_change : {n : ℕ} {xs : List Lexeme} → ReadsEffect n (Truth true ∷ xs) xs None
 
 abbrev pub before : Option Effect → List Effect → List Effect

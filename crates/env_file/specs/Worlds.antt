@@ -1,7 +1,7 @@
 -- A world file: what its clauses say together, and which is refused first.
 use Rattle.std.specs.Prelude.{◌≡◌, ℕ, suc, Bool, true, false, ◌&&◌, List, [], ◌∷◌, ◌++◌, Option, Some, None, Result, Ok, Err, if◌then◌else◌}
-use Rattle.std.specs.List.{list_any, list_all}
-use Rattle.std.specs.Bool.{beq}
+use Rattle.std.specs.List.{flat_map, list_any, list_all}
+use Rattle.std.specs.Option.{option_to_list}
 use Rattle.std.specs.Str.{bytes_eq}
 use Rattle.asl_lexer.specs.declared.token.Tok.{Tok}
 use Rattle.asl_lexer.specs.Words.{pieces, is_end}
@@ -20,6 +20,7 @@ use Rattle.env_file.specs.declared.fault.WorldFault.{WorldFault}
 use Rattle.env_file.specs.declared.fault.WorldFault.TheVariants.{Memory, Lex, Clause, Limit, Unbound, UnknownArtifact}
 use Rattle.env_file.specs.declared.statement.Part.{Part}
 use Rattle.env_file.specs.declared.statement.Effect.{Effect}
+use Rattle.env_file.specs.declared.statement.Effect.TheVariants.{Added, Deleted, Dropped}
 use Rattle.env_file.specs.declared.statement.WrittenAct.{WrittenAct}
 use Rattle.env_file.specs.declared.statement.Statement.{Statement}
 use Rattle.env_file.specs.declared.statement.Statement.TheVariants as statement
@@ -34,13 +35,35 @@ use Rattle.env_file.specs.Binding.{unbound}
 abbrev pub with_fact : List (LiteralOf Term) → LiteralOf Term → List (LiteralOf Term)
 with_fact facts l = if is_fact facts l then facts else facts ++ l ∷ []
 
+-- the literal that an effect adds, or takes away
+abbrev pub change : Bool → Effect → Option (LiteralOf Term)
+change add (Added l) = if add then Some l else None
+change add (Deleted l) = if add then None else Some l
+change add (Dropped name) = None
+
 -- what is added, or taken away, in order
 abbrev pub changes : Bool → List Effect → List (LiteralOf Term)
-changes add [] = []
-changes add (e ∷ es) = if beq e.add add then e.lit ∷ changes add es else changes add es
+changes add = flat_map (λ e. option_to_list (change add e))
+
+abbrev pub with_drop : List (List ℕ) → Effect → List (List ℕ)
+with_drop names (Added l) = names
+with_drop names (Deleted l) = names
+with_drop names (Dropped name) = with_name names name
+
+-- the names and those of what is dropped, in order, each once
+abbrev pub drops : List (List ℕ) → List Effect → List (List ℕ)
+drops names [] = names
+drops names (e ∷ es) = drops (with_drop names e) es
 
 abbrev pub act_of : WrittenAct → List Part → Act
-act_of a ps = record { head = a.head; by = a.by; guard = exprs_of ps; dels = changes false a.effects; adds = changes true a.effects }
+act_of a ps = record {
+  head = a.head;
+  by = a.by;
+  guard = exprs_of ps;
+  dels = changes false a.effects;
+  adds = changes true a.effects;
+  drops = drops [] a.effects;
+}
 
 -- ---- one clause more
 

@@ -119,6 +119,16 @@ fn first_free(alloc: Global, bound: &[Var], vs: &[Var]) -> Result<Option<Text>, 
     Ok(None)
 }
 
+fn with_effect(alloc: Global, bound: Vars, e: &Effect) -> Result<Vars, Starved>
+    ensures { IfOk result (λ vs. vs ≡ bound ++ spec.variables_in e.now) }
+{
+    match e {
+        Effect::Added(l) => with_literal(alloc, bound, l),
+        Effect::Deleted(l) => with_literal(alloc, bound, l),
+        Effect::Dropped(_) => Ok(bound),
+    }
+}
+
 #[tactic(auto, using(crate::proofs::Lists::flat_more, crate::proofs::Lists::flat_all))]
 fn effect_variables(alloc: Global, es: &[Effect]) -> Result<Vars, Starved>
     ensures { IfOk result (λ vs. vs ≡ spec.effect_variables es.now) }
@@ -126,7 +136,7 @@ fn effect_variables(alloc: Global, es: &[Effect]) -> Result<Vars, Starved>
     let mut all: Vars = Seq::new(alloc);
     let mut rest = es;
     'effects: while let Some((e, after)) = rest.split_first() {
-        all = with_literal(alloc, all, &e.lit)?;
+        all = with_effect(alloc, all, e)?;
         rest = after;
     }
     Ok(all)

@@ -12,7 +12,7 @@ use crate::marks::{
     name_at,
 };
 use crate::saying::{act_with, effect_of, fact_of, guard_of, put_effect};
-use crate::statement::{HeldEffect, HeldEffects, HeldGuard, HeldStatement, Statement};
+use crate::statement::{Effect, HeldEffect, HeldEffects, HeldGuard, HeldStatement, Statement};
 use asl_grammar::marks::{add_at, after_colon, is_last};
 use asl_meaning::bounded::{Bounded, Held, HeldExpr, HeldLiteral};
 use asl_meaning::held::as_formula;
@@ -123,6 +123,31 @@ fn no_change(tokens: &[Lexeme]) -> Option<(Option<HeldEffect>, &[Lexeme])>
     Some((None, rest))
 }
 
+fn dropped(
+    alloc: Global,
+    tokens: &[Lexeme],
+) -> Result<Option<(Option<HeldEffect>, &[Lexeme])>, Starved>
+    ensures { Gives (λ x. (x.0, x.1.now)) result (spec.dropped_by tokens.now) }
+{
+    let Some((name, rest)) = name_at(alloc, tokens)? else {
+        return Ok(None);
+    };
+    Ok(Some((Some(Bounded::Within(Effect::Dropped(name))), rest)))
+}
+
+/// An effect without a sign.
+fn word(
+    alloc: Global,
+    tokens: &[Lexeme],
+) -> Result<Option<(Option<HeldEffect>, &[Lexeme])>, Starved>
+    ensures { Gives (λ x. (x.0, x.1.now)) result (spec.word_by tokens.now) }
+{
+    match after_word(b"drop".as_slice(), tokens) {
+        Some(rest) => dropped(alloc, rest),
+        None => Ok(no_change(tokens)),
+    }
+}
+
 #[tactic(auto, unfolding(crate::specs::Speaking::effect_by))]
 fn effect(
     alloc: Global,
@@ -133,7 +158,7 @@ fn effect(
 {
     match add_at(tokens) {
         Some((add, rest)) => change(alloc, add, rest, depth),
-        None => Ok(no_change(tokens)),
+        None => word(alloc, tokens),
     }
 }
 

@@ -17,12 +17,22 @@ fn within_guard(guard: &Option<Expr>) -> bool
     }
 }
 
+fn within_effect(e: &Effect) -> bool
+    ensures { result ≡ spec.within_effect e.now }
+{
+    match e {
+        Effect::Added(l) => within_literal(l),
+        Effect::Deleted(l) => within_literal(l),
+        Effect::Dropped(_) => true,
+    }
+}
+
 fn within_effects(effects: &[Effect]) -> bool
     ensures { result ≡ list_all spec.within_effect effects.now }
 {
     let mut rest = effects;
     'effects: while let Some((e, after)) = rest.split_first() {
-        if !within_literal(&e.lit) {
+        if !within_effect(e) {
             return false;
         }
         rest = after;

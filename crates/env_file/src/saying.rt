@@ -3,6 +3,7 @@
 ghost use Rattle.std.specs.Prelude.{◌≡◌, [], ◌∷◌, ◌++◌, Some, IfOk};
 ghost use Rattle.asl_meaning.specs.Holding.{limited};
 ghost use Rattle.env_file.specs.Holding as spec;
+ghost use Rattle.env_file.specs.Statements as statements;
 
 use crate::limits::is_within;
 use crate::statement::{
@@ -31,12 +32,22 @@ pub fn guard_of(e: HeldExpr) -> Option<HeldGuard>
     }
 }
 
+fn changed(add: bool, l: Literal) -> Effect
+    ensures { result ≡ statements.changed add l }
+{
+    if add {
+        Effect::Added(l)
+    } else {
+        Effect::Deleted(l)
+    }
+}
+
 /// What is kept of an effect with its sign.
 pub fn effect_of(add: bool, l: HeldLiteral) -> HeldEffect
     ensures { result ≡ spec.effect_of add l }
 {
     match l {
-        Bounded::Within(lit) => Bounded::Within(Effect { add, lit }),
+        Bounded::Within(l) => Bounded::Within(changed(add, l)),
         Bounded::Past(_) => Bounded::Past(()),
     }
 }

@@ -15,11 +15,12 @@ pub enum Part {
 
 pub type Parts = Seq<Part>;
 
-/// A literal that an act adds to the facts, or takes away from them.
+/// What an act does: it adds a literal to the facts, takes one away, or drops the artifact of a name.
 #[derive(Drop)]
-pub struct Effect {
-    pub add: bool,
-    pub lit: Literal,
+pub enum Effect {
+    Added(Literal),
+    Deleted(Literal),
+    Dropped(Text),
 }
 
 pub type Effects = Seq<Effect>;

@@ -1,6 +1,7 @@
 //! What a statement makes of the world of those before it.
 
-ghost use Rattle.std.specs.Prelude.{◌≡◌, IfOk, OnOk, Err};
+ghost use Rattle.std.specs.Prelude.{◌≡◌, ◌++◌, [], IfOk, OnOk, Err};
+ghost use Rattle.std.specs.Option.{option_copied, option_to_list};
 ghost use Rattle.asl_term.specs.Names.{with_name};
 ghost use Rattle.env_file.specs.declared.fault.WorldFault.TheVariants.{Clause, UnknownArtifact};
 ghost use Rattle.env_file.specs.Answering.{Makes, Told};
@@ -102,25 +103,68 @@ fn make_use(
     Ok(())
 }
 
+/// The literal that an effect adds, or takes away.
+fn change(add: bool, e: &Effect) -> Option<&Literal>
+    ensures { option_copied result ≡ spec.change add e.now }
+{
+    match e {
+        Effect::Added(l) => { if add { Some(l) } else { None } }
+        Effect::Deleted(l) => { if add { None } else { Some(l) } }
+        Effect::Dropped(_) => None,
+    }
+}
+
+fn put_change(alloc: Global, all: &mut Literals, add: bool, e: &Effect) -> Result<(), Starved>
+    ensures { OnOk result (all.new ≡ all.old ++ option_to_list (spec.change add e.now)) }
+{
+    match change(add, e) {
+        Some(l) => all.push(copy_literal(alloc, l)?),
+        None => Ok(()),
+    }
+}
+
 /// The literals that effects add, or take away.
-#[tactic(auto, using(crate::proofs::Lists::changed, crate::proofs::Lists::unchanged, crate::proofs::Lists::changes_all))]
+#[tactic(auto, using(crate::proofs::Lists::changes_more, crate::proofs::Lists::changes_all))]
 fn changes(alloc: Global, add: bool, es: &[Effect]) -> Result<Literals, Starved>
     ensures { IfOk result (λ ls. ls ≡ spec.changes add es.now) }
 {
     let mut all = Seq::new(alloc);
     let mut rest = es;
     'effects: while let Some((e, after)) = rest.split_first() {
-        if e.add == add {
-            all.push(copy_literal(alloc, &e.lit)?)?;
-        }
+        put_change(alloc, &mut all, add, e)?;
         rest = after;
     }
     Ok(all)
 }
 
+fn put_drop(names: &mut Names, e: &Effect) -> Result<(), Starved>
+    ensures { OnOk result (names.new ≡ spec.with_drop names.old e.now) }
+{
+    match e {
+        Effect::Added(_) => Ok(()),
+        Effect::Deleted(_) => Ok(()),
+        Effect::Dropped(name) => put_name(names, name),
+    }
+}
+
+/// The names of the artifacts that effects drop, each once.
+#[tactic(auto, using(crate::proofs::Lists::drops_all))]
+fn drops(alloc: Global, es: &[Effect]) -> Result<Names, Starved>
+    ensures { IfOk result (λ names. names ≡ spec.drops [] es.now) }
+{
+    let mut names = Names::new(alloc)?;
+    let mut rest = es;
+    'effects: while let Some((e, after)) = rest.split_first() {
+        put_drop(&mut names, e)?;
+        rest = after;
+    }
+    Ok(names)
+}
+
 fn act_of(alloc: Global, a: &WrittenAct, ps: &[Part]) -> Result<Act, Starved>
     ensures { IfOk result (λ r. r ≡ spec.act_of a.now ps.now) }
 {
+    let drops = drops(alloc, a.effects.as_slice())?;
     let guard = exprs_of(alloc, ps)?;
     let dels = changes(alloc, false, a.effects.as_slice())?;
     let adds = changes(alloc, true, a.effects.as_slice())?;
@@ -132,6 +176,7 @@ fn act_of(alloc: Global, a: &WrittenAct, ps: &[Part]) -> Result<Act, Starved>
         guard,
         dels,
         adds,
+        drops,
     })
 }
 

@@ -24,7 +24,7 @@ one_fact f n d s = push_are [] f none_are s.ground s.settled refl
 abbrev done_by : LiteralOf Term → List (LiteralOf Term) → List (LiteralOf Term)
 done_by g kept = kept ++ news kept (g ∷ [])
 
-pub replaced : (f g : LiteralOf Term) → done (record { dels = f ∷ []; adds = g ∷ [] }) (f ∷ []) ≡ g ∷ []
+pub replaced : (f g : LiteralOf Term) → done (record { dels = f ∷ []; adds = g ∷ []; drops = [] }) (f ∷ []) ≡ g ∷ []
 replaced f g =
     let none : without (f ∷ []) (f ∷ []) ≡ [] = ap (λ b. cond (not (b || false)) (f ∷ []) []) (fact_equiv.refl f) in
     ap (done_by g) none
@@ -40,9 +40,9 @@ effect_is s l m r g = ap (option_and_then if_ground) r ∙ ap (λ b. if b then S
 
 -- one fact goes and one comes
 abbrev pub exchange : LiteralOf Term → LiteralOf Term → Deed
-exchange old new = record { dels = old ∷ []; adds = new ∷ [] }
+exchange old new = record { dels = old ∷ []; adds = new ∷ []; drops = [] }
 
 pub deed_is : (s : List Pair) (head old new o n : LiteralOf Term) → effect s old ≡ Some o → effect s new ≡ Some n → deed (act head old [] new) s ≡ Some (exchange o n)
 deed_is s head old new o n d a =
-    ap (λ z. option_and_then (λ dels. option_map (λ adds. record { dels = dels; adds = adds }) (effects s (new ∷ []))) (option_and_then (λ x. Some (x ∷ [])) z)) d
-    ∙ ap (λ z. option_map (λ adds. record { dels = o ∷ []; adds = adds }) (option_and_then (λ x. Some (x ∷ [])) z)) a
+    ap (λ z. option_and_then (λ dels. option_map (λ adds. record { dels = dels; adds = adds; drops = [] }) (effects s (new ∷ []))) (option_and_then (λ x. Some (x ∷ [])) z)) d
+    ∙ ap (λ z. option_map (λ adds. record { dels = o ∷ []; adds = adds; drops = [] }) (option_and_then (λ x. Some (x ∷ [])) z)) a

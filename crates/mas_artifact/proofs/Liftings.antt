@@ -181,14 +181,14 @@ module _ (agent : List ℕ) (t : Term) (g : is_ground t ≡ true) where
       new_effect = effect_is solved new (belt (list xs)) (ready_row solved rest xs put_rest ∙ ap (option_map row_fact) (kept_is xs xs_kept)) (fact_ground xs xs_kept.ground)
 
       abbrev given : Option (LiteralOf Term) → Option Deed
-      given o = option_and_then (λ dels. option_map (λ adds. record { dels = dels; adds = adds }) (effects solved (new ∷ []))) (option_and_then (λ z. Some (z ∷ [])) (option_and_then if_ground o))
+      given o = option_and_then (λ dels. option_map (λ adds. record { dels = dels; adds = adds; drops = [] }) (effects solved (new ∷ []))) (option_and_then (λ z. Some (z ∷ [])) (option_and_then if_ground o))
 
       abbrev added : Option (LiteralOf Term) → Option Deed
-      added z = option_map (λ adds. record { dels = belt (list (x ∷ xs)) ∷ []; adds = adds }) (option_and_then (λ z. Some (z ∷ [])) z)
+      added z = option_map (λ adds. record { dels = belt (list (x ∷ xs)) ∷ []; adds = adds; drops = [] }) (option_and_then (λ z. Some (z ∷ [])) z)
 
       gives : given (Some (belt (list (x ∷ xs)))) ≡ Some (exchange (belt (list (x ∷ xs))) (belt (list xs)))
       gives =
-          ap (λ b. option_and_then (λ dels. option_map (λ adds. record { dels = dels; adds = adds }) (effects solved (new ∷ []))) (option_and_then (λ z. Some (z ∷ [])) (if b then Some (belt (list (x ∷ xs))) else None)))
+          ap (λ b. option_and_then (λ dels. option_map (λ adds. record { dels = dels; adds = adds; drops = [] }) (effects solved (new ∷ []))) (option_and_then (λ z. Some (z ∷ [])) (if b then Some (belt (list (x ∷ xs))) else None)))
           (fact_ground (x ∷ xs) k.ground)
           ∙ ap added new_effect
 

@@ -172,17 +172,17 @@ module _ (agent : List ℕ) (x : Term) (g : is_ground x ≡ true) (items : List 
         (put_row h (map variable vs ++ variable (codes "X") ∷ []) made (map-append (put h) (map variable vs) (variable (codes "X") ∷ []) ∙ (λ i. put_names i ++ put_x i ∷ [])))
 
     abbrev added : Option (LiteralOf Term) → Option Deed
-    added o = option_map (λ adds. record { dels = belt (list items) ∷ []; adds = adds }) (option_and_then (λ y. Some (y ∷ [])) (option_and_then if_ground o))
+    added o = option_map (λ adds. record { dels = belt (list items) ∷ []; adds = adds; drops = [] }) (option_and_then (λ y. Some (y ∷ [])) (option_and_then if_ground o))
 
     added_is : (o : Option (List Term)) → settled_row made ≡ o → added (option_map row_fact o) ≡ exchanged items o
     added_is None e = refl
     added_is (Some xs) e =
-        ap (λ b. option_map (λ adds. record { dels = belt (list items) ∷ []; adds = adds }) (option_and_then (λ y. Some (y ∷ [])) (if b then Some (belt (list xs)) else None)))
+        ap (λ b. option_map (λ adds. record { dels = belt (list items) ∷ []; adds = adds; drops = [] }) (option_and_then (λ y. Some (y ∷ [])) (if b then Some (belt (list xs)) else None)))
         (fact_ground xs (made_kept xs e).ground)
 
     deed_is : deed (belt_put vs) solved ≡ exchanged items (settled_row made)
     deed_is =
-        ap (λ z. option_and_then (λ dels. option_map (λ adds. record { dels = dels; adds = adds }) (effects solved (new ∷ []))) (option_and_then (λ y. Some (y ∷ [])) z)) old_effect
+        ap (λ z. option_and_then (λ dels. option_map (λ adds. record { dels = dels; adds = adds; drops = [] }) (effects solved (new ∷ []))) (option_and_then (λ y. Some (y ∷ [])) z)) old_effect
         ∙ ap added new_ready
         ∙ added_is (settled_row made) refl
 

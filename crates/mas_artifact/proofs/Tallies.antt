@@ -257,11 +257,11 @@ module _ (agent : List ℕ) (n : ℤ) (t : Term) (g : is_ground t ≡ true) wher
       (small_one (codes "tally") (term.Num n) 1 1 (small_num n)).ground
 
   abbrev given : Option (LiteralOf Term) → Option Deed
-  given o = option_map (λ adds. record { dels = tally (term.Num n) ∷ []; adds = adds }) (option_and_then (λ x. Some (x ∷ [])) (option_and_then if_ground o))
+  given o = option_map (λ adds. record { dels = tally (term.Num n) ∷ []; adds = adds; drops = [] }) (option_and_then (λ x. Some (x ∷ [])) (option_and_then if_ground o))
 
   deed_given : deed tally_add third ≡ given summed
   deed_given =
-      ap (λ z. option_and_then (λ dels. option_map (λ adds. record { dels = dels; adds = adds }) (effects third (tally (sum (term.Var v) (term.Var k)) ∷ []))) (option_and_then (λ x. Some (x ∷ [])) z)) old_effect
+      ap (λ z. option_and_then (λ dels. option_map (λ adds. record { dels = dels; adds = adds; drops = [] }) (effects third (tally (sum (term.Var v) (term.Var k)) ∷ []))) (option_and_then (λ x. Some (x ∷ [])) z)) old_effect
       ∙ ap given new_ready
 
   abbrev answer : Option (LiteralOf Term) → Option Deed
@@ -398,7 +398,7 @@ module _ (agent : List ℕ) (n : ℤ) (t : Term) (g : is_ground t ≡ true) wher
 
     given_is : given (Some (made_of (n +ℤ c))) ≡ Some (exchange (tally (term.Num n)) (made_of (n +ℤ c)))
     given_is =
-        ap (λ b. option_map (λ adds. record { dels = tally (term.Num n) ∷ []; adds = adds }) (option_and_then (λ x. Some (x ∷ [])) (if b then Some (made_of (n +ℤ c)) else None)))
+        ap (λ b. option_map (λ adds. record { dels = tally (term.Num n) ∷ []; adds = adds; drops = [] }) (option_and_then (λ x. Some (x ∷ [])) (if b then Some (made_of (n +ℤ c)) else None)))
         (small_one (codes "tally") (term.Num (n +ℤ c)) 1 1 (small_num (n +ℤ c))).ground
 
     abbrev above_by : Bool → Option Deed

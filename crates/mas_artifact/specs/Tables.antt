@@ -49,7 +49,7 @@ related a op b = expr.Rel (record { op = op; left = a; right = b })
 
 -- act head by A : old & more -> -old, +new
 abbrev pub act : LiteralOf Term → LiteralOf Term → List Expr → LiteralOf Term → Act
-act head old more new = record { head = head; by = variable (codes "A"); guard = expr.Holds old ∷ more; dels = old ∷ []; adds = new ∷ [] }
+act head old more new = record { head = head; by = variable (codes "A"); guard = expr.Holds old ∷ more; dels = old ∷ []; adds = new ∷ []; drops = [] }
 
 -- ---- tally: a number that grows
 

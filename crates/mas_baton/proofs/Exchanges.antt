@@ -71,6 +71,7 @@ module _ {A : Type 0} (old mid new : Seat A) (x y : Noted) (made : Option Turn) 
         makes = subst (λ (b : Noted). Made made b old.number y) e h;
         turns = ap (λ (v : View). of_first v.turns) back ∙ first_noted old.number made (turns_of old) (known old).turns s.turns;
         seen = ap (λ (v : View). v.seen) back;
+        halted = ap (λ (v : View). v.halted) back;
         stands = subst (λ (b : Noted). Stands (first_of old).state b.state (old.number, turns_of old)) e m.stands;
       }
 

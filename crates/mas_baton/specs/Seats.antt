@@ -45,6 +45,10 @@ module _ {A : Type 0} where
   abbrev pub met_by : Seat A → Noted
   met_by s = (known s).met
 
+  -- whether the board was halted as it last gave it back
+  abbrev pub left_halted : Seat A → Bool
+  left_halted s = (known s).halted
+
   -- the phase to which its agent's turns have led
   abbrev pub phase_of : Seat A → Phase
   phase_of s = phase_after Idle (turns_of s)
@@ -74,6 +78,7 @@ module _ {A : Type 0} where
     pub makes : Made made (met_by new) old.number after
     pub turns : turns_of new ≡ turns_of old ++ option_to_list made
     pub seen : seen_by new ≡ after.schedule
+    pub halted : left_halted new ≡ after.halted
     pub stands : Stands (first_of old).state (met_by new).state (old.number, turns_of old)
 
   -- the board that a seat has taken goes on from what it had seen, and its agent stands there where its turns have led it

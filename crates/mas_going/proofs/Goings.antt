@@ -1,5 +1,5 @@
 -- What each call makes of an agent on its way.
-use Rattle.std.proofs.Common.{◌≡◌, ◌≢◌, ℕ, zero, suc, ◌+◌, ◌<◌, ◌≤◌, ◌⊎◌, inl, inr, Bool, true, false, is_some, List, [], ◌∷◌, ◌++◌, Option, None, Some, length, sym, refl, ap, ◌∙◌, subst, append-nil, append_assoc, arith}
+use Rattle.std.proofs.Common.{◌≡◌, ◌≢◌, ℕ, zero, suc, ◌+◌, ◌<◌, ◌≤◌, Bool, true, false, is_some, List, [], ◌∷◌, ◌++◌, Option, None, Some, length, sym, refl, ap, ◌∙◌, subst, append-nil, append_assoc, arith}
 use Rattle.std.specs.Prelude.{MatchBool}
 use Rattle.asl_term.specs.declared.syntax.LiteralOf.{LiteralOf}
 use Rattle.asl_term.specs.declared.syntax.Term.{Term}
@@ -25,7 +25,7 @@ use Rattle.mas_turns.specs.Turns.{phase_after, cycle_of, cycles_in}
 use Rattle.mas_turns.specs.Follows.{Thinking, resting, thinking, told, Follows}
 use Rattle.mas_baton.specs.declared.baton.Baton.{Baton}
 use Rattle.mas_baton.specs.declared.seat.Seat.{Seat}
-use Rattle.mas_baton.specs.Seats.{turns_of, first_of, met_by, phase_of, agents_of, IsSeatOf, Exchanged, SenseExchanged, GivenIf, IsGiven, EmitExchanged, LeaveExchanged, HaltExchanged, NothingExchanged}
+use Rattle.mas_baton.specs.Seats.{turns_of, first_of, left_halted, phase_of, agents_of, IsSeatOf, Exchanged, SenseExchanged, GivenIf, IsGiven, EmitExchanged, LeaveExchanged, HaltExchanged, NothingExchanged}
 use Rattle.mas_going.specs.declared.going.Going.{Going}
 use Rattle.mas_going.specs.Goings.{cycled, Belongs, Rests, IsAsked, HasThought, Same, HasHalted, Went, Stopped, Became, Ended}
 
@@ -123,12 +123,15 @@ module _ {V A : Type 0} (k : Kind V) where
     ends = λ _. h;
   }
 
+  halt_set : (s t : Seat A) → HaltExchanged s t → left_halted t ≡ true
+  halt_set s t h = h.exchanged.halted ∙ ap (λ (x : Noted). x.halted) h.answered
+
   pub halts : (b : Baton A) (start : Thinking V) (g : Going V A) (mid seat : Seat A) (cycle : ℕ) (mind : V) → Belongs k g → IsSeatOf b g.seat → IsSeatOf b seat → NothingExchanged g.seat mid → HaltExchanged mid seat
       → (phase_of g.seat ≢ Busy → resting mind ≡ start) → Stopped k start g (record { number = g.number; cycle = cycle; seat = seat; mind = mind })
   halts b start g mid seat cycle mind r i j n h s =
       let e = n.exchanged in
       let x = h.exchanged in
-      halted_stopped b start g seat cycle mind r i j (x.number ∙ e.number) (x.first ∙ e.first) (quiet_turns mid seat h.after x ∙ quiet_turns g.seat mid n.after e) s (inr (mid, h))
+      halted_stopped b start g seat cycle mind r i j (x.number ∙ e.number) (x.first ∙ e.first) (quiet_turns mid seat h.after x ∙ quiet_turns g.seat mid n.after e) s (halt_set mid seat h)
 
   -- ---- a Sense
 
@@ -192,7 +195,7 @@ module _ {V A : Type 0} (k : Kind V) where
       → Stopped k (resting g.mind) g (record { number = g.number; cycle = g.cycle; seat = seat; mind = g.mind })
   met_halt b g seat r i j e =
       let x = e.exchanged in
-      halted_stopped b (resting g.mind) g seat g.cycle g.mind r.belongs i j x.number x.first (quiet_turns g.seat seat e.after x) (λ _. refl) (inl e.leaves.0)
+      halted_stopped b (resting g.mind) g seat g.cycle g.mind r.belongs i j x.number x.first (quiet_turns g.seat seat e.after x) (λ _. refl) (x.halted ∙ ap (λ (y : Noted). y.halted) e.leaves.1 ∙ e.leaves.0)
 
   -- ---- a thought
 
@@ -249,7 +252,7 @@ module _ {V A : Type 0} (k : Kind V) where
       → Stopped k (cycled k g.mind input) g (record { number = g.number; cycle = cycle; seat = seat; mind = mind })
   starves b g seat input cycle mind a i j h =
       let x = h.exchanged in
-      halted_stopped b (cycled k g.mind input) g seat cycle mind a.belongs i j x.number x.first (quiet_turns g.seat seat h.after x) (λ n. absurd (n a.busy)) (inr (g.seat, h))
+      halted_stopped b (cycled k g.mind input) g seat cycle mind a.belongs i j x.number x.first (quiet_turns g.seat seat h.after x) (λ n. absurd (n a.busy)) (halt_set g.seat seat h)
 
   -- ---- an Emit
 

@@ -1,14 +1,50 @@
 -- Where each number from 1 on stands once, the items can be put in the order of their numbers.
 use Rattle.std.proofs.Common.{◌≡◌, ◌≢◌, ℕ, zero, suc, ◌+◌, ◌-◌, ◌<◌, ◌≤◌, Option, Some, None, List, [], ◌∷◌, ◌++◌, length, replicate, sym, refl, ap, ◌∙◌, subst, append-nil, arith}
 use Rattle.std.specs.Prelude.{slice_get, slice_set}
+use Rattle.std.specs.List.{Contains}
 use Rattle.std.proofs.lemmas.List.{length-set}
+use Rattle.std.proofs.lemmas.List.Elements.{Contains-push, Contains-append_left, Contains-append_right}
 use lib.ListN.{get_or}
 use mathlib.Core.Logic.{dite}
 use native.Mathlib.Decide.{dec_le, ℕ_discrete}
 use Rattle.mas_lists.specs.Lists.{Each, times, numbers_from}
 use Rattle.mas_ready.specs.Rule.{numbers}
-use Rattle.mas_ready.specs.Orders.{placed, somes, ordered, IsNumber}
+use Rattle.mas_ready.specs.Orders.{StandsAt, AreShelved, AreInOrder}
 use Rattle.mas_ready.proofs.Counts.{times_here, times_else, in_from, below_from, past_from}
+use Rattle.mas_lists.proofs.Sums.{each_map}
+
+-- each item is put at the place of its number, from 1 on
+abbrev pub placed : {T : Type 0} → (T → ℕ) → List (Option T) → List T → List (Option T)
+placed number shelf [] = shelf
+placed number shelf (x ∷ xs) = placed number (slice_set shelf (number x - 1) (Some x)) xs
+
+-- the items that are there
+abbrev pub somes : {T : Type 0} → List (Option T) → List T
+somes [] = []
+somes (None ∷ shelf) = somes shelf
+somes (Some x ∷ shelf) = x ∷ somes shelf
+
+-- one of n numbers from 1 on
+pub record IsNumber (n a : ℕ) : Type 0 where
+  pub from_one : 1 ≤ a
+  pub within : a ≤ n
+
+module _ {T : Type 0} where
+  each_is_there : (xs : List T) → Each (Contains xs) xs
+  each_is_there [] = tt
+  each_is_there (x ∷ xs) = (
+    Contains-append_left (x ∷ []) xs x (Contains-push [] x),
+    each_map (Contains xs) (Contains (x ∷ xs)) xs (λ y h. Contains-append_right (x ∷ []) xs y h) (each_is_there xs),
+  )
+
+  at_each : (P : T → Type 0) (xs : List T) (k : ℕ) (x : T) → k < length xs → get_or xs k x ≡ x → Each P xs → P x
+  at_each P [] k x l e h = absurd (omega arith)
+  at_each P (y ∷ ys) zero x l e h = subst P e h.0
+  at_each P (y ∷ ys) (suc k) x l e h = at_each P ys k x (omega arith) e h.1
+
+  -- what holds of each item holds of each that is one of them
+  pub each_among : (P : T → Type 0) (xs row : List T) → Each P xs → Each (Contains xs) row → Each P row
+  each_among P xs row h a = each_map (Contains xs) P row (λ x c. at_each P xs c.0 x c.1 c.2 h) a
 
 get_here : {A : Type 0} (xs : List A) (i : ℕ) (x : A) → i < length xs → slice_get (slice_set xs i x) i ≡ Some x
 get_here [] i x l = absurd (omega arith)
@@ -42,15 +78,8 @@ module _ {T : Type 0} (number : T → ℕ) where
       place_stays (slice_set shelf (number x - 1) (Some x)) xs i (omega arith) (omega arith)
       ∙ get_else shelf (number x - 1) i (Some x) (λ d. other (omega arith))
 
-  -- what stands at a place
-  pub record StandsAt (P : T → Type 0) (shelf : List (Option T)) (n i : ℕ) : Type 0 where
-    pub item : T
-    pub at : slice_get shelf i ≡ Some (Some item)
-    pub number_is : number item ≡ n
-    pub has : P item
-
   place_has : (P : T → Type 0) (shelf : List (Option T)) (xs : List T) (i : ℕ) → i < length shelf → times 0 (numbers number xs) ≡ 0 → times (suc i) (numbers number xs) ≡ 1 → Each P xs
-      → StandsAt P (placed number shelf xs) (suc i) i
+      → StandsAt number P (placed number shelf xs) (suc i) i
   place_has P shelf [] i l z e h = absurd (omega arith)
   place_has P shelf (x ∷ xs) i l z e h =
       let some : number x ≢ 0 = (λ d. let t = times_here 0 (number x) (numbers number xs) d in absurd (omega arith)) in
@@ -70,7 +99,7 @@ module _ {T : Type 0} (number : T → ℕ) where
       let t = times_else (suc i) (number x) (numbers number xs) d in
       place_has P next xs i (let n = length-set shelf (number x - 1) (Some x) in omega arith) (omega arith) (omega arith) h.1)
 
-  pub record InOrder (P : T → Type 0) (k : ℕ) (n : ℕ) (row : List T) : Type 0 where
+  record InOrder (P : T → Type 0) (k : ℕ) (n : ℕ) (row : List T) : Type 0 where
     pub numbers_are : numbers number row ≡ numbers_from k n
     pub each : Each P row
 
@@ -78,7 +107,7 @@ module _ {T : Type 0} (number : T → ℕ) where
   head_of None shelf x e = cc
   head_of (Some y) shelf x e = let d : y ≡ x = cc in ap (λ (z : T). z ∷ somes shelf) d
 
-  row_of : (P : T → Type 0) (k : ℕ) (shelf : List (Option T)) → ((i : ℕ) → i < length shelf → StandsAt P shelf (k + i) i) → InOrder P k (length shelf) (somes shelf)
+  row_of : (P : T → Type 0) (k : ℕ) (shelf : List (Option T)) → ((i : ℕ) → i < length shelf → StandsAt number P shelf (k + i) i) → InOrder P k (length shelf) (somes shelf)
   row_of P k [] h = record { numbers_are = refl; each = tt }
   row_of P k (o ∷ shelf) h =
       let s = h 0 (omega arith) in
@@ -100,16 +129,29 @@ module _ {T : Type 0} (number : T → ℕ) where
   length_none zero = refl
   length_none (suc n) = ap suc (length_none n)
 
-  pub in_order : (P : T → Type 0) (n : ℕ) (xs : List T) → ((a : ℕ) → times a (numbers number xs) ≡ times a (numbers_from 1 n)) → Each P xs → InOrder P 1 n (ordered number n xs)
-  in_order P n xs once h =
-      let shelf = replicate n nothing in
-      let size = length_placed shelf xs ∙ length_none n in
+  -- ---- what the calls promise
+
+  pub shelved : (n : ℕ) (xs : List T) (shelf : List (Option T)) → ((a : ℕ) → times a (numbers number xs) ≡ times a (numbers_from 1 n)) → shelf ≡ placed number (replicate n nothing) xs
+      → AreShelved number n xs shelf
+  shelved n xs shelf once e =
+      let none = length_none n in
       let zero_out : times 0 (numbers number xs) ≡ 0 = once 0 ∙ below_from 0 1 n (omega arith) in
-      subst (λ (m : ℕ). InOrder P 1 m (ordered number n xs)) size
-      (row_of P 1 (placed number shelf xs) (λ i l.
-      (let e : suc i ≡ 1 + i = omega arith in
-      let one = once (suc i) ∙ in_from (suc i) 1 n (omega arith) (omega arith) in
-      subst (λ (m : ℕ). StandsAt P (placed number shelf xs) m i) e (place_has P shelf xs i (let s = length_none n in omega arith) zero_out one h))))
+      subst (AreShelved number n xs) (sym e)
+      record {
+        size = length_placed (replicate n nothing) xs ∙ none;
+        each = λ i l.
+            let d : suc i ≡ 1 + i = omega arith in
+            let one = once (suc i) ∙ in_from (suc i) 1 n (omega arith) (omega arith) in
+            subst (λ (m : ℕ). StandsAt number (Contains xs) (placed number (replicate n nothing) xs) m i) d
+            (place_has (Contains xs) (replicate n nothing) xs i (omega arith) zero_out one (each_is_there xs));
+      }
+
+  pub in_order : (n : ℕ) (xs : List T) (shelf : List (Option T)) (row : List T) → AreShelved number n xs shelf → row ≡ somes shelf → AreInOrder number n xs row
+  in_order n xs shelf row s e =
+      let size = s.size in
+      let r = row_of (Contains xs) 1 shelf (λ i l. s.each i (omega arith)) in
+      subst (AreInOrder number n xs) (sym e)
+      record { numbers_are = r.numbers_are ∙ ap (numbers_from 1) size; among = r.each }
 
   -- an item whose number counts as often as one of n is one of n
   pub is_number : (n : ℕ) (xs : List T) (i : ℕ) (d x : T) → ((a : ℕ) → times a (numbers number xs) ≡ times a (numbers_from 1 n)) → i < length xs → x ≡ get_or xs i d → IsNumber n (number x)

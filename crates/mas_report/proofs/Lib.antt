@@ -1,2 +1,5 @@
 pub mod Numbered
 pub mod Sections
+pub mod Shown
+pub mod Backs
+pub mod Judged

@@ -1,2 +1,4 @@
 pub mod Limits
 pub mod Report
+pub mod Reading
+pub mod inner

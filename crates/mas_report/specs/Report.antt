@@ -1,5 +1,5 @@
 -- The text of a run's report. Every line ends in a line feed.
-use Rattle.std.specs.Prelude.{ℕ, zero, suc, ◌≡◌, ◌+◌, ◌-◌, Bool, true, false, List, [], ◌∷◌, ◌++◌, Option, None, Some, codes, decimal, length, slice_get}
+use Rattle.std.specs.Prelude.{ℕ, zero, suc, ◌≡◌, ◌+◌, ◌-◌, Bool, true, false, List, [], ◌∷◌, ◌++◌, Option, None, Some, MatchBool, codes, decimal, length, slice_get}
 use Rattle.std.specs.List.{flat_map, list_any}
 use Rattle.asl_term.specs.declared.syntax.LiteralOf.{LiteralOf}
 use Rattle.asl_term.specs.declared.syntax.Term.{Term}
@@ -135,3 +135,12 @@ pub record IsReport {V : Type 0} (k : Kind V) (o : Options) (p : Platform V) (sp
   pub ended : ended done.board.seats ≡ true
   pub spent_is : is_spent done.board.seats ≡ spent
   pub is : w ≡ report_text k.lines o done.board done.minds (printed w)
+
+-- it is so, whatever the ends are
+pub record IsAnyReport {V : Type 0} (k : Kind V) (o : Options) (p : Platform V) (w : List ℕ) : Type 0 where
+  pub spent : Bool
+  pub report : IsReport k o p spent w
+
+-- this is so, or it is not so
+abbrev pub Decided : Type 0 → Bool → Type 0
+Decided P so = MatchBool so P (P → ⊥)

@@ -1,6 +1,6 @@
 //! What a run is given besides its files.
 
-ghost use Rattle.std.specs.Prelude.{◌≡◌};
+ghost use Rattle.std.specs.Prelude.{◌≡◌, true};
 ghost use Rattle.mas_report.specs.Limits.{IsWithin, defaults};
 
 use mas_mind::mind::Level;
@@ -28,4 +28,16 @@ pub fn default_options() -> Options
         tries: 100_000,
         level: Level::Acts,
     }
+}
+
+/// Whether each number is one that its option permits.
+pub fn is_within(o: &Options) -> bool
+    ensures yes { result ≡ true → IsWithin o.now }
+    ensures no { IsWithin o.now → result ≡ true }
+{
+    let cycles = 1 <= o.cycles && o.cycles <= 1_000_000;
+    let lead = 1 <= o.lead && o.lead <= 1000;
+    let depth = 1 <= o.depth && o.depth <= 10_000;
+    let tries = 1 <= o.tries && o.tries <= 10_000_000;
+    cycles && lead && depth && tries
 }

@@ -81,8 +81,9 @@ fn put_limits(alloc: Global, out: &mut Text, o: &Options) -> Result<(), Starved>
     put_field(alloc, out, b" tries ", o.tries)
 }
 
+/// Appends the line of options.
 #[tactic(auto, unfolding(crate::specs::Report::options_line))]
-fn put_options(alloc: Global, out: &mut Text, o: &Options) -> Result<(), Starved>
+pub fn put_options(alloc: Global, out: &mut Text, o: &Options) -> Result<(), Starved>
     ensures { OnOk result (out.new ≡ out.old ++ spec.options_line o.now) }
 {
     put_limits(alloc, out, o)?;

@@ -2,3 +2,4 @@ pub mod Scanned
 pub mod Numerals
 pub mod Lines
 pub mod Answered
+pub mod Ends

@@ -1,5 +1,5 @@
 -- Which bytes are a schedule, and which line of other bytes is the first that is not as it has to be.
-use Rattle.std.specs.Prelude.{ℕ, ◌≡◌, ◌<◌, ◌≤◌, List, ◌∷◌, ◌++◌, length, Result, Ok, Err}
+use Rattle.std.specs.Prelude.{ℕ, ◌≡◌, ◌⊎◌, ◌<◌, ◌≤◌, List, [], ◌∷◌, ◌++◌, length, Result, Ok, Err}
 use Rattle.mas_schedule.specs.declared.reading.LineFault.{LineFault}
 use Rattle.mas_schedule.specs.declared.reading.LineFault.TheVariants.{Memory, BadLine}
 use Rattle.mas_schedule.specs.Schedule.{line_feed, numbers_text, count_line, schedule_text, AllFromOne, printed}
@@ -49,6 +49,24 @@ abbrev pub Answers : List ℕ → Result (List ℕ) ℕ → Type 0
 Answers bytes (Ok names) = IsSchedule bytes names
 Answers bytes (Err n) = IsBadLine bytes n
 
+-- ---- the end of a text
+
+-- nothing, or lines the last of which a line feed ends
+abbrev pub AreLines : List ℕ → Type 0
+AreLines bytes = (bytes ≡ []) ⊎ ((before : List ℕ) × (bytes ≡ before ++ line_feed))
+
+-- the last two lines of the bytes are the schedule of these numbers
+pub record EndsIn (bytes names : List ℕ) : Type 0 where
+  pub front : List ℕ
+  pub lines : AreLines front
+  pub last : List ℕ
+  pub schedule : IsSchedule last names
+  pub is : bytes ≡ front ++ last
+
+-- they are no schedule
+abbrev pub EndsInNone : List ℕ → Type 0
+EndsInNone bytes = (names : List ℕ) → EndsIn bytes names → ⊥
+
 -- ---- laws
 
 -- bytes are the schedule of one list of numbers or have one bad line, and not both
@@ -66,3 +84,7 @@ ReadAgain = (names : List ℕ) → IsCount (length names) → AllFromOne 65535 n
 -- they are the numbers in the last line of each text that ends in it
 abbrev pub PrintedLast : Type 0
 PrintedLast = (before names : List ℕ) → AllFromOne 65535 names → printed (before ++ schedule_text names) ≡ names
+
+-- what the last two lines of a text tell is one list of numbers
+abbrev pub OneEnd : Type 0
+OneEnd = (bytes names others : List ℕ) → EndsIn bytes names → EndsIn bytes others → names ≡ others

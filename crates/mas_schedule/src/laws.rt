@@ -1,11 +1,16 @@
 //! Laws of schedules.
 
-ghost use Rattle.mas_schedule.specs.Reading.{OneAnswer, SomeAnswer, ReadAgain, PrintedLast};
+ghost use Rattle.mas_schedule.specs.Reading.{OneAnswer, OneEnd, SomeAnswer, ReadAgain, PrintedLast};
 
 /// Bytes are the schedule of one list of numbers, or one line of them is the first that is bad.
 pub fn one_answer()
     ensures one { OneAnswer }
     ensures some { SomeAnswer }
+{}
+
+/// The last two lines of a text are the schedule of one list of numbers at most.
+pub fn one_end()
+    ensures { OneEnd }
 {}
 
 /// What `put_schedule` writes of numbers is read as these numbers, by itself and as the end of a text.

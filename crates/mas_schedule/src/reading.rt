@@ -33,9 +33,9 @@ impl From<Starved> for LineFault {
 
 /// A number, and what is behind the byte that ends it.
 #[derive(Clone, Copy)]
-struct Number<'a> {
-    value: u64,
-    behind: &'a [u8],
+pub struct Number<'a> {
+    pub value: u64,
+    pub behind: &'a [u8],
 }
 
 /// A number with one more digit.

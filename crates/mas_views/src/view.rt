@@ -62,7 +62,8 @@ impl Model for Past {
 
 /// What is known by one side of the queue: whether the board has come, and whether it is in hand; of each of the side's
 /// agents the turns since the opening; the schedule that was seen, and those that the views joined into it had seen; the
-/// board as it was last taken, and how it stood at the opening. No value of it is made.
+/// board as it was last taken; whether it was halted when it was last given back; and how it stood at the opening. No
+/// value of it is made.
 pub struct View {
     pub started: bool,
     pub in_hand: bool,
@@ -70,6 +71,7 @@ pub struct View {
     pub seen: LinkedList<u64>,
     pub olds: LinkedList<LinkedList<u64>>,
     pub met: Shown,
+    pub halted: bool,
     pub first: Begun,
 }
 

@@ -1,8 +1,8 @@
 -- What acts add has no variables and no operations.
-use Rattle.std.proofs.Common.{◌≡◌, ℕ, Bool, true, false, cond, if◌then◌else◌, List, [], ◌∷◌, Option, Some, None, refl, ap, sym, ◌∙◌}
+use Rattle.std.proofs.Common.{◌≡◌, ℕ, Bool, true, false, cond, if◌then◌else◌, List, [], ◌∷◌, Option, Some, None, IfSome, refl, ap, sym, subst, ◌∙◌}
 use Rattle.std.specs.List.{list_all}
 use Rattle.std.specs.Option.{option_and_then, option_map, option_or}
-use Rattle.std.specs.Prelude.{Ok, Err}
+use Rattle.std.specs.Prelude.{Result, Ok, Err, OnOk, OnErr}
 use Rattle.std.specs.Result.{result_ok}
 use Rattle.asl_term.specs.declared.syntax.LiteralOf.{LiteralOf}
 use Rattle.asl_term.specs.declared.syntax.Term.{Term}
@@ -14,7 +14,7 @@ use Rattle.mas_mind.specs.Minds.{are_ground}
 use Rattle.mas_world.specs.declared.acts.Act.{Act}
 use Rattle.mas_world.specs.declared.facts.Deed.{Deed}
 use Rattle.mas_world.specs.Acts.{decided, deed, done, effect, effects, entered, if_ground, tried}
-use Rattle.mas_world.specs.Facts.{AreFacts, is_settled_literal}
+use Rattle.mas_world.specs.Facts.{AreFacts, ArePlain, is_settled_literal}
 use Rattle.mas_world.specs.Guards.{first_of, ready, solutions}
 use Rattle.mas_world.proofs.Settles.{both, literal_settles}
 use Rattle.mas_world.proofs.Sound.{done_are}
@@ -27,10 +27,6 @@ chained (Some x) f y e = (x, refl, e)
 record Plain (l : LiteralOf Term) : Type 0 where
   ground : is_ground_literal l ≡ true
   settled : is_settled_literal l ≡ true
-
-pub record ArePlain (ls : List (LiteralOf Term)) : Type 0 where
-  pub ground : are_ground ls ≡ true
-  pub settled : list_all is_settled_literal ls ≡ true
 
 grounded : (b : Bool) (x y : LiteralOf Term) → is_ground_literal x ≡ b → (if b then Some x else None) ≡ Some y → (x ≡ y) × (is_ground_literal x ≡ true)
 grounded true x y g e = (cc, g)
@@ -71,8 +67,8 @@ effects_plain s (l ∷ ls) ys e =
 
 deed_plain : (a : Act) (s : List Pair) (d : Deed) → deed a s ≡ Some d → ArePlain d.adds
 deed_plain a s d e =
-    let c = chained (effects s a.dels) (λ dels. option_map (λ adds. let new : Deed = record { dels = dels; adds = adds } in new) (effects s a.adds)) d e in
-    let m = mapped (λ adds. let new : Deed = record { dels = c.0; adds = adds } in new) (effects s a.adds) d c.2 in
+    let c = chained (effects s a.dels) (λ dels. option_map (λ adds. let new : Deed = record { dels = dels; adds = adds; drops = a.drops } in new) (effects s a.adds)) d e in
+    let m = mapped (λ adds. let new : Deed = record { dels = c.0; adds = adds; drops = a.drops } in new) (effects s a.adds) d c.2 in
     let p = effects_plain s a.adds m.0 m.1 in
     let is = ap (λ z. z.adds) (sym m.2) in
     record { ground = ap are_ground is ∙ p.ground; settled = ap (list_all is_settled_literal) is ∙ p.settled }
@@ -92,8 +88,12 @@ decided_plain facts [] agent action d e = cc
 decided_plain facts (a ∷ acts) agent action d e =
     either_plain (tried facts a agent action) (decided facts acts agent action) d (tried_plain facts a agent action d) (decided_plain facts acts agent action d) e
 
--- what an act that decides leaves are facts
-pub acted_are : (facts : List (LiteralOf Term)) (acts : List Act) (agent : List ℕ) (action : LiteralOf Term) (d : Deed) → AreFacts facts → Some d ≡ decided facts acts agent action → AreFacts (done d facts)
-acted_are facts acts agent action d a e =
-    let p = decided_plain facts acts agent action d (sym e) in
-    done_are d facts a p.ground p.settled
+-- of an act that decides, where one does
+pub decided_all : (facts : List (LiteralOf Term)) (acts : List Act) (agent : List ℕ) (action : LiteralOf Term) (o : Option Deed) → o ≡ decided facts acts agent action → IfSome o (λ d. ArePlain d.adds)
+decided_all facts acts agent action None e = tt
+decided_all facts acts agent action (Some d) e = decided_plain facts acts agent action d (sym e)
+
+-- what is left of facts, whether the deed was done or not
+pub left_are : {T E : Type 0} (r : Result T E) (d : Deed) (old new : List (LiteralOf Term)) → OnOk r (new ≡ done d old) → OnErr r (new ≡ old) → AreFacts old → ArePlain d.adds → AreFacts new
+left_are (Ok x) d old new e f a p = subst AreFacts (sym e) (done_are d old a p.ground p.settled)
+left_are (Err x) d old new e f a p = subst AreFacts (sym f) a

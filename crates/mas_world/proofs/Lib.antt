@@ -8,6 +8,7 @@ pub mod Sound
 pub mod Deeds
 pub mod Sights
 pub mod Uses
+pub mod Naming
 pub mod Boxes
 pub mod Unchanged
 pub mod Sends

@@ -17,14 +17,18 @@ use Rattle.mas_world.specs.contracts.artifact.Kept as kept
 use Rattle.mas_world.specs.contracts.post.Post as post
 use Rattle.mas_world.specs.contracts.post.Post.TheInside as inside
 use Rattle.mas_world.specs.contracts.segment.Segment as segment
+use Rattle.mas_world.specs.contracts.segment.OwnSegment as own
 use Rattle.mas_world.specs.contracts.world.Artifacts as artifacts
 use Rattle.mas_world.specs.contracts.world.World as world
 
 pub act_send : IsSend act.the_row
-act_send = search (sendable, seq_send, literal.the_field_send, literal.the_send, term_field_send, term_send, expr_send) depth 12
+act_send = search (sendable, seq_send, literal.the_field_send, literal.the_send, term_field_send, term_send, expr_send, names_send) depth 12
 
 pub segment_send : IsSend segment.the_row
 segment_send = search (sendable, seq_send, literal.the_send, term_send, act_send) depth 12
+
+pub own_segment_send : IsSend own.the_row
+own_segment_send = search (sendable, segment_send) depth 12
 
 message_send : IsSend message.the_row
 message_send = search (sendable, term_field_send, verb_send) depth 20

@@ -18,14 +18,14 @@ used_stay [] agent action e = refl
 used_stay (u ∷ us) agent action e =
     later_stays u us u.segment (decided u.segment.facts u.segment.acts agent action) (used_acted us agent action) (used_stay us agent action) e
 
-world_stays : (w : World) (s : Segment) (o : Option Deed) (later : Feedback × List Used) → (later.0 ≡ Failed → later.1 ≡ w.used) → (or_used w (after s o) later).0 ≡ Failed
-    → (or_used w (after s o) later).1 ≡ w
-world_stays w s (Some d) later h e = cc
-world_stays w s None later h e = λ i. record { file = w.file; hidden = w.hidden; used = h e i }
+world_stays : (w : World) (o : Option Deed) (later : Feedback × List Used) → (later.0 ≡ Failed → later.1 ≡ w.used) → (or_used w o later).0 ≡ Failed
+    → (or_used w o later).1 ≡ w
+world_stays w (Some d) later h e = cc
+world_stays w None later h e = λ i. record { file = w.file; hidden = w.hidden; used = h e i }
 
 acted_stays : (w : World) (agent : List ℕ) (action : LiteralOf Term) → (acted w agent action).0 ≡ Failed → (acted w agent action).1 ≡ w
 acted_stays w agent action e =
-    world_stays w w.file (decided w.file.facts w.file.acts agent action) (used_acted w.used agent action) (used_stay w.used agent action) e
+    world_stays w (decided w.file.facts w.file.acts agent action) (used_acted w.used agent action) (used_stay w.used agent action) e
 
 -- what follows from a clause of a call that came back
 pub if_ok : {T E : Type 0} {P Q : T → Type 0} (r : Result T E) → ((x : T) → P x → Q x) → IfOk r P → IfOk r Q

@@ -34,9 +34,9 @@ abbrev pub effects : List Pair → List (LiteralOf Term) → Option (List (Liter
 effects s [] = Some []
 effects s (l ∷ more) = option_and_then (λ x. option_map (λ xs. x ∷ xs) (effects s more)) (effect s l)
 
--- what an act takes away and adds under a solution of its guard
+-- what an act takes away, adds and drops under a solution of its guard
 abbrev pub deed : Act → List Pair → Option Deed
-deed a s = option_and_then (λ dels. option_map (λ adds. record { dels = dels; adds = adds }) (effects s a.adds)) (effects s a.dels)
+deed a s = option_and_then (λ dels. option_map (λ adds. record { dels = dels; adds = adds; drops = a.drops }) (effects s a.adds)) (effects s a.dels)
 
 -- the first solution decides: where one of its effects comes to nothing the act does not act
 abbrev pub tried : List (LiteralOf Term) → Act → List ℕ → LiteralOf Term → Option Deed
@@ -47,6 +47,6 @@ abbrev pub decided : List (LiteralOf Term) → List Act → List ℕ → Literal
 decided facts [] agent action = None
 decided facts (a ∷ acts) agent action = option_or (tried facts a agent action) (decided facts acts agent action)
 
--- what is taken away goes first, then what is not there yet goes last
+-- what a deed does to facts: what is taken away goes first, then what is not there yet goes last
 abbrev pub done : Deed → List (LiteralOf Term) → List (LiteralOf Term)
 done d facts = without d.dels facts ++ news (without d.dels facts) d.adds

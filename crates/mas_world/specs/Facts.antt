@@ -40,7 +40,12 @@ is_settled = fold-Term Bool settled_step
 abbrev pub is_settled_literal : LiteralOf Term → Bool
 is_settled_literal l = is_settled (term.Lit l)
 
--- literals without variables and operations, no two of which are the same
+-- literals without variables and operations
+pub record ArePlain (ls : List (LiteralOf Term)) : Type 0 where
+  pub ground : are_ground ls ≡ true
+  pub settled : list_all is_settled_literal ls ≡ true
+
+-- and no two of which are the same
 pub record AreFacts (facts : List (LiteralOf Term)) : Type 0 where
   pub grounded : are_ground facts ≡ true
   pub settled : list_all is_settled_literal facts ≡ true

@@ -5,7 +5,7 @@ use asl_term::sequence::Seq;
 use asl_term::syntax::{Exprs, Literal, Literals, Term};
 
 /// An action that the world offers: the literal that it answers to, the agent that it is for, the parts of its guard,
-/// and what it takes away from the facts and adds to them.
+/// what it takes away from the facts and adds to them, and the names of the artifacts that it drops, each once.
 #[derive(Drop)]
 pub struct Act {
     pub head: Literal,
@@ -15,6 +15,7 @@ pub struct Act {
     pub guard: Exprs,
     pub dels: Literals,
     pub adds: Literals,
+    pub drops: Names,
 }
 
 pub type Acts = Seq<Act>;

@@ -21,7 +21,7 @@ pub trait Artifact: Drop {
     /// Its name.
     ghost named: { Self → List ℕ };
 
-    /// Its acts, which are tried in their order.
+    /// Its acts, which are tried in their order. None drops an artifact.
     ghost table: { Self → List Act };
 
     /// Its facts as they are.
@@ -35,6 +35,7 @@ pub trait Artifact: Drop {
     fn observe(&self, out: &mut Literals) -> Result<(), Starved>
         ensures ok { OnOk result (out.new ≡ out.old ++ facts self.now) }
         ensures sound { OnOk result (AreFacts (facts self.now)) }
+        ensures keeps { spec.drop_nothing (table self.now) ≡ true }
         ensures refused { OnErr result (out.new ≡ out.old) };
 
     /// Acts where its table does, and changes nothing where it does not, nor where memory is wanting.

@@ -8,14 +8,15 @@ ghost use Rattle.mas_world.specs.Facts as spec;
 use asl_term::compare_expr::equal_literal;
 use asl_term::copying::copy_literal;
 use asl_term::sequence::{Seq, Starved};
-use asl_term::syntax::{Literal, Literals};
+use asl_term::syntax::{Literal, Literals, Text};
 use std::alloc::Global;
 
-/// What an act that acts takes away and adds.
+/// What an act that acts takes away and adds, and the names of the artifacts that it drops.
 #[derive(Drop)]
 pub struct Deed {
     pub dels: Literals,
     pub adds: Literals,
+    pub drops: Seq<Text>,
 }
 
 fn same_fact(f: &Literal, g: &Literal) -> bool

@@ -1,13 +1,16 @@
-//! A table of acts and its facts.
+//! Tables of acts and their facts.
 
-ghost use Rattle.std.specs.Prelude.{◌≡◌, ◌++◌, IfOk, OnOk, OnErr};
-ghost use Rattle.mas_world.specs.Facts.{AreFacts};
+ghost use Rattle.std.specs.Prelude.{◌≡◌, ◌++◌, true, if◌then◌else◌, Some, None, IfOk, IfSome, OnOk, OnErr};
+ghost use Rattle.std.specs.List.{list_all};
+ghost use Rattle.mas_world.specs.Acts as acts;
+ghost use Rattle.mas_world.specs.Facts.{AreFacts, ArePlain};
 ghost use Rattle.mas_world.specs.Worlds as spec;
 
-use crate::acts::Acts;
-use crate::facts::carry_out;
+use crate::acts::{Act, Acts};
+use crate::facts::{Deed, carry_out};
 use crate::table::decided;
 use asl_term::copying::copy_literal;
+use asl_term::names::Names;
 use asl_term::sequence::{Seq, Starved};
 use asl_term::syntax::{Literal, Literals, Text};
 use mas_mind::mind::Feedback;
@@ -46,6 +49,34 @@ impl Segment {
         Segment { acts, facts }
     }
 
+    /// What the act that decides does, where one acts.
+    pub fn decided(
+        &self,
+        alloc: Global,
+        agent: &Text,
+        action: &Literal,
+    ) -> Result<Option<Deed>, Starved>
+        ensures value { IfOk result (λ d. d ≡ acts.decided self.now.facts self.now.acts agent.now action.now) }
+        ensures plain { IfOk result (λ d. IfSome d (λ x. ArePlain x.adds)) }
+    {
+        decided(
+            alloc,
+            self.facts.as_slice(),
+            self.acts.as_slice(),
+            agent,
+            action,
+        )
+    }
+
+    /// The facts become what they are after the deed; where memory is wanting they stay.
+    pub fn carry_out(&mut self, alloc: Global, deed: &Deed) -> Result<(), Starved>
+        requires { ArePlain deed.now.adds }
+        ensures ok { OnOk result (self.new ≡ spec.segment self.old.acts (acts.done deed.now self.old.facts)) }
+        ensures err { OnErr result (self.new ≡ self.old) }
+    {
+        carry_out(alloc, &mut self.facts, deed)
+    }
+
     /// Acts where the table does, and changes nothing where it does not.
     pub fn act(
         &mut self,
@@ -56,19 +87,13 @@ impl Segment {
         ensures acted { IfOk result (λ f. (f, self.new) ≡ spec.segment_acted self.old agent.now action.now) }
         ensures refused { OnErr result (self.new ≡ self.old) }
     {
-        match decided(
-            alloc,
-            self.facts.as_slice(),
-            self.acts.as_slice(),
-            agent,
-            action,
-        )? {
-            None => Ok(Feedback::Failed),
-            Some(deed) => {
-                carry_out(alloc, &mut self.facts, &deed)?;
-                Ok(Feedback::Done)
-            }
-        }
+        let Some(deed) = self.decided(alloc, agent, action)? else {
+            return Ok(Feedback::Failed);
+        };
+        let done = self.carry_out(alloc, &deed);
+        drop(deed);
+        done?;
+        Ok(Feedback::Done)
     }
 
     /// Its facts, in order.
@@ -91,5 +116,87 @@ impl Segment {
             copies.push(copy_literal(alloc, f)?)?;
         }
         out.append_all(copies)
+    }
+}
+
+#[tactic(auto, using(crate::proofs::Naming::none_there))]
+fn is_empty(names: &Names) -> bool
+    ensures { result ≡ spec.is_empty names.now }
+{
+    names.len() == 0
+}
+
+/// Whether no act drops an artifact.
+fn drop_nothing(acts: &[Act]) -> bool
+    ensures { result ≡ spec.drop_nothing acts.now }
+{
+    for a in acts {
+        if !is_empty(&a.drops) {
+            return false;
+        }
+    }
+    true
+}
+
+/// The segment of an artifact: no act of its table drops an artifact.
+#[derive(Drop)]
+pub struct OwnSegment {
+    segment: Segment,
+}
+
+impl Model for OwnSegment {
+    ghost use Rattle.std.specs.Prelude.{◌≡◌, true};
+    ghost use Rattle.mas_world.specs.Worlds as spec;
+    ghost use Rattle.asl_term.specs.contracts.syntax.Term as t;
+    ghost use Rattle.asl_term.specs.contracts.syntax.Expr as e;
+    ghost use Rattle.std.specs.Coded.{codes};
+
+    ghost Value = { spec.Segment };
+
+    ghost coded = { Prim.hlevel (codes, t.the_row.coded, e.the_row.coded) };
+
+    ghost view = { λ s. s.segment };
+
+    ghost invariant = { λ s. spec.drop_nothing s.segment.acts ≡ true };
+}
+
+impl OwnSegment {
+    /// A table with the facts at its opening, unless an act of it drops an artifact.
+    pub fn new(acts: Acts, facts: Literals) -> Option<OwnSegment>
+        requires { AreFacts facts }
+        ensures { result ≡ if spec.drop_nothing acts then Some (spec.segment acts facts) else None }
+    {
+        if drop_nothing(acts.as_slice()) {
+            Some(OwnSegment {
+                segment: Segment::new(acts, facts),
+            })
+        } else {
+            drop(acts);
+            drop(facts);
+            None
+        }
+    }
+
+    /// Acts where the table does, and changes nothing where it does not.
+    pub fn act(
+        &mut self,
+        alloc: Global,
+        agent: &Text,
+        action: &Literal,
+    ) -> Result<Feedback, Starved>
+        ensures acted { IfOk result (λ f. (f, self.new) ≡ spec.segment_acted self.old agent.now action.now) }
+        ensures refused { OnErr result (self.new ≡ self.old) }
+    {
+        self.segment.act(alloc, agent, action)
+    }
+
+    /// Puts the facts last, all of them or none.
+    pub fn observe(&self, out: &mut Literals) -> Result<(), Starved>
+        ensures ok { OnOk result (out.new ≡ out.old ++ self.now.facts) }
+        ensures sound { AreFacts self.now.facts }
+        ensures keeps { spec.drop_nothing self.now.acts ≡ true }
+        ensures refused { OnErr result (out.new ≡ out.old) }
+    {
+        self.segment.observe(out)
     }
 }

@@ -10,6 +10,7 @@ use crate::facts::Deed;
 use crate::guards::{first, ready};
 use asl_term::copying::copy_text;
 use asl_term::measure::ground_literal;
+use asl_term::names::Names;
 use asl_term::sequence::{Seq, Starved};
 use asl_term::syntax::{Literal, LiteralOf, Literals, Term, Text};
 use asl_unify::matching::{attempt, first_match};
@@ -80,17 +81,33 @@ fn effects(alloc: Global, ls: &[Literal], s: &Subst) -> Result<Option<Literals>,
     Ok(Some(r))
 }
 
-/// What the act takes away and adds under a solution of its guard.
+/// The names in their order.
+#[tactic(auto, using(crate::proofs::Naming::next_taken, crate::proofs::Naming::all_taken))]
+fn copied(alloc: Global, names: &Names) -> Result<Seq<Text>, Starved>
+    ensures { IfOk result (λ r. r ≡ names.now) }
+{
+    let mut all = Seq::new(alloc);
+    for k in 0..names.len() {
+        let Some(name) = names.at(k + 1) else {
+            unreachable!()
+        };
+        all.push(copy_text(alloc, name)?)?;
+    }
+    Ok(all)
+}
+
+/// What the act takes away, adds and drops under a solution of its guard.
 fn deed(alloc: Global, a: &Act, s: &Subst) -> Result<Option<Deed>, Starved>
     ensures { IfOk result (λ r. r ≡ spec.deed a.now s.now) }
 {
+    let drops = copied(alloc, &a.drops)?;
     let Some(dels) = effects(alloc, a.dels.as_slice(), s)? else {
         return Ok(None);
     };
     let Some(adds) = effects(alloc, a.adds.as_slice(), s)? else {
         return Ok(None);
     };
-    Ok(Some(Deed { dels, adds }))
+    Ok(Some(Deed { dels, adds, drops }))
 }
 
 /// What the act does on these facts, if it acts.

@@ -1,7 +1,7 @@
 //! The world of a file's segment and of artifacts.
 
 ghost use Rattle.std.specs.Prelude.{◌≡◌, ◌++◌, ◌∷◌, [], IfOk, OnOk, OnErr, position, true};
-ghost use Rattle.std.specs.List.{AllByRecursion};
+ghost use Rattle.std.specs.List.{AllByRecursion, list_any};
 ghost use Rattle.std.specs.Str.{bytes_eq};
 ghost use Rattle.asl_term.specs.Exprs.{is_ground_literal};
 ghost use Rattle.mas_mind.specs.declared.mind.Feedback.TheVariants.{Failed};
@@ -100,6 +100,25 @@ impl<A: Artifact> Artifacts<A> {
         }
     }
 
+    /// Drops that of this name, and tells whether there was one.
+    fn dispose(&mut self, name: &Text) -> bool
+        ensures there { result ≡ list_any (spec.is_named name.now) self.old }
+        ensures rest { self.new ≡ spec.without_artifact name.now self.old }
+    {
+        let there = self.kept.iter().any(|a| a.has_name(name));
+        self.kept.retain(|a| !a.has_name(name));
+        there
+    }
+
+    /// Drops those of these names.
+    fn drop_all(&mut self, names: &[Text])
+        ensures { self.new ≡ spec.dropped names.now self.old }
+    {
+        for name in names {
+            self.dispose(name);
+        }
+    }
+
     fn act(&mut self, alloc: Global, agent: &Text, action: &Literal) -> Result<Feedback, Starved>
         requires { is_ground_literal action.now ≡ true }
         ensures acted { IfOk result (λ f. (f, self.new) ≡ spec.used_acted self.old agent.now action.now) }
@@ -154,14 +173,25 @@ impl<A: Artifact> World<A> {
         ensures acted { IfOk result (λ f. (f, self.new) ≡ spec.acted self.old agent.now action.now) }
         ensures refused { OnErr result (self.new ≡ self.old) }
     {
-        match self.file.act(alloc, agent, action)? {
-            Feedback::Done => Ok(Feedback::Done),
-            Feedback::Failed => self.used.act(alloc, agent, action),
-        }
+        let Some(deed) = self.file.decided(alloc, agent, action)? else {
+            return self.used.act(alloc, agent, action);
+        };
+        self.file.carry_out(alloc, &deed)?;
+        self.used.drop_all(deed.drops.as_slice());
+        drop(deed);
+        Ok(Feedback::Done)
     }
 
-    /// The file's acts first, then those of each artifact in order. Where none acts, and where memory is wanting,
-    /// nothing changes.
+    /// Drops the artifact of this name with its facts, and tells whether one is used under it. It takes no memory.
+    pub fn dispose(&mut self, name: &Text) -> bool
+        ensures there { result ≡ spec.is_used self.old name.now }
+        ensures gone { self.new ≡ spec.disposed self.old name.now }
+    {
+        self.used.dispose(name)
+    }
+
+    /// The file's acts first, then those of each artifact in order. An act of the file drops artifacts after its other
+    /// effects. Where none acts, and where memory is wanting, nothing changes.
     pub fn act(
         &mut self,
         alloc: Global,

@@ -9,7 +9,7 @@ use asl_term::names::{Names, number};
 use asl_term::sequence::{Seq, Starved};
 use mas_artifact::tally::Tally;
 use mas_board::board::{Board, open_board};
-use mas_core::robin::Done;
+use mas_core::robin::{Done, round_robin};
 use mas_going::gate::{Gate, OpenGate};
 use mas_pool::pool::run_pool;
 use mas_world::segment::Segment;
@@ -144,14 +144,46 @@ fn starves<R: Threads + Wait + Sync>(rt: &R, alloc: Global, last: u64, workers: 
     }
 }
 
-#[test]
-fn a_mind_without_memory_ends_the_run(rt: HostRuntime) {
-    let alloc = rt.alloc();
-    assert!(rt; starves(&rt, alloc, 1, 2));
-    assert!(rt; starves(&rt, alloc, 4, 3));
+/// Whether the round robin answers want of memory where the second mind has none for its cycle of this number.
+fn starves_alone(alloc: Global, last: u64) -> Result<bool, Starved> {
+    let minds = three_minds(alloc, last)?;
+    let board = board_of_three(alloc)?;
+    match round_robin(alloc, board, minds) {
+        Ok(done) => {
+            drop(done);
+            Ok(false)
+        }
+        Err(_) => Ok(true),
+    }
 }
 
-/// Holds the first thinking of agent 1 until agent 2 has thought, for so many turns at most.
+#[test]
+fn a_mind_without_memory_ends_the_run(rt: HostRuntime) -> Result<(), Starved> {
+    let alloc = rt.alloc();
+    for last in 1..5u64 {
+        assert!(rt; starves_alone(alloc, last)?);
+        for workers in [1, 2, 3] {
+            assert!(rt; starves(&rt, alloc, last, workers));
+        }
+    }
+    assert!(rt; !starves_alone(alloc, 0)?);
+    assert!(rt; !starves(&rt, alloc, 0, 2));
+    assert!(rt; !starves(&rt, alloc, 11, 2));
+    Ok(())
+}
+
+/// Waits until the flag is set, for so many turns at most. Whether it was set.
+fn comes(flag: &AtomicU64) -> bool {
+    for _ in 0..20_000_000u64 {
+        if flag.load(Ordering::SeqCst) != 0 {
+            return true;
+        }
+        thread::yield_now();
+    }
+    false
+}
+
+/// Holds the first thinking of agent 1 until agent 2 has thought.
 #[derive(Drop)]
 struct Holding {
     thought: AtomicU64,
@@ -160,15 +192,8 @@ struct Holding {
 
 impl Gate for Holding {
     fn thinking(&self, agent: u32, cycle: u64) {
-        if agent != 1 || cycle != 1 {
-            return;
-        }
-        for _ in 0..20_000_000u64 {
-            if self.thought.load(Ordering::SeqCst) != 0 {
-                self.met.store(1, Ordering::SeqCst);
-                return;
-            }
-            thread::yield_now();
+        if agent == 1 && cycle == 1 && comes(&self.thought) {
+            self.met.store(1, Ordering::SeqCst);
         }
     }
 
@@ -189,5 +214,53 @@ fn two_think_at_once(rt: HostRuntime) -> Result<(), Starved> {
     let done = run_three(&rt, alloc, 0, 2, &gate)?;
     drop(done);
     assert!(rt; gate.met.load(Ordering::SeqCst) == 1);
+    Ok(())
+}
+
+/// Holds agent 3 in its first cycle until agent 2 begins its third, and agent 2 there until agent 3 begins its sixth. Of
+/// two workers one is then left, which takes agents 1 and 3 by turns. Agent 1 is in its sixth cycle when agent 3 is in its
+/// fifth, and is taken once more before agent 3 begins its sixth: too far ahead of agent 2.
+#[derive(Drop)]
+struct Relay {
+    third: AtomicU64,
+    sixth: AtomicU64,
+    first_came: AtomicU64,
+    second_came: AtomicU64,
+}
+
+impl Gate for Relay {
+    fn thinking(&self, agent: u32, cycle: u64) {
+        if agent == 3 && cycle == 1 && comes(&self.third) {
+            self.first_came.store(1, Ordering::SeqCst);
+        }
+        if agent == 3 && cycle == 6 {
+            self.sixth.store(1, Ordering::SeqCst);
+        }
+        if agent == 2 && cycle == 3 {
+            self.third.store(1, Ordering::SeqCst);
+            if comes(&self.sixth) {
+                self.second_came.store(1, Ordering::SeqCst);
+            }
+        }
+    }
+
+    fn done(&self, _agent: u32, _cycle: u64) {}
+}
+
+#[test]
+fn an_agent_that_is_too_far_ahead_goes_on(rt: HostRuntime) -> Result<(), Starved> {
+    let alloc = rt.alloc();
+    let gate = Relay {
+        third: AtomicU64::new(0),
+        sixth: AtomicU64::new(0),
+        first_came: AtomicU64::new(0),
+        second_came: AtomicU64::new(0),
+    };
+    let done = run_three(&rt, alloc, 0, 2, &gate)?;
+    let back = are_back(&done);
+    drop(done);
+    assert!(rt; back);
+    assert!(rt; gate.first_came.load(Ordering::SeqCst) == 1);
+    assert!(rt; gate.second_came.load(Ordering::SeqCst) == 1);
     Ok(())
 }

@@ -43,7 +43,9 @@ fn project(alloc: Global, world: &[u8]) -> Result<Files, Starved> {
 
 /// An artifact of this name that counted a ping already, or none.
 fn counter(alloc: Global, name: &[u8], is_pinged: bool) -> Result<Pings, WorldFault> {
-    let mut counter = Pings::new(alloc, name)?;
+    let Some(mut counter) = Pings::new(alloc, name)? else {
+        return Err(WorldFault::Memory);
+    };
     if is_pinged {
         ping(alloc, &mut counter, b"b")?;
     }
@@ -108,6 +110,15 @@ mail
 schedule 7
 1 1 1 1 1 1 1
 ";
+
+/// An artifact has no table with an act that drops an artifact.
+#[test]
+fn a_table_that_drops_is_refused(rt: HostRuntime) {
+    let made = Pings::of(rt.alloc(), b"pings", b"act ping by A -> +p, drop tally.");
+    let refused = matches!(&made, Ok(None));
+    drop(made);
+    assert!(rt; refused);
+}
 
 /// An artifact that a test wrote answers for itself.
 #[test]

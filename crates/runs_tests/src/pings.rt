@@ -13,7 +13,7 @@ use env_file::laws::worlds_open;
 use env_file::world::world;
 use mas_mind::mind::Feedback;
 use mas_world::artifact::Artifact;
-use mas_world::segment::Segment;
+use mas_world::segment::OwnSegment;
 use std::alloc::Global;
 use std::marker::Model;
 
@@ -25,7 +25,7 @@ act ping by A : pings(N) -> -pings(N), +pings(N + 1).";
 #[derive(Drop)]
 pub struct Pings {
     name: Text,
-    segment: Segment,
+    segment: OwnSegment,
 }
 
 impl Model for Pings {
@@ -43,13 +43,19 @@ impl Model for Pings {
 
 impl Pings {
     /// No pings yet, under this name.
-    pub fn new(alloc: Global, name: &[u8]) -> Result<Pings, WorldFault> {
-        let text = world(alloc, TABLE, &Names::new(alloc)?)?;
+    pub fn new(alloc: Global, name: &[u8]) -> Result<Option<Pings>, WorldFault> {
+        Pings::of(alloc, name, TABLE)
+    }
+
+    /// The same of another table, unless an act of it drops an artifact.
+    pub fn of(alloc: Global, name: &[u8], table: &[u8]) -> Result<Option<Pings>, WorldFault> {
+        let text = world(alloc, table, &Names::new(alloc)?)?;
         worlds_open();
-        Ok(Pings {
-            name: text_of(alloc, name)?,
-            segment: Segment::new(text.acts, text.facts),
-        })
+        let name = text_of(alloc, name)?;
+        match OwnSegment::new(text.acts, text.facts) {
+            Some(segment) => Ok(Some(Pings { name, segment })),
+            None => Ok(None),
+        }
     }
 }
 
@@ -78,14 +84,19 @@ impl Artifact for Pings {
     }
 }
 
+/// An action without arguments.
+pub fn action(alloc: Global, name: &[u8]) -> Result<Literal, Starved> {
+    Ok(LiteralOf {
+        neg: false,
+        functor: text_of(alloc, name)?,
+        args: Seq::new(alloc),
+        annots: Seq::new(alloc),
+    })
+}
+
 /// Whether the ping of an agent is done.
 pub fn ping(alloc: Global, pings: &mut Pings, agent: &[u8]) -> Result<bool, Starved> {
     let agent = text_of(alloc, agent)?;
-    let action = LiteralOf {
-        neg: false,
-        functor: text_of(alloc, b"ping")?,
-        args: Seq::new(alloc),
-        annots: Seq::new(alloc),
-    };
+    let action = action(alloc, b"ping")?;
     Ok(ground_literal(&action) && pings.operate(alloc, &agent, &action)? == Feedback::Done)
 }

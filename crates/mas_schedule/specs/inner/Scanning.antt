@@ -44,3 +44,9 @@ view_number o = option_map (λ f. (f.value, f.behind.now)) o
 abbrev pub Tells : Result (List ℕ) ℕ → LineFault → Type 0
 Tells r Memory = Unit {0}
 Tells r (BadLine n) = r ≡ Err n
+
+-- What begins with the last two lines that a line feed ends, where what is given begins with the last two so far, with the
+-- last one, and with the line in hand, of which these bytes are left.
+abbrev pub last_two : List ℕ → List ℕ → List ℕ → List ℕ → List ℕ
+last_two two one line [] = two
+last_two two one line (b ∷ bytes) = if nat_eq b 10 then last_two one line bytes bytes else last_two two one line bytes

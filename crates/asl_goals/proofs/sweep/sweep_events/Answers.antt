@@ -28,9 +28,9 @@ returns-clause-made g c =
     let all = a.p.now.agenda.events in
     let i = c.into_iter-event-iterator.ensures.into_iter_gives in
     let n : c.into_iter-event-iterator.result.rest.len ≡ length c.into_vec-event-items.result.items = search rules in
-    let items = c.into_vec-event-items.ensures ∙ c.replace-events.ensures.value in
+    let items = c.into_vec-event-items.ensures ∙ c.take_all-events.ensures.items in
     let e = YieldsList-end (YieldsList-from_vec all (i.0 ∙ items) (n ∙ ap length items)) l.yielded l.event-iterator l.yielded_by c.next.result c.next.new.self c.in-None.is c.next.ensures.steps in
     let s = finished _ _ _ _ _ _ _ _ l.invariant.sofar (sym (map-id l.yielded) ∙ e.0) in
     let now = parts (g.B.BeliefBase.beliefs l.p.beliefs) l.p.agenda l.p.number in
-    let whole = c.in_ok-append_all.ensures.ok ∙ ap (λ z. l.left ++ z) c.replace-posted.ensures.value in
+    let whole = c.from_seq.ensures ∙ c.in_ok-append_all.ensures.ok ∙ ap (λ z. l.left ++ z) c.take_all-posted.ensures.items in
     (ap (with_events now) whole ∙ (λ j. with_events (s.parts j) (s.left j ++ (s.parts j).agenda.events)), s.fell)

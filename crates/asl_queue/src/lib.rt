@@ -1,0 +1,4 @@
+//! Lists from whose front items are taken.
+#![tactic(auto)]
+
+pub mod queue;
