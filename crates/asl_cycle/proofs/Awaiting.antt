@@ -174,9 +174,11 @@ module _ (k : Around) (peers : Peers) where
   taken q s m (took.Row r reply fs) none = let w = step.took_row peers s m q (took.Row r reply fs) in ev q w.sofar none
   taken q s m (took.Spent b) none = none_held q.agenda.acting none
 
-  mail : (p : Parts) (s : Sofar) (m : Option Message) → Ends p (spec.from_msg k peers p s m)
-  mail p s None none = ev p (written s (step.by row.Msg0 p [] true)) none
-  mail p s (Some m) none = let r = receive k peers p m in taken r.parts s m r.took (reads_acting k peers p m ∙ none)
+module _ (k : Around) (peers : Peers) where
+  mail : (p : Parts) (s : Sofar) (m : Option Message) → Ends k peers p (spec.from_msg k peers p s m)
+  mail p s None none = ev (step.taught k p.number None) peers p (written s (step.by row.Msg0 p [] true)) none
+  mail p s (Some m) none =
+      let r = receive k peers p m in taken (step.taught k p.number (Some m)) peers r.parts s m r.took (reads_acting k peers p m ∙ none)
 
   pub fed_none : (p : Parts) (f : Feedback) (a : Option Acting) → p.agenda.acting ≡ a → (step.feed_on k p f a).parts.agenda.acting ≡ None
   fed_none p f None e = e

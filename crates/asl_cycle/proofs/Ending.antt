@@ -8,7 +8,7 @@ use Rattle.asl_term.specs.declared.syntax.Expr.{Expr}
 use Rattle.asl_term.specs.declared.syntax.ArgOf.{ArgOf}
 use Rattle.asl_term.specs.declared.syntax.ArgOf.TheVariants as arg
 use Rattle.asl_term.specs.declared.syntax.CallOf.{CallOf}
-use Rattle.asl_term.specs.declared.syntax.Plan.{Plan}
+use Rattle.asl_plans.specs.declared.entry.Entry.{Entry}
 use Rattle.asl_unify.specs.declared.subst.Pair.{Pair}
 use Rattle.asl_beliefs.specs.Changes.{Changed, abolished}
 use Rattle.asl_intend.specs.declared.entry.Means.{Means}
@@ -50,17 +50,17 @@ use Rattle.asl_cycle.proofs.Executing.{Onward}
 
 -- ---- intentions that end, one after another
 
-pub end_as : {plans : List Plan} {named : Option (LiteralOf Term)} (a b c d : Heap) → ((f : Intention → ℕ) → c f ≡ a f) → ((f : Intention → ℕ) → d f ≡ b f)
+pub end_as : {plans : List Entry} {named : Option (LiteralOf Term)} (a b c d : Heap) → ((f : Intention → ℕ) → c f ≡ a f) → ((f : Intention → ℕ) → d f ≡ b f)
     → End plans named a b → End plans named c d
 end_as _ _ c d e g (End.Same a b h) = End.Same c d (λ f. let i = e f in let j = g f in let l = h f in omega arith)
 end_as _ _ c d e g (End.One a rest next b x y h fate i t) =
     End.One c rest next d x y (λ f. let j = e f in let l = h f in omega arith) fate i (end_as next b next d (λ f. refl) g t)
 
-pub end_then : {plans : List Plan} {named : Option (LiteralOf Term)} (a b c : Heap) → End plans named a b → End plans named b c → End plans named a c
+pub end_then : {plans : List Entry} {named : Option (LiteralOf Term)} (a b c : Heap) → End plans named a b → End plans named b c → End plans named a c
 end_then _ _ c (End.Same a b h) t = end_as b c a c (λ f. sym (h f)) (λ f. refl) t
 end_then _ _ c (End.One a rest next b x y h fate i s) t = End.One a rest next c x y h fate i (end_then next b c s t)
 
-module _ (plans : List Plan) (named : Option (LiteralOf Term)) where
+module _ (plans : List Entry) (named : Option (LiteralOf Term)) where
   -- ---- those that pass a test
 
   module _ {S : Type 0} (i : S → Intention) (test : S → Bool) (ends : (x : S) → test x ≡ true → Ended plans named (i x) None) where
@@ -114,7 +114,7 @@ module _ (plans : List Plan) (named : Option (LiteralOf Term)) where
 
 -- what a failure leaves alone
 falls_keep : {A : Type 0} (get : Agenda → A) → ((a : Agenda) (v : Event) → get (posted a v) ≡ get a)
-    → (plans : List Plan) (n : ℕ) (e : Error) (a : Agenda) (s : List Means) → get (fails plans n e a s).agenda ≡ get a
+    → (plans : List Entry) (n : ℕ) (e : Error) (a : Agenda) (s : List Means) → get (fails plans n e a s).agenda ≡ get a
 falls_keep get keeps plans n e a [] = refl
 falls_keep get keeps plans n e a (m ∷ below) = by (is_raised plans n e m.trigger) (has_means below) (falls_keep get keeps plans n e a below) where
   by : (raises more : Bool) → get (fails plans n e a below).agenda ≡ get a

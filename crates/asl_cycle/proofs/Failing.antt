@@ -1,7 +1,7 @@
 -- What becomes of a stack that fails, and of one whose top is done.
 use Rattle.std.proofs.Common.{◌≡◌, ℕ, zero, suc, ◌+◌, ◌≤◌, Bool, true, false, cond, if◌then◌else◌, List, [], ◌∷◌, ◌++◌, length, map, Option, None, Some, refl, sym, ap, ◌∙◌, arith}
 use Rattle.asl_term.specs.declared.syntax.LiteralOf.{LiteralOf}
-use Rattle.asl_term.specs.declared.syntax.Plan.{Plan}
+use Rattle.asl_plans.specs.declared.entry.Entry.{Entry}
 use Rattle.asl_term.specs.declared.syntax.Term.{Term}
 use Rattle.asl_unify.specs.declared.subst.Pair.{Pair}
 use Rattle.asl_intend.specs.declared.entry.Means.{Means}
@@ -24,12 +24,12 @@ use Rattle.asl_cycle.proofs.Sums.{posted_held, ready_held, becomes, becomes_as}
 
 -- ---- failing
 
-pub record Fell (plans : List Plan) (n : ℕ) (e : Error) (a after : Agenda) (s : List Means) : Type 0 where
+pub record Fell (plans : List Entry) (n : ℕ) (e : Error) (a after : Agenda) (s : List Means) : Type 0 where
   pub is : Option Intention
   pub fate : Failed plans n e s is
   pub sums : (f : Intention → ℕ) → held after f ≡ held a f + one_or_none f is
 
-module _ (plans : List Plan) (n : ℕ) (e : Error) (a : Agenda) where
+module _ (plans : List Entry) (n : ℕ) (e : Error) (a : Agenda) where
   fell_raised : (m : Means) (below : List Means) → is_raised plans n e m.trigger ≡ true → Fell plans n e a (raised e a m below).agenda (m ∷ below)
   fell_raised m below h = record {
     is = Some (Intention.Waits (failure_event e m.trigger below));
@@ -52,7 +52,7 @@ module _ (plans : List Plan) (n : ℕ) (e : Error) (a : Agenda) where
   fell (m ∷ c ∷ below) = fell_more m c below (is_raised plans n e m.trigger) refl (fell (c ∷ below))
 
 -- as a fate of what was taken out
-pub fell_as : (Fate : Option Intention → Type 0) (plans : List Plan) (n : ℕ) (e : Error) (a : Agenda) (s : List Means)
+pub fell_as : (Fate : Option Intention → Type 0) (plans : List Entry) (n : ℕ) (e : Error) (a : Agenda) (s : List Means)
     → ((x : Option Intention) → Failed plans n e s x → Fate x) → Becomes Fate (held a) (held (fails plans n e a s).agenda)
 fell_as Fate plans n e a s h =
     let g = fell plans n e a s in becomes Fate g.is (held a) (held (fails plans n e a s).agenda) (h g.is g.fate) g.sums

@@ -120,6 +120,10 @@ module _ (k : Around) (named : Option (LiteralOf Term)) where
     asks_all None = same p p refl
     asks_all (Some g) = ask_all g (spec.sought_all k p g)
 
+    asks_how : (o : Option (LiteralOf Term)) → Reads_it p (spec.asks_how k me m p o)
+    asks_how None = same p p refl
+    asks_how (Some g) = same p p refl
+
   -- the stack that waited for the answer goes to the back, or fails
   answered : (p : Parts) (q : Ask) (o : Option (List Pair)) → Becomes (Answered k.plans q) (held p.agenda) (held (spec.answered k p q.stack o).parts.agenda)
   answered p q (Some s) =
@@ -152,6 +156,9 @@ module _ (k : Around) (named : Option (LiteralOf Term)) where
   verbs me name p m content verb.Unachieve is = unachieve p (literal_of content) is
   verbs me name p m content verb.AskOne is = asks_one me m p (literal_of content)
   verbs me name p m content verb.AskAll is = asks_all me m p (literal_of content)
+  verbs me name p m content verb.TellHow is = same p p refl
+  verbs me name p m content verb.UntellHow is = same p p refl
+  verbs me name p m content verb.AskHow is = asks_how me m p (literal_of content)
 
 pub hears : (k : Around) (peers : Peers) (p : Parts) (m : Message)
     → Reads k.plans (dropped_by_message p.number (Some m)) p.agenda (spec.receive k peers p m).parts.agenda

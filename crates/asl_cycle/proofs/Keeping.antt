@@ -128,10 +128,10 @@ module _ (k : Around) (c : List Means) where
   turned_by peers p s x (went.Spent r b) is h e =
       alone p s x (subst (λ w. Leads k c x.cur (held p.agenda) (held x.parts.agenda) (after_of w)) is h) e
 
-module _ (k : Around) (peers : Peers) where
-  none_moves : (a : Agenda) → Becomes (λ x. x ≡ None) (held a) (held a)
-  none_moves a = begins (held a) (held a) [] (λ f. omega arith)
+none_moves : (a : Agenda) → Becomes (λ x. x ≡ None) (held a) (held a)
+none_moves a = begins (held a) (held a) [] (λ f. omega arith)
 
+module _ (k : Around) (peers : Peers) where
   int_by : (p : Parts) (s : Sofar) (stacks : List (List Means)) → p.agenda.running ≡ stacks → p.agenda.acting ≡ None
       → Ended (spec.and_then s (step.sel_int_on p stacks) (spec.after_sel_int k peers))
       → Selects k.plans p.agenda (spec.and_then s (step.sel_int_on p stacks) (spec.after_sel_int k peers)).parts.agenda
@@ -269,30 +269,33 @@ module _ (k : Around) (peers : Peers) where
   ev : (p : Parts) (s : Sofar) → p.agenda.acting ≡ None → Ended (spec.from_sel_ev k peers p s) → Selected p (spec.from_sel_ev k peers p s)
   ev p s none e = ev_by p s p.agenda.events refl none e
 
-  record Heard (named : Option (LiteralOf Term)) (p : Parts) (r : spec.Ran) : Type 0 where
+module _ (k : Around) (peers : Peers) where
+  -- behind a message the plans are those that it leaves
+  record Heard (named : Option (LiteralOf Term)) (o : Option Message) (p : Parts) (r : spec.Ran) : Type 0 where
     read : Agenda
     message : Reads k.plans named p.agenda read
     treated : Agenda
-    event : Treats k.plans read treated
-    turn : Selects k.plans treated r.parts.agenda
+    event : Treats (step.plans_after k.plans p.number o) read treated
+    turn : Selects (step.plans_after k.plans p.number o) treated r.parts.agenda
 
-  taken : (named : Option (LiteralOf Term)) (p q : Parts) (s : Sofar) (m : Message) (t : Took) → Reads k.plans named p.agenda q.agenda
-      → q.agenda.acting ≡ None → Ended (let w = step.took_row peers s m q t in spec.after_msg k peers w.parts w.sofar w.next)
-      → Heard named p (let w = step.took_row peers s m q t in spec.after_msg k peers w.parts w.sofar w.next)
-  taken named p q s m (took.Row r reply fs) h none e =
+  taken : (named : Option (LiteralOf Term)) (o : Option Message) (p q : Parts) (s : Sofar) (m : Message) (t : Took) → Reads k.plans named p.agenda q.agenda
+      → q.agenda.acting ≡ None
+      → Ended (let w = step.took_row peers s m q t in spec.after_msg (step.taught k p.number o) peers w.parts w.sofar w.next)
+      → Heard named o p (let w = step.took_row peers s m q t in spec.after_msg (step.taught k p.number o) peers w.parts w.sofar w.next)
+  taken named o p q s m (took.Row r reply fs) h none e =
       let w = step.took_row peers s m q (took.Row r reply fs) in
-      let g = ev q w.sofar none e in
+      let g = ev (step.taught k p.number o) peers q w.sofar none e in
       record { read = q.agenda; message = h; treated = g.treated; event = g.event; turn = g.turn }
-  taken named p q s m (took.Spent b) h none e = cc (e.1)
+  taken named o p q s m (took.Spent b) h none e = cc (e.1)
 
   mail : (p : Parts) (s : Sofar) (m : Option Message) → p.agenda.acting ≡ None → Ended (spec.from_msg k peers p s m)
-      → Heard (dropped_by_message p.number m) p (spec.from_msg k peers p s m)
+      → Heard (dropped_by_message p.number m) m p (spec.from_msg k peers p s m)
   mail p s None none e =
-      let g = ev p (written s (step.by row.Msg0 p [] true)) none e in
+      let g = ev (step.taught k p.number None) peers p (written s (step.by row.Msg0 p [] true)) none e in
       record { read = p.agenda; message = Reads.Begins (none_moves p.agenda); treated = g.treated; event = g.event; turn = g.turn }
   mail p s (Some m) none e =
       let r = receive k peers p m in
-      taken (dropped_by_message p.number (Some m)) p r.parts s m r.took (hears k peers p m) (reads_acting k peers p m ∙ none) e
+      taken (dropped_by_message p.number (Some m)) (Some m) p r.parts s m r.took (hears k peers p m) (reads_acting k peers p m ∙ none) e
 
   fed : (p : Parts) (f : Feedback) (a : Option Acting) → p.agenda.acting ≡ a → Feeds k.plans p.agenda (step.feed_on k p f a).parts.agenda
   fed p f None is = Feeds.Untold (none_moves p.agenda)
@@ -332,6 +335,8 @@ keep_intentions k peers p asks kept i o fed is =
       read = h.read;
       message = subst (λ n. Reads k.plans (dropped_by_message n i.message) v.parts.agenda h.read) (feed_number k peers w.parts kept) h.message;
       treated = h.treated;
-      event = h.event;
-      turn = h.turn;
+      event = subst (λ n. Treats (step.plans_after k.plans n i.message) h.read h.treated) (feed_number k peers w.parts kept) h.event;
+      turn =
+          subst (λ n. Selects (step.plans_after k.plans n i.message) h.treated (spec.cycle k peers p asks kept i).parts.agenda)
+          (feed_number k peers w.parts kept) h.turn;
     }

@@ -81,6 +81,10 @@ module _ (me : ℕ) (m : Message) (p : Parts) where
   asks_all k None = stays p (spec.ignored p) refl refl
   asks_all k (Some g) = ask_all g (spec.sought_all k p g)
 
+  asks_how : (k : Around) (o : Option (LiteralOf Term)) → Reads None p (spec.asks_how k me m p o)
+  asks_how k None = stays p (spec.ignored p) refl refl
+  asks_how k (Some g) = stays p (spec.asks_how k me m p (Some g)) refl refl
+
 module _ (k : Around) where
   -- the stack that waited for the answer goes to the back, or fails
   answered : (p : Parts) (stack : List Means) (o : Option (List Pair)) → Reads None p (spec.answered k p stack o)
@@ -111,6 +115,9 @@ module _ (k : Around) where
   verbs me name p m content verb.Unachieve = unachieve p (literal_of content)
   verbs me name p m content verb.AskOne = asks_one me m p k (literal_of content)
   verbs me name p m content verb.AskAll = asks_all me m p k (literal_of content)
+  verbs me name p m content verb.TellHow = stays p (spec.by (spec.learns k.plans m.from content verb.TellHow).row p) refl refl
+  verbs me name p m content verb.UntellHow = stays p (spec.by (spec.learns k.plans m.from content verb.UntellHow).row p) refl refl
+  verbs me name p m content verb.AskHow = asks_how me m p k (literal_of content)
 
   reads : (peers : Peers) (p : Parts) (m : Message) → Reads (dropped_by_message p.number (Some m)) p (spec.receive k peers p m)
   unfolding spec.receive

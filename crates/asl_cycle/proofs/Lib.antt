@@ -14,3 +14,4 @@ pub mod Ending
 pub mod Hearing
 pub mod Keeping
 pub mod Sends
+pub mod Sourced

@@ -3,11 +3,17 @@ use Rattle.std.proofs.Common.{◌≡◌, Bool, List, ◌∷◌, ◌++◌, Option
 use Rattle.asl_term.specs.declared.sequence.Starved.{Starved}
 use Rattle.asl_term.specs.declared.syntax.CallOf.{CallOf}
 use Rattle.asl_term.specs.declared.syntax.Expr.{Expr}
+use Rattle.asl_intend.specs.declared.agenda.Error.TheVariants as error
 use Rattle.asl_intend.specs.declared.entry.Means.{Means}
+use Rattle.asl_exec.specs.declared.rows.Row.TheVariants as row
 use Rattle.asl_exec.specs.declared.went.Went.{Went}
 use Rattle.asl_exec.specs.declared.went.Went.TheVariants as went
-use Rattle.asl_exec.specs.Parts.{Around, Parts, Made, made}
+use Rattle.asl_exec.specs.Parts.{Around, Parts, Made, made, failed}
 use Rattle.asl_exec.specs.Exec.{exec}
+use Rattle.asl_goals.specs.declared.acted.Acted.{Acted}
+use Rattle.asl_goals.specs.declared.acted.Acted.TheVariants as acted
+use Rattle.asl_goals.specs.declared.acted.Why.{Why}
+use Rattle.asl_goals.specs.Inside.{did}
 use Rattle.mas_mind.specs.declared.mind.Message.{Message}
 use Rattle.asl_kqml.specs.declared.peers.Peers.{Peers}
 use Rattle.asl_kqml.specs.declared.took.Took.{Took}
@@ -49,3 +55,12 @@ exec_ends k peers p q s t cur left w (Err e) made_it none wrote leads = tt
 exec_ends k peers p q s t cur left w (Ok a) made_it none wrote leads =
     let f : spec.exec_step k peers p s cur ≡ spec.writing s (spec.of_made (made q left w)) = exec_other k peers p s cur (made q left w) made_it none in
     f ∙ rw (wrote, leads) refl
+
+-- an internal action on goals, beliefs or other agents that is refused
+pub acted_fails : (k : Around) (peers : Peers) (p q : Parts) (s t : Sofar) (cur left : List Means) (x : Acted) (why : Why) (w : Went) (r : Result After Starved)
+    → x ≡ acted.Failed why → failed k row.IaFail error.IaFailed p cur ≡ made q left w
+    → OnOk r (t ≡ record s { lines = s.lines ++ line.Rule (spec.row_of w) ∷ spec.lines_of w }) → IfOk r (λ a. a ≡ spec.after_of w)
+    → IfOk r (λ a. spec.of_acted k peers s (did p s.asks cur x) x ≡ spec.moved q t (spec.onward left a))
+acted_fails k peers p q s t cur left x why w (Err e) is fell wrote leads = tt
+acted_fails k peers p q s t cur left x why w (Ok a) is fell wrote leads =
+    ap (λ y. spec.of_acted k peers s (did p s.asks cur y) y) is ∙ (ap (λ m. spec.writing s (spec.of_made m)) fell ∙ rw (wrote, leads) refl)

@@ -231,10 +231,10 @@ module _ (k : Around) (peers : Peers) (named : Option (LiteralOf Term)) where
 
 module _ (k : Around) (peers : Peers) where
   mail : (p : Parts) (s : Sofar) (m : Option Message) → Ordered k peers (dropped_by_message p.number m) p (spec.from_msg k peers p s m)
-  mail p s None = ev k peers None p (written s (step.by row.Msg0 p [] true))
+  mail p s None = ev (step.taught k p.number None) peers None p (written s (step.by row.Msg0 p [] true))
   mail p s (Some m) =
       let r = receive k peers p m in
-      taken k peers (dropped_by_message p.number (Some m)) p r.parts s m r.took (reads_leave k peers p m)
+      taken (step.taught k p.number (Some m)) peers (dropped_by_message p.number (Some m)) p r.parts s m r.took (reads_leave k peers p m)
 
   fed_wakes : (p : Parts) (f : Feedback) (a : Option Acting) → (woken : Stacks) × ((step.feed_on k p f a).parts.agenda.running ≡ p.agenda.running ++ woken)
   fed_wakes p f None = ([], sym (nothing_behind p.agenda.running))

@@ -42,6 +42,7 @@ use Rattle.mas_mind.proofs.mind.Level.TheSendSync as level
 use Rattle.asl_stdlib.specs.contracts.standard.StandardActions as standard
 use Rattle.asl_cycle.specs.contracts.agent.Agent as agent
 use Rattle.asl_cycle.specs.contracts.agent.Agent.TheInside as inside
+use Rattle.asl_plans.specs.contracts.entry.Entry as held
 use Rattle.asl_plans.specs.contracts.library.Library as library
 use Rattle.asl_plans.specs.contracts.library.Library.TheInside as library_inside
 use Rattle.asl_plans.proofs.filing.Filed.TheSendSync.{the_send as filed_send}
@@ -82,11 +83,14 @@ formula_send = search (sendable, as_row_send, literal.the_field_send, term_send,
 formula_field_send : IsSend (formula.the_field).row
 formula_field_send = search (sendable, as_row_send, literal.the_field_send, term_send, relation_field_send, call_field_send) depth 30
 
-plan_send : IsSend plan.the_row
-plan_send = search (sendable, as_row_send, seq_send, trigger_field_send, expr_field_send, formula_send) depth 14
+plan_field_send : IsSend (plan.the_field).row
+plan_field_send = search (sendable, as_row_send, seq_send, trigger_field_send, expr_field_send, formula_send) depth 14
+
+held_send : IsSend held.the_row
+held_send = search (sendable, as_row_send, seq_send, plan_field_send) depth 14
 
 library_send : IsSend library.the_row
-library_send = view_send library_inside.the_row _ _ _ _ (declared_send library_inside.the_type (seq_send _ plan_send, (filed_send, tt)))
+library_send = view_send library_inside.the_row _ _ _ _ (declared_send library_inside.the_type (seq_send _ held_send, (filed_send, (keys_send, tt))))
 
 store_send : IsSend store.the_row
 store_send = view_send store_inside.the_row _ _ _ _ (declared_send store_inside.the_type (

@@ -1,7 +1,8 @@
 -- What an agent is: its configuration, and what it has shown so far.
 use Rattle.std.specs.Prelude.{ℕ, ◌+◌, Bool, false, List, [], ◌++◌, length, Option, None, Some}
 use Rattle.asl_term.specs.declared.syntax.AgentText.{AgentText}
-use Rattle.asl_term.specs.declared.syntax.Plan.{Plan}
+use Rattle.asl_plans.specs.declared.entry.Entry.{Entry}
+use Rattle.asl_plans.specs.Libraries.{opened}
 use Rattle.asl_term.specs.declared.syntax.Clause.{Clause}
 use Rattle.asl_resolve.specs.declared.answers.Budgets.{Budgets}
 use Rattle.asl_exec.specs.Parts.{Around, Parts, around}
@@ -14,12 +15,13 @@ use Rattle.asl_kqml.specs.declared.peers.Peers.{Peers}
 use Rattle.asl_stdlib.specs.Solving.{solve}
 use Rattle.asl_cycle.specs.Opening.{opening_parts}
 use Rattle.asl_cycle.specs.Cycle.{Ran, cycle}
+use Rattle.asl_cycle.specs.Steps.{plans_after}
 use Rattle.asl_cycle.specs.Trace.{shown}
 
--- an agent: its plans and rules, what its rows change, the number of its next ask, the feedback that was told and is still
+-- an agent: its plans, each with those who it is from, its rules, what its rows change, the number of its next ask, the feedback that was told and is still
 -- to be used, whether it awaits feedback, the names of all agents and its number, and the lines that it has shown
 pub record Mindset : Type 0 where
-  pub plans : List Plan
+  pub plans : List Entry
   pub rules : List Clause
   pub parts : Parts
   pub asks : ℕ
@@ -39,10 +41,12 @@ own_name peers = agent_name peers.names peers.me
 abbrev pub surroundings : Mindset → Around
 surroundings m = around m.plans m.rules (solve (own_name m.peers)) m.budgets
 
--- the agent after a cycle: one cycle more, and those of its lines that the level shows; it awaits feedback for an action
-abbrev pub after_cycle : Mindset → Ran → Cycled Mindset
-after_cycle m r = record {
+-- the agent after a cycle: the plans that its message leaves, one cycle more, and those of its lines that the level shows; it awaits
+-- feedback for an action
+abbrev pub after_cycle : Mindset → Input → Ran → Cycled Mindset
+after_cycle m i r = record {
   mind = record m {
+    plans = plans_after m.plans m.parts.number i.message;
     parts = r.parts;
     asks = r.asks;
     kept = None;
@@ -54,7 +58,7 @@ after_cycle m r = record {
 }
 
 abbrev pub agent_cycle : Mindset → Input → Cycled Mindset
-agent_cycle m i = after_cycle m (cycle (surroundings m) m.peers m.parts m.asks m.kept i)
+agent_cycle m i = after_cycle m i (cycle (surroundings m) m.peers m.parts m.asks m.kept i)
 
 -- the agent once it was told what became of its action
 abbrev pub told : Mindset → Feedback → Mindset
@@ -74,7 +78,7 @@ agent_kind = record {
 -- the agent of a source before its first cycle, with its number and the names of all agents
 abbrev pub opening_mind : ℕ → List (List ℕ) → AgentText → Budgets → Level → Mindset
 opening_mind me names source k level = record {
-  plans = source.plans;
+  plans = opened source.plans;
   rules = source.rules;
   parts = opening_parts source;
   asks = 1;

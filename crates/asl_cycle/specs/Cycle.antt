@@ -22,7 +22,7 @@ use Rattle.asl_cycle.specs.declared.config.Applied.{Applied}
 use Rattle.asl_cycle.specs.declared.config.Applied.TheVariants as applied
 use Rattle.asl_cycle.specs.declared.config.After.{After}
 use Rattle.asl_cycle.specs.declared.config.After.TheVariants as after
-use Rattle.asl_cycle.specs.Steps.{Stepped, Onward, written, percept, feed, msg, sel_ev, rel_pl, appl_pl, sel_appl, add_im, sel_int, exec_step, clear_step}
+use Rattle.asl_cycle.specs.Steps.{Stepped, Onward, written, percept, feed, msg, taught, sel_ev, rel_pl, appl_pl, sel_appl, add_im, sel_int, exec_step, clear_step}
 
 -- what a cycle leaves, the number of the next ask among it, writes and thinks
 pub record Ran : Type 0 where
@@ -129,8 +129,10 @@ module _ (k : Around) (peers : Peers) where
   after_msg p s true = from_sel_ev p s
   after_msg p s false = spends p s
 
+module _ (k : Around) (peers : Peers) where
+  -- the rows behind a message see the plans after it
   abbrev pub from_msg : Parts → Sofar → Option Message → Ran
-  from_msg p s message = let w = msg k peers p s message in after_msg w.parts w.sofar w.next
+  from_msg p s message = let w = msg k peers p s message in after_msg (taught k p.number message) peers w.parts w.sofar w.next
 
   abbrev pub from_feed : Parts → Sofar → Option Feedback → Option Message → Ran
   from_feed p s kept message = and_then s (feed k p kept) (λ q t _. from_msg q t message)

@@ -6,4 +6,5 @@ pub mod Opening
 pub mod Turns
 pub mod Intentions
 pub mod Agent
+pub mod Plans
 pub mod inner

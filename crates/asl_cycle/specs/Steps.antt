@@ -1,5 +1,5 @@
 -- The steps of a cycle. Each is a table: its rows are asked from above, and the first whose condition holds applies.
-use Rattle.std.specs.Prelude.{ℕ, ◌≡◌, ◌+◌, ◌-◌, Bool, true, false, List, [], ◌∷◌, ◌++◌, map, replicate, slice_get, Option, None, Some, option_to_list}
+use Rattle.std.specs.Prelude.{ℕ, ◌≡◌, ◌+◌, ◌-◌, Bool, true, false, List, [], ◌∷◌, ◌++◌, map, replicate, Option, None, Some, option_to_list}
 use Rattle.std.specs.List.{flat_map}
 use Rattle.asl_term.specs.declared.syntax.LiteralOf.{LiteralOf}
 use Rattle.asl_term.specs.declared.syntax.Term.{Term}
@@ -16,6 +16,8 @@ use Rattle.asl_resolve.specs.declared.answers.Answer.TheVariants as answer
 use Rattle.asl_resolve.specs.Base.{base}
 use Rattle.asl_resolve.specs.Marks.{marks, decide}
 use Rattle.asl_plans.specs.declared.library.Choice.{Choice}
+use Rattle.asl_plans.specs.declared.entry.Entry.{Entry}
+use Rattle.asl_plans.specs.Libraries.{plan_at}
 use Rattle.asl_plans.specs.Plans.{relevant}
 use Rattle.asl_intend.specs.declared.entry.Means.{Means}
 use Rattle.asl_intend.specs.declared.agenda.Error.{Error}
@@ -42,7 +44,7 @@ use Rattle.asl_kqml.specs.declared.peers.Peers.{Peers}
 use Rattle.asl_kqml.specs.declared.took.Took.{Took}
 use Rattle.asl_kqml.specs.declared.took.Took.TheVariants as took
 use Rattle.asl_kqml.specs.Contents.{agent_name}
-use Rattle.asl_kqml.specs.Receive.{Received, receive}
+use Rattle.asl_kqml.specs.Receive.{Received, receive, learned}
 use Rattle.asl_goals.specs.declared.acted.Acted.{Acted}
 use Rattle.asl_goals.specs.declared.acted.Acted.TheVariants as acted
 use Rattle.asl_goals.specs.Inside.{Did, act_inside}
@@ -202,6 +204,15 @@ abbrev pub msg : Around → Peers → Parts → Sofar → Option Message → Mov
 msg k peers p s None = writing s (by row.Msg0 p [] true)
 msg k peers p s (Some m) = reads peers s m (receive k peers p m)
 
+-- the plans after a message, where there is one; no other step changes them
+abbrev pub plans_after : List Entry → ℕ → Option Message → List Entry
+plans_after lib n None = lib
+plans_after lib n (Some m) = learned lib n m
+
+-- what the rows behind a message look at: these plans, and all else as before
+abbrev pub taught : Around → ℕ → Option Message → Around
+taught k n message = record k { plans = plans_after k.plans n message }
+
 -- ---- SelEv: the oldest event, where there is one
 
 abbrev pub sel_ev_on : Parts → List Event → Stepped (Option Event)
@@ -250,7 +261,7 @@ choose_at k p n (Some plan) s rest = choose_by n plan (sought k p n plan s) rest
 
 abbrev pub choose : Around → Parts → ℕ → List Choice → Chosen
 choose k p n [] = chosen.Nothing
-choose k p n (c ∷ choices) = choose_at k p n (slice_get k.plans c.plan) c.subst (choose k p n choices)
+choose k p n (c ∷ choices) = choose_at k p n (plan_at k.plans c.plan) c.subst (choose k p n choices)
 
 abbrev pub appl_pl_on : Around → Parts → Event → Chosen → Stepped Applied
 appl_pl_on k p v (chosen.Plan m s n) = by row.Appl1 p [] (applied.Plan record { event = v; means = m; subst = s; next = n })

@@ -148,7 +148,7 @@ impl Mind for Agent {
         let kept = self.kept.take();
         let finished = cycle(
             alloc,
-            &self.around,
+            &mut self.around,
             &self.peers,
             &mut self.parts,
             self.asks,

@@ -1,7 +1,8 @@
 //! The first relevant plan whose context is found.
 
-ghost use Rattle.std.specs.Prelude.{ℕ, ◌≡◌, ◌+◌, ◌-◌, ◌<◌, ◌^◌, map, slice_get, IfOk, IfSome};
+ghost use Rattle.std.specs.Prelude.{ℕ, ◌≡◌, ◌+◌, ◌-◌, ◌<◌, ◌^◌, map, IfOk, IfSome};
 ghost use Rattle.asl_unify.specs.Renamed.{renamed_formula};
+ghost use Rattle.asl_plans.specs.Libraries.{plan_at};
 ghost use Rattle.asl_resolve.specs.Marks.{NextAtMost};
 ghost use Rattle.asl_cycle.specs.declared.config.Chosen.{Chosen as Given};
 ghost use Rattle.asl_exec.specs.Parts.{around, parts};
@@ -106,7 +107,7 @@ fn choose_at<B: BeliefBase, A: Actions>(
     requires { p.now.number + k.now.budgets.tries < 2 ^ 64 - 1 }
     ensures chosen { let e = around k.now.lib.plans (B.rules p.now.beliefs) (A.solve k.now.actions) k.now.budgets in
         let q = parts (B.beliefs p.now.beliefs) p.now.agenda p.now.number in
-        IfOk result (λ r. (rest : Given) → spec.choose_at e q number (slice_get k.now.lib.plans c.now.plan) c.now.subst rest ≡ or_else r rest) }
+        IfOk result (λ r. (rest : Given) → spec.choose_at e q number (plan_at k.now.lib.plans c.now.plan) c.now.subst rest ≡ or_else r rest) }
     ensures number { IfOk result (λ r. IfSome r (ChosenAtMost (p.now.number + k.now.budgets.tries))) }
 {
     match k.lib.plan(c.plan) {

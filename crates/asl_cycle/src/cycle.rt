@@ -1,10 +1,11 @@
 //! A cycle: from each step to the end.
 
-ghost use Rattle.std.specs.Prelude.{◌≡◌, ◌≤◌, ◌<◌, ◌^◌, ◌+◌, ◌-◌, ◌*◌, true, None, IfOk};
+ghost use Rattle.std.specs.Prelude.{◌≡◌, ◌≤◌, ◌<◌, ◌^◌, ◌+◌, ◌-◌, ◌*◌, true, None, IfOk, OnOk};
 ghost use Rattle.asl_exec.specs.Parts.{around, parts};
 ghost use Rattle.asl_beliefs.specs.Bases.{all_ground};
 ghost use Rattle.asl_cycle.specs.Acts.{is_fed};
 ghost use Rattle.asl_cycle.specs.Cycle as spec;
+ghost use Rattle.asl_cycle.specs.Steps.{plans_after};
 
 use crate::config::{After, Applied, Intended, Related};
 use crate::rows::{Line, Lines, Sofar};
@@ -300,23 +301,26 @@ fn from_sel_ev<B: BeliefBase, A: Actions>(
 
 fn from_msg<B: BeliefBase, A: Actions>(
     alloc: Global,
-    k: &Around<A>,
+    k: &mut Around<A>,
     peers: &Peers,
     p: &mut Parts<B>,
     sofar: Sofar,
     message: &Option<Message>,
 ) -> Result<Finished, Starved>
-    requires tries { k.now.budgets.tries ≤ 10000000 }
+    requires tries { k.old.budgets.tries ≤ 10000000 }
     requires room { p.old.number < 2 ^ 63 }
     requires asks { sofar.asks < 2 ^ 64 - 1 }
     requires free { p.old.agenda.acting ≡ None }
-    ensures made { let e = around k.now.lib.plans (B.rules p.old.beliefs) (A.solve k.now.actions) k.now.budgets in
+    ensures made { let e = around k.old.lib.plans (B.rules p.old.beliefs) (A.solve k.old.actions) k.old.budgets in
         let old = parts (B.beliefs p.old.beliefs) p.old.agenda p.old.number in
         let new = parts (B.beliefs p.new.beliefs) p.new.agenda p.new.number in
         IfOk result (λ f. spec.from_msg e peers.now old sofar message.now ≡ record { parts = new; asks = f.asks; lines = f.lines; thought = f.thought }) }
+    ensures plans { OnOk result (k.new.lib.plans ≡ plans_after k.old.lib.plans p.old.number message.now) }
     ensures rules { B.rules p.new.beliefs ≡ B.rules p.old.beliefs }
-    ensures number { p.new.number ≤ p.old.number + (2 + 2 * k.now.budgets.tries) }
+    ensures number { p.new.number ≤ p.old.number + (2 + 2 * k.old.budgets.tries) }
     ensures asks { IfOk result (λ f. f.asks ≤ sofar.asks + 1) }
+    ensures actions { k.new.actions ≡ k.old.actions }
+    ensures budgets { k.new.budgets ≡ k.old.budgets }
 {
     let mut sofar = sofar;
     if msg(alloc, k, peers, p, &mut sofar, message)? {
@@ -329,7 +333,7 @@ fn from_msg<B: BeliefBase, A: Actions>(
 /// for its action, there is some. The counter rises by at most two and twice the tries, and at most one number of an ask is used.
 pub fn cycle<B: BeliefBase, A: Actions>(
     alloc: Global,
-    k: &Around<A>,
+    k: &mut Around<A>,
     peers: &Peers,
     p: &mut Parts<B>,
     asks: u64,
@@ -337,17 +341,20 @@ pub fn cycle<B: BeliefBase, A: Actions>(
     input: &Input,
 ) -> Result<Finished, Starved>
     requires ground { all_ground input.now.percepts ≡ true }
-    requires tries { k.now.budgets.tries ≤ 10000000 }
+    requires tries { k.old.budgets.tries ≤ 10000000 }
     requires room { p.old.number < 2 ^ 63 }
     requires asks { asks < 2 ^ 63 }
     requires fed { is_fed p.old.agenda.acting kept ≡ true }
-    ensures made { let e = around k.now.lib.plans (B.rules p.old.beliefs) (A.solve k.now.actions) k.now.budgets in
+    ensures made { let e = around k.old.lib.plans (B.rules p.old.beliefs) (A.solve k.old.actions) k.old.budgets in
         let old = parts (B.beliefs p.old.beliefs) p.old.agenda p.old.number in
         let new = parts (B.beliefs p.new.beliefs) p.new.agenda p.new.number in
         IfOk result (λ f. spec.cycle e peers.now old asks kept input.now ≡ record { parts = new; asks = f.asks; lines = f.lines; thought = f.thought }) }
+    ensures plans { OnOk result (k.new.lib.plans ≡ plans_after k.old.lib.plans p.old.number input.now.message) }
     ensures rules { B.rules p.new.beliefs ≡ B.rules p.old.beliefs }
-    ensures number { p.new.number ≤ p.old.number + (2 + 2 * k.now.budgets.tries) }
+    ensures number { p.new.number ≤ p.old.number + (2 + 2 * k.old.budgets.tries) }
     ensures asks { IfOk result (λ f. f.asks ≤ asks + 1) }
+    ensures actions { k.new.actions ≡ k.old.actions }
+    ensures budgets { k.new.budgets ≡ k.old.budgets }
 {
     let mut sofar = Sofar {
         lines: Seq::new(alloc),

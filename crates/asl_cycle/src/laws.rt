@@ -2,6 +2,7 @@
 
 ghost use Rattle.asl_cycle.specs.Acts.{ActionsAreAwaited};
 ghost use Rattle.asl_cycle.specs.Intentions.{CyclesKeepIntentions};
+ghost use Rattle.asl_cycle.specs.Plans.{BeginsWithSource, CyclesKeepSource};
 ghost use Rattle.asl_cycle.specs.Turns.{CyclesTakeTurns, NothingIsLost, CyclesKeepOthers};
 
 /// Intentions take turns: each cycle goes on with the first of those that run and are left, and what is left of the others
@@ -29,4 +30,10 @@ pub fn actions_are_awaited()
 /// of the stated reasons; those that are new are external events.
 pub fn intentions_are_kept()
     ensures { CyclesKeepIntentions }
+{}
+
+/// An agent begins with the plans of its source, and no message takes one of them away.
+pub fn plans_of_the_source_stay()
+    ensures begins { BeginsWithSource }
+    ensures stay { CyclesKeepSource }
 {}

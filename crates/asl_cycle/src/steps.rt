@@ -225,24 +225,28 @@ pub fn feed<B: BeliefBase, A: Actions>(
     }
 }
 
-/// The row of a message, where there is one, and whether the cycle goes on. The counter rises by one at most.
+/// The row of a message, where there is one, and whether the cycle goes on. The counter rises by one at most. No other step changes
+/// the plans.
 pub fn msg<B: BeliefBase, A: Actions>(
     alloc: Global,
-    k: &Around<A>,
+    k: &mut Around<A>,
     peers: &Peers,
     p: &mut Parts<B>,
     sofar: &mut Sofar,
     message: &Option<Message>,
 ) -> Result<bool, Starved>
-    requires { p.old.number + k.now.budgets.tries + 1 < 2 ^ 64 - 1 }
-    ensures made { let e = around k.now.lib.plans (B.rules p.old.beliefs) (A.solve k.now.actions) k.now.budgets in
+    requires { p.old.number + k.old.budgets.tries + 1 < 2 ^ 64 - 1 }
+    ensures made { let e = around k.old.lib.plans (B.rules p.old.beliefs) (A.solve k.old.actions) k.old.budgets in
         let old = parts (B.beliefs p.old.beliefs) p.old.agenda p.old.number in
         let new = parts (B.beliefs p.new.beliefs) p.new.agenda p.new.number in
         IfOk result (λ next. spec.msg e peers.now old sofar.old message.now ≡ spec.moved new sofar.new next) }
+    ensures plans { OnOk result (k.new.lib.plans ≡ spec.plans_after k.old.lib.plans p.old.number message.now) }
     ensures rules { B.rules p.new.beliefs ≡ B.rules p.old.beliefs }
     ensures number { p.new.number ≤ p.old.number + 1 }
     ensures acting { OnOk result (p.new.agenda.acting ≡ p.old.agenda.acting) }
     ensures asks { OnOk result (sofar.new.asks ≡ sofar.old.asks) }
+    ensures actions { k.new.actions ≡ k.old.actions }
+    ensures budgets { k.new.budgets ≡ k.old.budgets }
 {
     match message {
         None => {

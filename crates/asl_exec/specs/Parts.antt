@@ -4,7 +4,7 @@ use Rattle.asl_term.specs.declared.syntax.LiteralOf.{LiteralOf}
 use Rattle.asl_term.specs.declared.syntax.Term.{Term}
 use Rattle.asl_term.specs.declared.syntax.Kind.{Kind}
 use Rattle.asl_term.specs.declared.syntax.Trigger.{Trigger}
-use Rattle.asl_term.specs.declared.syntax.Plan.{Plan}
+use Rattle.asl_plans.specs.declared.entry.Entry.{Entry}
 use Rattle.asl_term.specs.declared.syntax.Clause.{Clause}
 use Rattle.asl_intend.specs.declared.entry.Means.{Means}
 use Rattle.asl_intend.specs.declared.agenda.Error.{Error}
@@ -19,14 +19,14 @@ use Rattle.asl_exec.specs.declared.rows.Row.{Row}
 use Rattle.asl_exec.specs.declared.went.Went.{Went}
 use Rattle.asl_exec.specs.declared.went.Went.TheVariants as went
 
--- what no row changes: the plans, the rules, what internal actions give, and what one search may use
+-- the plans, which messages alone change, and what no row changes: the rules, what internal actions give, and what one search may use
 pub record Around : Type 0 where
-  pub plans : List Plan
+  pub plans : List Entry
   pub rules : List Clause
   pub solve : Solve
   pub budgets : Budgets
 
-abbrev pub around : List Plan → List Clause → Solve → Budgets → Around
+abbrev pub around : List Entry → List Clause → Solve → Budgets → Around
 around plans rules solve budgets = record { plans = plans; rules = rules; solve = solve; budgets = budgets }
 
 -- what rows change beside the current stack: the beliefs, the agenda, and the counter

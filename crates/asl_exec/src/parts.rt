@@ -18,7 +18,7 @@ use asl_term::sequence::Starved;
 use asl_term::syntax::{Kind, Literal, Trigger, Triggers};
 use std::alloc::Global;
 
-/// What no row changes: the plans, the internal actions of formulas, and what one search may use.
+/// The plans, which messages alone change, and what no row changes: the internal actions of formulas, and what one search may use.
 #[derive(Drop)]
 pub struct Around<A> {
     pub lib: Library,

@@ -7,7 +7,7 @@ use Rattle.asl_term.specs.declared.syntax.LiteralOf.{LiteralOf}
 use Rattle.asl_term.specs.declared.syntax.Term.{Term}
 use Rattle.asl_term.specs.declared.syntax.Var.{Var}
 use Rattle.asl_term.specs.declared.syntax.Trigger.{Trigger}
-use Rattle.asl_term.specs.declared.syntax.Plan.{Plan}
+use Rattle.asl_plans.specs.declared.entry.Entry.{Entry}
 use Rattle.asl_unify.specs.Puts.{put}
 use Rattle.asl_unify.specs.Applied.{put_trigger, put_literal}
 use Rattle.asl_unify.specs.Compare.{same_sign, same_frame, asks}
@@ -72,28 +72,28 @@ way_at n e p t o c is =
     ∙ sym (ap (is_way n e p) c.1)
 
 -- the next plan is relevant, or one of the others
-pub next_way : (n : ℕ) (e : Error) (ps : List Plan) (o : Option Trigger) (k : ℕ) (d u : Plan) → k < length ps → u ≡ get_or ps k d
-    → any_way n e (drop k ps) o ≡ (is_way n e u.trigger o || any_way n e (drop (k + 1) ps) o)
+pub next_way : (n : ℕ) (e : Error) (ps : List Entry) (o : Option Trigger) (k : ℕ) (d u : Entry) → k < length ps → u ≡ get_or ps k d
+    → any_way n e (drop k ps) o ≡ (is_way n e u.plan.trigger o || any_way n e (drop (k + 1) ps) o)
 next_way n e ps o k d u h s = at_drop_more (λ l. any_way n e l o) ps k d h
-    ∙ ap (λ z. is_way n e z.trigger o || any_way n e (drop (k + 1) ps) o) (sym s)
+    ∙ ap (λ z. is_way n e z.plan.trigger o || any_way n e (drop (k + 1) ps) o) (sym s)
 
-any_relevant : (n k : ℕ) (e : Error) (ps : List Plan) (t : Trigger) → any_choice (relevant_from k ps n (failure e t)) ≡ any_way n e ps (Some t)
+any_relevant : (n k : ℕ) (e : Error) (ps : List Entry) (t : Trigger) → any_choice (relevant_from k ps n (failure e t)) ≡ any_way n e ps (Some t)
 any_relevant n k e [] t = refl
-any_relevant n k e (p ∷ ps) t = go (first_way n p.trigger (failure e t)) (any_relevant n (k + 1) e ps t) where
+any_relevant n k e (p ∷ ps) t = go (first_way n p.plan.trigger (failure e t)) (any_relevant n (k + 1) e ps t) where
   go : (o : Option (List Pair)) → any_choice (relevant_from (k + 1) ps n (failure e t)) ≡ any_way n e ps (Some t)
       → any_choice (kept k o (relevant_from (k + 1) ps n (failure e t))) ≡ (is_some o || any_way n e ps (Some t))
   go None r = r
   go (Some s) r = refl
 
-abbrev raised_of : List Plan → ℕ → Error → Option Trigger → Option Trigger
+abbrev raised_of : List Entry → ℕ → Error → Option Trigger → Option Trigger
 raised_of ps n e None = None
 raised_of ps n e (Some t) = raised_trigger ps n e t
 
-top_is : (ps : List Plan) (n : ℕ) (e : Error) (stack : List Means) → raised_top ps n e stack ≡ raised_of ps n e (trigger_at stack 0)
+top_is : (ps : List Entry) (n : ℕ) (e : Error) (stack : List Means) → raised_top ps n e stack ≡ raised_of ps n e (trigger_at stack 0)
 top_is ps n e [] = refl
 top_is ps n e (m ∷ below) = refl
 
-pub top_raised : (ps : List Plan) (n : ℕ) (e : Error) (stack : List Means) (t : Trigger) → ComesFrom t (trigger_at stack 0) → is_goal t ≡ true
+pub top_raised : (ps : List Entry) (n : ℕ) (e : Error) (stack : List Means) (t : Trigger) → ComesFrom t (trigger_at stack 0) → is_goal t ≡ true
     → any_way n e ps (trigger_at stack 0) ≡ true → option_map (failure e) (trigger_at stack 0) ≡ raised_top ps n e stack
 top_raised ps n e stack t c g a =
     let f = failure e (put_trigger c.0 t) in
@@ -101,7 +101,7 @@ top_raised ps n e stack t c g a =
     ∙ ap (λ b. if (if b then any_choice (relevant_from 0 ps n f) else false) then Some f else None) g
     ∙ ap (λ b. if b then Some f else None) (any_relevant n 0 e ps (put_trigger c.0 t) ∙ ap (any_way n e ps) (sym c.1) ∙ a))
 
-pub top_not_raised : (ps : List Plan) (n : ℕ) (e : Error) (stack : List Means) → any_way n e ps (trigger_at stack 0) ≡ false
+pub top_not_raised : (ps : List Entry) (n : ℕ) (e : Error) (stack : List Means) → any_way n e ps (trigger_at stack 0) ≡ false
     → None ≡ raised_top ps n e stack
 top_not_raised ps n e stack a = sym (top_is ps n e stack ∙ go (trigger_at stack 0) a) where
   go : (o : Option Trigger) → any_way n e ps o ≡ false → raised_of ps n e o ≡ None
@@ -111,12 +111,12 @@ top_not_raised ps n e stack a = sym (top_is ps n e stack ∙ go (trigger_at stac
     at false = refl
     at true = ap (λ b. if b then Some (failure e t) else None) (any_relevant n 0 e ps t ∙ a)
 
-pub top_no_goal : (ps : List Plan) (n : ℕ) (e : Error) (stack : List Means) (t : Trigger) → ComesFrom t (trigger_at stack 0) → is_goal t ≡ false
+pub top_no_goal : (ps : List Entry) (n : ℕ) (e : Error) (stack : List Means) (t : Trigger) → ComesFrom t (trigger_at stack 0) → is_goal t ≡ false
     → None ≡ raised_top ps n e stack
 top_no_goal ps n e stack t c g = sym (top_is ps n e stack ∙ ap (raised_of ps n e) c.1
     ∙ ap (λ b. if (if b then any_choice (relevant_from 0 ps n (failure e (put_trigger c.0 t))) else false) then Some (failure e (put_trigger c.0 t)) else None) g)
 
 -- no means is there
-pub no_top : (ps : List Plan) (n : ℕ) (e : Error) (stack : List Means) → trigger_at stack 0 ≡ None → None ≡ raised_top ps n e stack
+pub no_top : (ps : List Entry) (n : ℕ) (e : Error) (stack : List Means) → trigger_at stack 0 ≡ None → None ≡ raised_top ps n e stack
 no_top ps n e [] h = refl
 no_top ps n e (m ∷ below) h = cc

@@ -1,5 +1,5 @@
 -- The messages of `.send` and `.broadcast`.
-use Rattle.std.specs.Prelude.{ℕ, ◌+◌, Bool, true, false, cond, eqb, List, [], ◌∷◌, slice_get, Option, None, Some, is_some, Result, Ok, Err}
+use Rattle.std.specs.Prelude.{ℕ, ◌+◌, ◌||◌, Bool, true, false, cond, eqb, List, [], ◌∷◌, slice_get, Option, None, Some, is_some, Result, Ok, Err}
 use Rattle.std.specs.Str.{bytes_eq}
 use Rattle.asl_term.specs.Names.{place_of}
 use Rattle.asl_term.specs.declared.syntax.ArgOf.{ArgOf}
@@ -13,7 +13,7 @@ use Rattle.mas_mind.specs.declared.mind.Verb.{Verb}
 use Rattle.mas_mind.specs.declared.mind.Verb.TheVariants as verb
 use Rattle.mas_mind.specs.Minds.{verb_text}
 use Rattle.asl_kqml.specs.declared.peers.Peers.{Peers}
-use Rattle.asl_kqml.specs.Contents.{literal_of, literals_of, ground_literals, is_atom}
+use Rattle.asl_kqml.specs.Contents.{literal_of, literals_of, ground_literals, is_atom, string_of, strings_of}
 use Rattle.asl_goals.specs.declared.acted.Why.{Why}
 use Rattle.asl_goals.specs.declared.acted.Why.TheVariants as why
 use Rattle.asl_goals.specs.declared.letter.Letter.{Letter}
@@ -65,11 +65,15 @@ verb_named name =
     (cond (is_word name verb.Achieve) (Some verb.Achieve)
     (cond (is_word name verb.Unachieve) (Some verb.Unachieve)
     (cond (is_word name verb.AskOne) (Some verb.AskOne)
-    (cond (is_word name verb.AskAll) (Some verb.AskAll) None)))))
+    (cond (is_word name verb.AskAll) (Some verb.AskAll)
+    (cond (is_word name verb.TellHow) (Some verb.TellHow)
+    (cond (is_word name verb.UntellHow) (Some verb.UntellHow)
+    (cond (is_word name verb.AskHow) (Some verb.AskHow) None))))))))
 
 abbrev pub is_ask : Verb → Bool
 is_ask verb.AskOne = true
 is_ask verb.AskAll = true
+is_ask verb.AskHow = true
 is_ask other = false
 
 abbrev pub verb_atom : Option (List ℕ) → Option Verb
@@ -82,10 +86,12 @@ verb_at args n = verb_atom (atom_at args n)
 
 -- ---- the content
 
--- for tell ground literals, for untell literals, else a literal
+-- for tell ground literals, for untell literals, for tellHow strings, for untellHow a string or an atom, else a literal
 abbrev pub fits : Verb → Term → Bool
 fits verb.Tell t = is_some (ground_literals t)
 fits verb.Untell t = is_some (literals_of t)
+fits verb.TellHow t = is_some (strings_of t)
+fits verb.UntellHow t = is_some (string_of t) || is_some (atom_literal (literal_of t))
 fits other t = is_some (literal_of t)
 
 abbrev pub content_of : Verb → ℕ → Option Term → Result Term Why

@@ -7,7 +7,7 @@ ghost use Rattle.asl_kqml.specs.Contents as contents;
 ghost use Rattle.asl_goals.specs.Sending as spec;
 
 use crate::acted::Why;
-use asl_kqml::content::{ground_literals, literals_of};
+use asl_kqml::content::{are_strings, ground_literals, is_string, literals_of};
 use asl_kqml::peers::Peers;
 use asl_term::copying::{copy, copy_text};
 use asl_term::names::{Names, find};
@@ -125,6 +125,15 @@ fn verb_named(name: &Text) -> Option<Verb>
     if is_word(name, Verb::AskAll) {
         return Some(Verb::AskAll);
     }
+    if is_word(name, Verb::TellHow) {
+        return Some(Verb::TellHow);
+    }
+    if is_word(name, Verb::UntellHow) {
+        return Some(Verb::UntellHow);
+    }
+    if is_word(name, Verb::AskHow) {
+        return Some(Verb::AskHow);
+    }
     None
 }
 
@@ -143,12 +152,18 @@ pub fn is_ask(verb: Verb) -> bool
     ensures { result ≡ spec.is_ask verb }
 {
     match verb {
-        Verb::AskOne | Verb::AskAll => true,
-        Verb::Tell | Verb::Untell | Verb::Achieve | Verb::Unachieve => false,
+        Verb::AskOne | Verb::AskAll | Verb::AskHow => true,
+        Verb::Tell
+        | Verb::Untell
+        | Verb::Achieve
+        | Verb::Unachieve
+        | Verb::TellHow
+        | Verb::UntellHow => false,
     }
 }
 
-/// Whether a verb can be said of a content: `tell` of ground literals, `untell` of literals, the others of a literal.
+/// Whether a verb can be said of a content: `tell` of ground literals, `untell` of literals, `tellHow` of strings, `untellHow` of a
+/// string or an atom, the others of a literal.
 fn fits(alloc: Global, verb: Verb, t: &Term) -> Result<bool, Starved>
     ensures { IfOk result (λ b. b ≡ spec.fits verb t.now) }
 {
@@ -165,9 +180,11 @@ fn fits(alloc: Global, verb: Verb, t: &Term) -> Result<bool, Starved>
             drop(literals);
             Ok(has_literals)
         }
-        Verb::Achieve | Verb::Unachieve | Verb::AskOne | Verb::AskAll => {
+        Verb::Achieve | Verb::Unachieve | Verb::AskOne | Verb::AskAll | Verb::AskHow => {
             Ok(literal_of(t).is_some())
         }
+        Verb::TellHow => Ok(are_strings(t)),
+        Verb::UntellHow => Ok(is_string(t) || atom_name(t).is_some()),
     }
 }
 

@@ -3,3 +3,5 @@ pub mod Naming
 pub mod Grounds
 pub mod Unasked
 pub mod Walks
+pub mod TextLists
+pub mod Learning

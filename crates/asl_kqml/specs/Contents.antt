@@ -1,5 +1,6 @@
 -- What the contents of messages are, and the names of agents.
 use Rattle.std.specs.Prelude.{ℕ, Bool, false, not, ◌&&◌, ◌==◌, cond, List, [], ◌∷◌, length, Option, None, Some, is_none, codes}
+use Rattle.std.specs.Option.{option_map}
 use Rattle.std.specs.Str.{bytes_eq}
 use Rattle.asl_term.specs.Names.{name_at}
 use Rattle.asl_term.specs.Trees.{is_ground}
@@ -8,6 +9,10 @@ use Rattle.asl_term.specs.declared.syntax.Term.{Term}
 use Rattle.asl_term.specs.declared.syntax.Term.TheOpen.{Term-F}
 use Rattle.asl_term.specs.declared.syntax.Term.TheOpen as layer
 use Rattle.asl_term.specs.declared.syntax.Term.TheViews.{out-Term}
+use Rattle.asl_term.specs.declared.syntax.Plan.{Plan}
+use Rattle.asl_plans.specs.declared.entry.Which.{Which}
+use Rattle.asl_plans.specs.declared.entry.Which.TheVariants as which
+use Rattle.asl_plan_text.specs.Plans.{plan_in}
 
 -- ---- names
 
@@ -29,7 +34,7 @@ literal_layer other = None
 abbrev pub literal_of : Term → Option (LiteralOf Term)
 literal_of t = literal_layer (out-Term t)
 
-abbrev pub before : Option (LiteralOf Term) → Option (List (LiteralOf Term)) → Option (List (LiteralOf Term))
+abbrev pub before : {A : Type 0} → Option A → Option (List A) → Option (List A)
 before None more = None
 before (Some l) None = None
 before (Some l) (Some more) = Some (l ∷ more)
@@ -52,6 +57,52 @@ literals_of t = literals_layer (out-Term t)
 abbrev pub ground_literals : Term → Option (List (LiteralOf Term))
 ground_literals t = cond (is_ground t) (literals_of t) None
 
+-- ---- strings, and the plans that they are
+
+abbrev pub string_layer : Term-F Term → Option (List ℕ)
+string_layer (layer.Str s) = Some s
+string_layer other = None
+
+-- a string
+abbrev pub string_of : Term → Option (List ℕ)
+string_of t = string_layer (out-Term t)
+
+-- terms that all are strings
+abbrev pub all_strings : List Term → Option (List (List ℕ))
+all_strings [] = Some []
+all_strings (t ∷ ts) = before (string_of t) (all_strings ts)
+
+abbrev pub strings_layer : Term-F Term → Option (List (List ℕ))
+strings_layer (layer.Str s) = Some (s ∷ [])
+strings_layer (layer.List l) = cond (is_none l.tail) (all_strings l.items) None
+strings_layer other = None
+
+-- a string, or a list of strings without a tail
+abbrev pub strings_of : Term → Option (List (List ℕ))
+strings_of t = strings_layer (out-Term t)
+
+abbrev pub plan_layer : Term-F Term → Option Plan
+plan_layer (layer.Str s) = plan_in s
+plan_layer other = None
+
+-- a string that is a plan
+abbrev pub plan_of : Term → Option Plan
+plan_of t = plan_layer (out-Term t)
+
+-- terms that all are strings which are plans
+abbrev pub all_plans : List Term → Option (List Plan)
+all_plans [] = Some []
+all_plans (t ∷ ts) = before (plan_of t) (all_plans ts)
+
+abbrev pub plans_layer : Term-F Term → Option (List Plan)
+plans_layer (layer.Str s) = before (plan_in s) (Some [])
+plans_layer (layer.List l) = cond (is_none l.tail) (all_plans l.items) None
+plans_layer other = None
+
+-- the plans that a string is, or a list of strings without a tail
+abbrev pub plans_of : Term → Option (List Plan)
+plans_of t = plans_layer (out-Term t)
+
 -- ---- answers
 
 -- an atom is a positive literal without arguments and annotations
@@ -66,3 +117,14 @@ nothing_layer other = false
 -- `false` or `[]`
 abbrev pub is_nothing : Term → Bool
 is_nothing t = nothing_layer (out-Term t)
+
+-- ---- which plans are meant
+
+abbrev pub which_layer : Term-F Term → Option Which
+which_layer (layer.Str s) = option_map which.Same (plan_in s)
+which_layer (layer.Lit l) = cond (is_atom l) (Some (which.Label l.functor)) None
+which_layer other = None
+
+-- the plan that a string is, or those with the label that an atom is
+abbrev pub which_of : Term → Option Which
+which_of t = which_layer (out-Term t)

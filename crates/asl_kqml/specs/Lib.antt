@@ -1,3 +1,4 @@
 pub mod Contents
 pub mod Receive
+pub mod Laws
 pub mod inner

@@ -1,11 +1,14 @@
 -- What a message does. The rows are asked in the order of Tell, Untell, Achieve, Unachieve, AskOne, AskAll, AskSpent, Reply,
--- ReplyFail, Ignore; the first whose condition holds applies.
+-- ReplyFail, TellHow, UntellHow, AskHow, Ignore; the first whose condition holds applies.
 use Rattle.std.specs.Prelude.{ℕ, ◌+◌, ◌&&◌, not, cond, eqb, true, List, [], ◌∷◌, ◌++◌, map, filter, Option, None, Some, codes}
-use Rattle.std.specs.List.{list_all}
+use Rattle.std.specs.List.{list_all, flat_map}
+use Rattle.std.specs.Option.{option_map, option_to_list}
 use Rattle.asl_term.specs.declared.syntax.LiteralOf.{LiteralOf}
 use Rattle.asl_term.specs.declared.syntax.Term.{Term}
 use Rattle.asl_term.specs.declared.syntax.Term.TheVariants as term
 use Rattle.asl_term.specs.declared.syntax.Kind.TheVariants as kind
+use Rattle.asl_term.specs.declared.syntax.Trigger.{Trigger}
+use Rattle.asl_term.specs.declared.syntax.Plan.{Plan}
 use Rattle.asl_term.specs.declared.syntax.Expr.TheVariants as expr
 use Rattle.asl_unify.specs.declared.subst.Pair.{Pair}
 use Rattle.asl_unify.specs.Applied.{applied_literal, within_literal}
@@ -41,7 +44,14 @@ use Rattle.mas_mind.specs.declared.mind.Verb.TheVariants as verb
 use Rattle.asl_kqml.specs.declared.peers.Peers.{Peers}
 use Rattle.asl_kqml.specs.declared.took.Took.{Took}
 use Rattle.asl_kqml.specs.declared.took.Took.TheVariants as took
-use Rattle.asl_kqml.specs.Contents.{agent_name, literal_of, literals_of, ground_literals, is_nothing}
+use Rattle.asl_plans.specs.declared.entry.Entry.{Entry}
+use Rattle.asl_plans.specs.declared.entry.Which.{Which}
+use Rattle.asl_plans.specs.declared.library.Choice.{Choice}
+use Rattle.asl_plans.specs.Plans.{relevant}
+use Rattle.asl_plans.specs.Libraries.{plan_at}
+use Rattle.asl_plans.specs.Libraries as plans
+use Rattle.asl_print.specs.Agents.{plan_line}
+use Rattle.asl_kqml.specs.Contents.{agent_name, literal_of, literals_of, ground_literals, is_nothing, plans_of, which_of}
 
 -- what a message leaves, and what it did
 pub record Received : Type 0 where
@@ -97,9 +107,12 @@ unachieve p (Some g) = by row.Unachieve (with_agenda p (without_desires g p.agen
 -- ---- AskOne, AskAll, AskSpent
 
 -- the reply to a message. It carries the number of the ask; to an ask without one it is sent only where it says something
+abbrev pub reply_by : Verb → ℕ → Message → Term → Option Message
+reply_by v me m t = cond (eqb m.ask 0 && is_nothing t) None
+    (Some (record { from = me; to = m.from; verb = v; content = sealed t; ask = 0; reply = m.ask }))
+
 abbrev pub reply : ℕ → Message → Term → Option Message
-reply me m t = cond (eqb m.ask 0 && is_nothing t) None
-    (Some (record { from = me; to = m.from; verb = verb.Tell; content = sealed t; ask = 0; reply = m.ask }))
+reply = reply_by verb.Tell
 
 abbrev pub replies : Row → Parts → Option Message → Received
 replies r p m = received p (took.Row r m [])
@@ -161,6 +174,70 @@ answers_ask k p n content None = ignored p
 answers_ask k p n content (Some a) =
     answered k (with_agenda p (record p.agenda { asks = without_ask n p.agenda.asks })) a.stack (agreed (unified [] (ask a.answer content ∷ [])))
 
+-- ---- TellHow and UntellHow
+
+-- what a message makes of the plans, and its row
+pub record Learned : Type 0 where
+  pub plans : List Entry
+  pub row : Row
+
+abbrev pub learned_by : Row → List Entry → Learned
+learned_by r lib = record { plans = lib; row = r }
+
+-- plans that the sender tells are added one after another, from it
+abbrev pub tell_how : ℕ → List Entry → Option (List Plan) → Learned
+tell_how from lib None = learned_by row.Ignore lib
+tell_how from lib (Some ps) = learned_by row.TellHow (plans.all_added ps from lib)
+
+-- plans that it takes back are no longer from it
+abbrev pub untell_how : ℕ → List Entry → Option Which → Learned
+untell_how from lib None = learned_by row.Ignore lib
+untell_how from lib (Some w) = learned_by row.UntellHow (plans.dropped w from lib)
+
+abbrev pub learns : List Entry → ℕ → Term → Verb → Learned
+learns lib from content verb.TellHow = tell_how from lib (plans_of content)
+learns lib from content verb.UntellHow = untell_how from lib (which_of content)
+learns lib from content other = learned_by row.Ignore lib
+
+-- the plans after a message (no other verb changes them)
+unfoldable pub learned : List Entry → ℕ → Message → List Entry
+learned lib n m = (learns lib m.from (renamed n m.content) m.verb).plans
+
+-- ---- AskHow
+
+-- +!g
+abbrev pub goal_trigger : LiteralOf Term → Trigger
+goal_trigger g = record { add = true; kind = kind.Achieve; lit = g }
+
+-- the text of a chosen plan
+abbrev pub choice_text : List Entry → Choice → Option (List ℕ)
+choice_text lib c = option_map plan_line (plan_at lib c.plan)
+
+abbrev pub texts_of : List Entry → List Choice → List (List ℕ)
+texts_of lib choices = flat_map (λ c. option_to_list (choice_text lib c)) choices
+
+abbrev pub string_items : List (List ℕ) → List Term
+string_items texts = map term.Str texts
+
+abbrev pub string_list : List (List ℕ) → Term
+string_list texts = term.List (record { items = string_items texts; tail = None })
+
+-- a list past the limits is empty
+abbrev pub limited_strings : List (List ℕ) → Term
+limited_strings texts = cond (within (string_list texts)) (string_list texts) nil
+
+-- the texts of the plans that are relevant for +!g, in order
+abbrev pub how_answer : List Entry → ℕ → LiteralOf Term → Term
+how_answer lib n g = limited_strings (texts_of lib (relevant lib n (goal_trigger g)))
+
+-- to an ask without a number they are told as plans
+abbrev pub how_verb : Message → Verb
+how_verb m = cond (eqb m.ask 0) verb.TellHow verb.Tell
+
+abbrev pub asks_how : Around → ℕ → Message → Parts → Option (LiteralOf Term) → Received
+asks_how k me m p None = ignored p
+asks_how k me m p (Some g) = replies row.AskHow p (reply_by (how_verb m) me m (how_answer k.plans p.number g))
+
 -- ---- the row of a message
 
 abbrev pub tells : Around → List ℕ → Parts → Message → Term → Received
@@ -173,6 +250,9 @@ of_verb k me name p m content verb.Achieve = achieve name p (literal_of content)
 of_verb k me name p m content verb.Unachieve = unachieve p (literal_of content)
 of_verb k me name p m content verb.AskOne = asks_one k me m p (literal_of content)
 of_verb k me name p m content verb.AskAll = asks_all k me m p (literal_of content)
+of_verb k me name p m content verb.TellHow = by (learns k.plans m.from content verb.TellHow).row p
+of_verb k me name p m content verb.UntellHow = by (learns k.plans m.from content verb.UntellHow).row p
+of_verb k me name p m content verb.AskHow = asks_how k me m p (literal_of content)
 
 -- the content is renamed by the counter, which rises by one (shut, so that proofs above do not look inside)
 unfoldable pub receive : Around → Peers → Parts → Message → Received

@@ -30,8 +30,14 @@ use mas_mind::mind::{Message, Verb};
 use std::alloc::Global;
 
 /// The reply to a message. To an ask that nothing waits for it is sent only where it says something.
-fn reply(alloc: Global, me: u32, m: &Message, t: &Term) -> Result<Option<Message>, Starved>
-    ensures { IfOk result (λ r. r ≡ spec.reply me m.now t.now) }
+pub fn reply_by(
+    alloc: Global,
+    verb: Verb,
+    me: u32,
+    m: &Message,
+    t: &Term,
+) -> Result<Option<Message>, Starved>
+    ensures { IfOk result (λ r. r ≡ spec.reply_by verb me m.now t.now) }
 {
     if m.ask == 0 && is_nothing(t) {
         return Ok(None);
@@ -40,7 +46,7 @@ fn reply(alloc: Global, me: u32, m: &Message, t: &Term) -> Result<Option<Message
     Ok(Some(Message {
         from: me,
         to: m.from,
-        verb: Verb::Tell,
+        verb,
         content,
         ask: 0,
         reply: m.ask,
@@ -51,7 +57,7 @@ fn reply(alloc: Global, me: u32, m: &Message, t: &Term) -> Result<Option<Message
 fn replies(alloc: Global, row: Row, me: u32, m: &Message, t: &Term) -> Result<Took, Starved>
     ensures { IfOk result (λ took. (p : parts.Parts) → spec.replies row p (spec.reply me m.now t.now) ≡ spec.received p took) }
 {
-    let reply = reply(alloc, me, m, t)?;
+    let reply = reply_by(alloc, Verb::Tell, me, m, t)?;
     Ok(Took::Row {
         row,
         reply,
@@ -111,7 +117,7 @@ fn ask_one(
 }
 
 /// A list of these items.
-fn list(items: Terms) -> Term
+pub fn list(items: Terms) -> Term
     ensures { result ≡ term.List (record { items = items; tail = None }) }
 {
     Term::List(ListingOf { items, tail: None })

@@ -5,6 +5,8 @@ pub mod asks;
 pub mod believing;
 pub mod content;
 pub mod goals;
+pub mod how;
+pub mod laws;
 pub mod peers;
 pub mod receive;
 pub mod replies;

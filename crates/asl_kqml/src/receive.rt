@@ -1,6 +1,6 @@
 //! The row of a message.
 
-ghost use Rattle.std.specs.Prelude.{◌≡◌, ◌+◌, ◌<◌, ◌^◌, ◌-◌, IfOk};
+ghost use Rattle.std.specs.Prelude.{◌≡◌, ◌+◌, ◌<◌, ◌^◌, ◌-◌, IfOk, OnOk};
 ghost use Rattle.asl_exec.specs.Parts as parts;
 ghost use Rattle.asl_kqml.specs.Receive as spec;
 
@@ -8,9 +8,10 @@ use crate::asks::{asks_all, asks_one};
 use crate::believing::{tell, untell};
 use crate::content::{ground_literals, literal_of, literals_of};
 use crate::goals::{achieve, unachieve};
+use crate::how::{asks_how, tell_how, untell_how};
 use crate::peers::{Peers, agent_name};
 use crate::replies::answers_ask;
-use crate::took::Took;
+use crate::took::{Took, by};
 use asl_beliefs::base::BeliefBase;
 use asl_exec::parts::{Around, Parts};
 use asl_resolve::actions::Actions;
@@ -46,20 +47,23 @@ fn tells<B: BeliefBase, A: Actions>(
 /// The row of a message, by its verb. The content is renamed already.
 fn of_verb<B: BeliefBase, A: Actions>(
     alloc: Global,
-    k: &Around<A>,
+    k: &mut Around<A>,
     me: u32,
     name: &Text,
     p: &mut Parts<B>,
     m: &Message,
     content: &Term,
 ) -> Result<Took, Starved>
-    requires { p.old.number + k.now.budgets.tries < 2 ^ 64 - 1 }
+    requires { p.old.number + k.old.budgets.tries < 2 ^ 64 - 1 }
     ensures made { IfOk result (λ t. spec.of_verb
-        (parts.around k.now.lib.plans (B.rules p.old.beliefs) (A.solve k.now.actions) k.now.budgets) me name.now
+        (parts.around k.old.lib.plans (B.rules p.old.beliefs) (A.solve k.old.actions) k.old.budgets) me name.now
         (parts.parts (B.beliefs p.old.beliefs) p.old.agenda p.old.number) m.now content.now m.now.verb
         ≡ spec.received (parts.parts (B.beliefs p.new.beliefs) p.new.agenda p.new.number) t) }
+    ensures plans { OnOk result (k.new.lib.plans ≡ (spec.learns k.old.lib.plans m.now.from content.now m.now.verb).plans) }
     ensures rules { B.rules p.new.beliefs ≡ B.rules p.old.beliefs }
     ensures number { p.new.number ≡ p.old.number }
+    ensures actions { k.new.actions ≡ k.old.actions }
+    ensures budgets { k.new.budgets ≡ k.old.budgets }
 {
     match m.verb {
         Verb::Tell => tells(alloc, k, name, p, m, content),
@@ -83,25 +87,36 @@ fn of_verb<B: BeliefBase, A: Actions>(
             drop(g);
             took
         }
+        Verb::TellHow => Ok(by(alloc, tell_how(alloc, &mut k.lib, m.from, content)?)),
+        Verb::UntellHow => Ok(by(alloc, untell_how(alloc, &mut k.lib, m.from, content)?)),
+        Verb::AskHow => {
+            let g = literal_of(alloc, content)?;
+            let took = asks_how(alloc, k, me, p, m, &g);
+            drop(g);
+            took
+        }
     }
 }
 
 /// The row of a message. The counter rises by one.
-#[tactic(auto, unfolding(crate::specs::Receive::receive))]
+#[tactic(auto, unfolding(crate::specs::Receive::receive, crate::specs::Receive::learned))]
 pub fn receive<B: BeliefBase, A: Actions>(
     alloc: Global,
-    k: &Around<A>,
+    k: &mut Around<A>,
     peers: &Peers,
     p: &mut Parts<B>,
     m: &Message,
 ) -> Result<Took, Starved>
-    requires { p.old.number + k.now.budgets.tries + 1 < 2 ^ 64 - 1 }
+    requires { p.old.number + k.old.budgets.tries + 1 < 2 ^ 64 - 1 }
     ensures made { IfOk result (λ t. spec.receive
-        (parts.around k.now.lib.plans (B.rules p.old.beliefs) (A.solve k.now.actions) k.now.budgets) peers.now
+        (parts.around k.old.lib.plans (B.rules p.old.beliefs) (A.solve k.old.actions) k.old.budgets) peers.now
         (parts.parts (B.beliefs p.old.beliefs) p.old.agenda p.old.number) m.now
         ≡ spec.received (parts.parts (B.beliefs p.new.beliefs) p.new.agenda p.new.number) t) }
+    ensures plans { OnOk result (k.new.lib.plans ≡ spec.learned k.old.lib.plans p.old.number m.now) }
     ensures rules { B.rules p.new.beliefs ≡ B.rules p.old.beliefs }
     ensures number { p.new.number ≡ p.old.number + 1 }
+    ensures actions { k.new.actions ≡ k.old.actions }
+    ensures budgets { k.new.budgets ≡ k.old.budgets }
 {
     let number = p.number;
     p.number += 1;

@@ -1,15 +1,15 @@
 -- The relevant plans are chosen among the places of their sign, kind and frame.
-use Rattle.std.proofs.Common.{◌≡◌, ◌<◌, ◌≤◌, ℕ, zero, suc, ◌+◌, ◌&&◌, eqb, Bool, true, false, List, [], ◌∷◌, ◌++◌, map, length, take, drop, Option, Some, None, cond, refl, ap, sym, ◌∙◌, subst, append_assoc, arith}
+use Rattle.std.proofs.Common.{◌≡◌, ℕ, zero, suc, ◌+◌, ◌&&◌, eqb, Bool, true, false, List, [], ◌∷◌, ◌++◌, map, length, drop, Option, Some, None, cond, refl, ap, sym, ◌∙◌, append_assoc, arith}
 use Rattle.std.specs.Prelude.{◌==◌, option_to_list}
 use Rattle.std.specs.List.{slice_get}
 use Rattle.std.specs.Str.{bytes_eq}
 use Rattle.std.proofs.lemmas.Bool.{false≢true, eqb-true, eq-eqb}
-use Rattle.std.proofs.lemmas.List.{length-map, append-nil, drop_all}
+use Rattle.std.proofs.lemmas.List.{length-map, append-nil}
 use Rattle.std.proofs.lemmas.Slice.Eq.{bytes_eq-Decides}
 use Rattle.asl_term.specs.declared.syntax.LiteralOf.{LiteralOf}
 use Rattle.asl_term.specs.declared.syntax.Term.{Term}
 use Rattle.asl_term.specs.declared.syntax.Trigger.{Trigger}
-use Rattle.asl_term.specs.declared.syntax.Plan.{Plan}
+use Rattle.asl_plans.specs.declared.entry.Entry.{Entry}
 use Rattle.asl_unify.specs.declared.subst.Pair.{Pair}
 use Rattle.asl_unify.specs.Compare.{same_sign, same_frame, asks}
 use Rattle.asl_unify.specs.Unified.{unified}
@@ -20,7 +20,7 @@ use Rattle.asl_places.specs.Frames.{has_frame, filed}
 use Rattle.asl_places.specs.Slots.{places}
 use Rattle.asl_term.specs.declared.syntax.Kind.{Kind}
 use Rattle.asl_term.specs.declared.syntax.Kind.TheVariants as kind
-use Rattle.asl_plans.specs.Plans.{alike, ways, first_way, kept, relevant_from, same_kind}
+use Rattle.asl_plans.specs.Plans.{alike, first_way, kept, relevant_from, same_kind}
 use Rattle.asl_plans.specs.Filed.{AreOf, has_trigger, way_of, way_at, chosen}
 use Rattle.asl_plans.specs.declared.library.Choice.{Choice}
 
@@ -87,41 +87,43 @@ no_way n p t e = go (alike p t) refl (same_frame (renamed_literal n p.lit) t.lit
       let both = two (same_sign p.add t.add) (same_kind p.kind t.kind) a in
       absurd (false≢true (sym e ∙ all_three (same_sign t.add p.add) (same_kind t.kind p.kind) (has_frame t.lit.neg t.lit.functor (length t.lit.args) p.lit)
       (sign_turned t.add p.add ∙ both.0) (kind_turned t.kind p.kind ∙ both.1) (has_its_frame n p.lit t.lit u)))
-  go true a false u = ap (λ z. slice_get (cond z (on_unified (annots (renamed_literal n p.lit).annots t.lit.annots) (unified [] (asks (renamed_literal n p.lit).args t.lit.args []))) []) 0) u
+  go true a false u =
+      ap (λ z. slice_get (cond z (on_unified (annots (renamed_literal n p.lit).annots t.lit.annots)
+      (unified [] (asks (renamed_literal n p.lit).args t.lit.args []))) []) 0) u
   go false a s u = refl
 
 module _ (n : ℕ) (t : Trigger) where
-  abbrev own : Plan → Bool
-  own p = has_trigger t.add t.kind t.lit.neg t.lit.functor (length t.lit.args) p.trigger
+  abbrev own : Entry → Bool
+  own e = has_trigger t.add t.kind t.lit.neg t.lit.functor (length t.lit.args) e.plan.trigger
 
-  pub chosen_from : (way : ℕ → Option (List Pair)) (i : ℕ) (ps : List Plan)
-      → ((j : ℕ) (p : Plan) → slice_get ps j ≡ Some p → way (i + j) ≡ first_way n p.trigger t)
-      → relevant_from i ps n t ≡ chosen way (places own i (map Some ps))
+  pub chosen_from : (way : ℕ → Option (List Pair)) (i : ℕ) (lib : List Entry)
+      → ((j : ℕ) (e : Entry) → slice_get lib j ≡ Some e → way (i + j) ≡ first_way n e.plan.trigger t)
+      → relevant_from i lib n t ≡ chosen way (places own i (map Some lib))
   chosen_from way i [] h = refl
-  chosen_from way i (p ∷ ps) h =
+  chosen_from way i (e ∷ more) h =
       let next : i + 1 ≡ suc i = omega arith in
       let here : i + 0 ≡ i = omega arith in
-      let more = chosen_from way (suc i) ps (λ j q e. let step : suc i + j ≡ i + suc j = omega arith in ap way step ∙ h (suc j) q e) in
-      ap (λ k. kept i (first_way n p.trigger t) (relevant_from k ps n t)) next
-      ∙ ap (kept i (first_way n p.trigger t)) more
-      ∙ go (own p) refl (ap way (sym here) ∙ h 0 p refl)
+      let rest = chosen_from way (suc i) more (λ j q is. let step : suc i + j ≡ i + suc j = omega arith in ap way step ∙ h (suc j) q is) in
+      ap (λ k. kept i (first_way n e.plan.trigger t) (relevant_from k more n t)) next
+      ∙ ap (kept i (first_way n e.plan.trigger t)) rest
+      ∙ go (own e) refl (ap way (sym here) ∙ h 0 e refl)
     where
-      go : (b : Bool) → own p ≡ b → way i ≡ first_way n p.trigger t
-          → kept i (first_way n p.trigger t) (chosen way (places own (suc i) (map Some ps)))
-          ≡ chosen way (cond (own p) (i ∷ places own (suc i) (map Some ps)) (places own (suc i) (map Some ps)))
+      go : (b : Bool) → own e ≡ b → way i ≡ first_way n e.plan.trigger t
+          → kept i (first_way n e.plan.trigger t) (chosen way (places own (suc i) (map Some more)))
+          ≡ chosen way (cond (own e) (i ∷ places own (suc i) (map Some more)) (places own (suc i) (map Some more)))
       go true u w =
-          ap (λ z. kept i z (chosen way (places own (suc i) (map Some ps)))) (sym w)
-          ∙ sym (ap (λ z. chosen way (cond z (i ∷ places own (suc i) (map Some ps)) (places own (suc i) (map Some ps)))) u)
+          ap (λ z. kept i z (chosen way (places own (suc i) (map Some more)))) (sym w)
+          ∙ sym (ap (λ z. chosen way (cond z (i ∷ places own (suc i) (map Some more)) (places own (suc i) (map Some more)))) u)
       go false u w =
-          ap (λ z. kept i z (chosen way (places own (suc i) (map Some ps)))) (no_way n p.trigger t u)
-          ∙ sym (ap (λ z. chosen way (cond z (i ∷ places own (suc i) (map Some ps)) (places own (suc i) (map Some ps)))) u)
+          ap (λ z. kept i z (chosen way (places own (suc i) (map Some more)))) (no_way n e.plan.trigger t u)
+          ∙ sym (ap (λ z. chosen way (cond z (i ∷ places own (suc i) (map Some more)) (places own (suc i) (map Some more)))) u)
 
-  pub all_chosen : (plans : List Plan) (frames : Frames) → AreOf t.add t.kind plans frames
-      → relevant_from 0 plans n t ≡ chosen (way_at plans n t) (filed frames t.lit.neg t.lit.functor (length t.lit.args))
-  all_chosen plans frames a =
-      chosen_from (way_at plans n t) 0 plans
-      (λ j p e. let same : 0 + j ≡ j = omega arith in ap (way_at plans n t) same ∙ ap (way_of n t) e)
-      ∙ ap (chosen (way_at plans n t)) (sym (a t.lit.neg t.lit.functor (length t.lit.args)))
+  pub all_chosen : (lib : List Entry) (frames : Frames) → AreOf t.add t.kind lib frames
+      → relevant_from 0 lib n t ≡ chosen (way_at lib n t) (filed frames t.lit.neg t.lit.functor (length t.lit.args))
+  all_chosen lib frames a =
+      chosen_from (way_at lib n t) 0 lib
+      (λ j e is. let same : 0 + j ≡ j = omega arith in ap (way_at lib n t) same ∙ ap (way_of n t) is)
+      ∙ ap (chosen (way_at lib n t)) (sym (a t.lit.neg t.lit.functor (length t.lit.args)))
 
 -- the places from one on
 chosen_append : (way : ℕ → Option (List Pair)) (xs ys : List ℕ) → chosen way (xs ++ ys) ≡ chosen way xs ++ chosen way ys
@@ -147,10 +149,6 @@ chosen_next way r new all xs k h e =
     ∙ append_assoc r (chosen way (option_to_list (slice_get xs k))) (chosen way (drop (suc k) xs))
     ∙ ap (λ z. r ++ z) (sym (chosen_append way (option_to_list (slice_get xs k)) (drop (suc k) xs)) ∙ ap (chosen way) (sym (drop_step xs k)))
     ∙ h
-
--- all places are looked at
-pub chosen_all : (way : ℕ → Option (List Pair)) (r all : List Choice) (xs : List ℕ) (k : ℕ) → r ++ chosen way (drop k xs) ≡ all → length xs ≤ k → r ≡ all
-chosen_all way r all xs k h e = sym (append-nil r) ∙ ap (λ z. r ++ chosen way z) (sym (drop_all k xs e)) ∙ h
 
 -- a place without a plan, or with one that is not relevant, gives nothing
 pub none_kept : (r : List Choice) (k : ℕ) (w : Option (List Pair)) → w ≡ None → r ≡ r ++ kept k w []

@@ -1,13 +1,13 @@
 //! Places of plans by the sign and the kind of their triggers, and by the sign, functor and number of arguments of these.
 
-ghost use Rattle.std.specs.Prelude.{◌≡◌, [], ℕ, Bool, List, IfOk, OnOk};
+ghost use Rattle.std.specs.Prelude.{◌≡◌, [], ℕ, Bool, List, OnOk, OnErr};
 ghost use Rattle.asl_places.specs.Frames.{filed};
 ghost use Rattle.asl_term.specs.declared.syntax.Kind.{Kind};
-ghost use Rattle.asl_plans.specs.Filed.{IsPut, IsPutOf, AreFiled, frames_of, of_kind};
+ghost use Rattle.asl_plans.specs.Filed.{IsPut, IsPutOf, IsSame, IsSameOf, IsTaken, IsTakenOf, frames_of, of_kind};
 
 use asl_places::frames::Frames;
 use asl_term::sequence::Starved;
-use asl_term::syntax::{Kind, Literal, Plan, Trigger};
+use asl_term::syntax::{Kind, Literal, Trigger};
 use std::alloc::Global;
 
 /// Places by the kind of a trigger, and then by frame.
@@ -48,7 +48,8 @@ impl Kinds {
 
     /// Puts a place last under a kind and the frame of a literal.
     fn put(&mut self, alloc: Global, kind: Kind, l: &Literal, place: u64) -> Result<(), Starved>
-        ensures { OnOk result (IsPutOf kind l.now place self.old self.new) }
+        ensures ok { OnOk result (IsPutOf kind l.now place self.old self.new) }
+        ensures err { OnErr result (IsSameOf self.old self.new) }
     {
         match kind {
             Kind::Belief => self.belief.put(alloc, l, place),
@@ -56,10 +57,21 @@ impl Kinds {
             Kind::Test => self.test.put(alloc, l, place),
         }
     }
+
+    /// Takes a place out under a kind and the frame of a literal.
+    fn take(&mut self, kind: Kind, l: &Literal, place: u64)
+        ensures { IsTakenOf kind l.now place self.old self.new }
+    {
+        match kind {
+            Kind::Belief => self.belief.take(l, place),
+            Kind::Achieve => self.achieve.take(l, place),
+            Kind::Test => self.test.take(l, place),
+        }
+    }
 }
 
 impl Filed {
-    fn new(alloc: Global) -> Filed
+    pub fn new(alloc: Global) -> Filed
         ensures { (add : Bool) (kind : Kind) (neg : Bool) (functor : List ℕ) (count : ℕ) → filed (frames_of add kind result) neg functor count ≡ [] }
     {
         Filed {
@@ -80,8 +92,9 @@ impl Filed {
     }
 
     /// Puts a place last under a trigger.
-    fn put(&mut self, alloc: Global, t: &Trigger, place: u64) -> Result<(), Starved>
-        ensures { OnOk result (IsPut t.now place self.old self.new) }
+    pub fn put(&mut self, alloc: Global, t: &Trigger, place: u64) -> Result<(), Starved>
+        ensures ok { OnOk result (IsPut t.now place self.old self.new) }
+        ensures err { OnErr result (IsSame self.old self.new) }
     {
         if t.add {
             self.plus.put(alloc, t.kind, &t.lit, place)
@@ -89,15 +102,15 @@ impl Filed {
             self.minus.put(alloc, t.kind, &t.lit, place)
         }
     }
-}
 
-/// The places of plans, filed by their triggers.
-pub fn file_plans(alloc: Global, plans: &[Plan]) -> Result<Filed, Starved>
-    ensures { IfOk result (λ r. AreFiled plans.now r) }
-{
-    let mut r = Filed::new(alloc);
-    for i in 0..plans.len() {
-        r.put(alloc, &plans[i].trigger, i as u64)?;
+    /// Takes a place out under a trigger.
+    pub fn take(&mut self, t: &Trigger, place: u64)
+        ensures { IsTaken t.now place self.old self.new }
+    {
+        if t.add {
+            self.plus.take(t.kind, &t.lit, place);
+        } else {
+            self.minus.take(t.kind, &t.lit, place);
+        }
     }
-    Ok(r)
 }

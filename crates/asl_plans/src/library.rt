@@ -1,12 +1,17 @@
-//! Plans in source order, found by their triggers.
+//! Plans in order, each with those who it is from, found by their triggers.
 
-ghost use Rattle.std.specs.Prelude.{◌≡◌, ◌++◌, [], None, Some, MatchOption, IfOk, length, option_to_list, slice_get};
+ghost use Rattle.std.specs.Prelude.{◌≡◌, ◌++◌, ◌-◌, [], None, Some, MatchOption, IfOk, OnOk, OnErr, length, not, option_to_list, slice_get};
+ghost use Rattle.std.specs.Option.{option_copied};
 ghost use Rattle.asl_places.specs.Frames.{filed};
 ghost use Rattle.asl_plans.specs.Filed.{AreOf, chosen, way_at};
+ghost use Rattle.asl_plans.specs.Libraries as libraries;
 ghost use Rattle.asl_plans.specs.Plans as spec;
 
-use crate::filing::{Filed, file_plans};
+use crate::changing::{add_to, drop_from};
+use crate::entry::{Entries, Entry, Which};
+use crate::filing::Filed;
 use asl_places::frames::Frames;
+use asl_places::keys::Keys;
 use asl_term::sequence::{Seq, Starved};
 use asl_term::syntax::{Kind, Plan, Plans, Trigger};
 use asl_unify::layers::same_frames;
@@ -25,26 +30,28 @@ pub struct Choice {
 
 pub type Choices = Seq<Choice>;
 
-/// Plans in source order, found by the sign and the kind of their triggers, and by the sign, functor and number of
-/// arguments of these.
+/// Plans in order, no two of them equal, each with those who it is from. They are found by the sign and the kind of their triggers,
+/// and by the sign, functor and number of arguments of these; an equal plan by a number that is made of its trigger.
 #[derive(Drop)]
 pub struct Library {
-    plans: Plans,
+    entries: Entries,
     filed: Filed,
+    keys: Keys,
 }
 
 impl Model for Library {
     ghost use Rattle.asl_term.specs.contracts.syntax.Plan as plan;
-    ghost use Rattle.asl_plans.specs.Filed.{Held, AreFiled};
+    ghost use Rattle.asl_plans.specs.Filed.{Held, IsIndex};
+    ghost use Rattle.asl_plans.specs.Libraries.{AreEntries};
     ghost use Rattle.std.specs.Coded.{codes};
 
     ghost Value = { Held };
 
     ghost coded = { Prim.hlevel (codes, plan.the_row.coded) };
 
-    ghost view = { λ l. record { plans = l.plans } };
+    ghost view = { λ l. record { plans = l.entries } };
 
-    ghost invariant = { λ l. AreFiled l.plans l.filed };
+    ghost invariant = { λ l. IsIndex l.entries l.filed l.keys × AreEntries l.entries };
 }
 
 fn same_kind(a: Kind, b: Kind) -> bool
@@ -87,16 +94,16 @@ fn first_way(
 /// Puts the plan at a place last among the choices, with its first match, where it has one.
 fn put_choice(
     alloc: Global,
-    plans: &Plans,
+    entries: &Entries,
     place: u64,
     t: &Trigger,
     number: u64,
     r: &mut Choices,
 ) -> Result<(), Starved>
-    ensures { IfOk result (λ _. r.new ≡ r.old ++ spec.kept place (way_at plans.now number t.now place) []) }
+    ensures { IfOk result (λ _. r.new ≡ r.old ++ spec.kept place (way_at entries.now number t.now place) []) }
 {
-    match plans.at(place) {
-        Some(plan) => match first_way(alloc, &plan.trigger, t, number)? {
+    match entries.at(place) {
+        Some(e) => match first_way(alloc, &e.plan.trigger, t, number)? {
             Some(subst) => r.push(Choice { plan: place, subst }),
             None => Ok(()),
         },
@@ -107,18 +114,18 @@ fn put_choice(
 /// The same of the k-th plan that is filed under the frame of the event.
 fn put_kth(
     alloc: Global,
-    plans: &Plans,
+    entries: &Entries,
     frames: &Frames,
     t: &Trigger,
     number: u64,
     k: u64,
     r: &mut Choices,
 ) -> Result<(), Starved>
-    ensures { IfOk result (λ _. r.new ≡ r.old ++ chosen (way_at plans.now number t.now)
+    ensures { IfOk result (λ _. r.new ≡ r.old ++ chosen (way_at entries.now number t.now)
         (option_to_list (slice_get (filed frames.now t.now.lit.neg t.now.lit.functor (length t.now.lit.args)) k))) }
 {
     match frames.at(&t.lit, k) {
-        Some(place) => put_choice(alloc, plans, place, t, number, r),
+        Some(place) => put_choice(alloc, entries, place, t, number, r),
         None => Ok(()),
     }
 }
@@ -126,49 +133,101 @@ fn put_kth(
 /// The relevant plans, among those of the sign and the kind of the event.
 fn relevant_of(
     alloc: Global,
-    plans: &Plans,
+    entries: &Entries,
     frames: &Frames,
     t: &Trigger,
     number: u64,
 ) -> Result<Choices, Starved>
-    requires { AreOf t.now.add t.now.kind plans.now frames.now }
-    ensures { IfOk result (λ r. r ≡ spec.relevant plans.now number t.now) }
+    requires { AreOf t.now.add t.now.kind entries.now frames.now }
+    ensures { IfOk result (λ r. r ≡ spec.relevant entries.now number t.now) }
 {
     let mut r = Seq::new(alloc);
     for k in 0..frames.count(&t.lit) {
-        put_kth(alloc, plans, frames, t, number, k, &mut r)?;
+        put_kth(alloc, entries, frames, t, number, k, &mut r)?;
     }
     Ok(r)
 }
 
 impl Library {
-    /// The plans in source order.
-    pub fn of(alloc: Global, plans: Plans) -> Result<Library, Starved>
-        ensures { IfOk result (λ r. r.plans ≡ plans) }
+    /// No plans.
+    pub fn new(alloc: Global) -> Library
+        ensures { result.plans ≡ [] }
     {
-        let filed = file_plans(alloc, plans.as_slice())?;
-        Ok(Library { plans, filed })
+        Library {
+            entries: Seq::new(alloc),
+            filed: Filed::new(alloc),
+            keys: Keys::new(alloc),
+        }
+    }
+
+    /// The plans of a source, equal ones once.
+    pub fn of(alloc: Global, plans: Plans) -> Result<Library, Starved>
+        ensures { IfOk result (λ r. r.plans ≡ libraries.opened plans) }
+    {
+        let mut lib = Library::new(alloc);
+        lib.add_all(plans, 0)?;
+        Ok(lib)
     }
 
     /// Each plan whose trigger, renamed by the number, has the sign and the kind of the event's and matches its
-    /// literal, with the first match. They come in source order.
+    /// literal, with the first match. They come in order.
     pub fn relevant(&self, alloc: Global, t: &Trigger, number: u64) -> Result<Choices, Starved>
         ensures { IfOk result (λ r. r ≡ spec.relevant self.now.plans number t.now) }
     {
-        relevant_of(alloc, &self.plans, self.filed.of(t), t, number)
+        relevant_of(alloc, &self.entries, self.filed.of(t), t, number)
     }
 
-    /// All plans, in source order.
-    pub fn all(&self) -> &[Plan]
+    /// All plans, in order.
+    pub fn all(&self) -> &[Entry]
         ensures { result.now ≡ self.now.plans }
     {
-        self.plans.as_slice()
+        self.entries.as_slice()
     }
 
     /// The plan at a place.
     pub fn plan(&self, k: u64) -> Option<&Plan>
-        ensures { MatchOption result (slice_get self.now.plans k ≡ None) (λ p. slice_get self.now.plans k ≡ Some p.now) }
+        ensures { option_copied result ≡ libraries.plan_at self.now.plans k }
     {
-        self.plans.at(k)
+        match self.entries.at(k) {
+            None => None,
+            Some(e) => Some(&e.plan),
+        }
+    }
+
+    /// Adds a plan from an owner. Where an equal plan is there, the owner goes last among its owners. Answers whether it was
+    /// new: it is not where the plan has the owner already.
+    pub fn add_plan(&mut self, p: Plan, owner: u32) -> Result<bool, Starved>
+        ensures new { IfOk result (λ new. new ≡ not (libraries.is_owned p owner self.old.plans)) }
+        ensures ok { OnOk result (self.new.plans ≡ libraries.added p owner self.old.plans) }
+        ensures err { OnErr result (self.new.plans ≡ self.old.plans) }
+    {
+        add_to(&mut self.entries, &mut self.filed, &mut self.keys, p, owner)
+    }
+
+    /// Adds plans one after another. After `Starved` some may have been added.
+    pub fn add_all(&mut self, plans: Plans, owner: u32) -> Result<(), Starved>
+        ensures { OnOk result (self.new.plans ≡ libraries.all_added plans owner self.old.plans) }
+    {
+        let mut left = plans;
+        left.reverse();
+        'plans: while let Some(p) = left.pop() {
+            self.add_plan(p, owner)?;
+        }
+        Ok(())
+    }
+
+    /// Takes an owner from the plans that are meant. Answers how many had no owner left, and went.
+    pub fn drop_plan(&mut self, which: &Which, owner: u32) -> Result<u64, Starved>
+        ensures ok { OnOk result (self.new.plans ≡ libraries.dropped which.now owner self.old.plans) }
+        ensures count { IfOk result (λ n. n ≡ length self.old.plans - length self.new.plans) }
+        ensures err { OnErr result (self.new.plans ≡ self.old.plans) }
+    {
+        drop_from(
+            &mut self.entries,
+            &mut self.filed,
+            &mut self.keys,
+            which,
+            owner,
+        )
     }
 }

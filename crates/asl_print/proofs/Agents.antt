@@ -1,6 +1,6 @@
 -- The tokens of the texts of clauses, plans and agents.
-use Rattle.std.proofs.Common.{◌≡◌, ℕ, Bool, true, false, List, [], ◌∷◌, ◌++◌, Option, Some, None, refl, sym, subst, append_assoc}
-use Rattle.std.specs.Prelude.{codes}
+use Rattle.std.proofs.Common.{◌≡◌, ℕ, Bool, true, false, List, [], ◌∷◌, ◌++◌, ◌||◌, Option, Some, None, refl, sym, ◌∙◌, subst, append_assoc}
+use Rattle.std.specs.Prelude.{not, codes}
 use Rattle.std.specs.List.{list_all, flat_map}
 use Rattle.asl_term.specs.declared.syntax.LiteralOf.{LiteralOf}
 use Rattle.asl_term.specs.declared.syntax.Term.{Term}
@@ -16,16 +16,19 @@ use Rattle.asl_term.specs.declared.syntax.AgentText.{AgentText}
 use Rattle.asl_term.specs.Exprs.{literal_text, text, formula_text}
 use Rattle.asl_term.proofs.Exprs.{by_cases}
 use Rattle.asl_lexer.specs.declared.token.Sign.TheVariants as sign
-use Rattle.asl_lexer.specs.Seams.{Gives, Any, Stop}
+use Rattle.asl_lexer.specs.Spelling.{is_lower, is_upper, is_digit}
+use Rattle.asl_lexer.specs.Seams.{Gives, Any, NoName, Stop}
 use Rattle.asl_print.specs.Agents as spec
 use Rattle.asl_print.specs.Tokens as tokens
 use Rattle.asl_lexer.specs.Bare as bares
 use Rattle.asl_lexer.specs.Bare.{Bare, mark}
 use Rattle.asl_print.specs.Spelled as spelled
 use Rattle.asl_lexer.proofs.Bytes.{both}
-use Rattle.asl_lexer.proofs.Seams.{names_give, gives_nothing, then, next, same_gives, from_four, from_five}
+use Rattle.asl_lexer.proofs.Seams.{names_give, gives_nothing, narrower, whole, then, next, same_gives, from_four, from_five}
 use Rattle.asl_lexer.proofs.SignTexts as signs
-use Rattle.asl_lexer.proofs.SignTexts.{space, line_end}
+use Rattle.asl_lexer.proofs.SignTexts.{space, line_end, stop_gives}
+use Rattle.asl_print.specs.Laws.{LinesLex, LinesEnd}
+use Rattle.std.proofs.lemmas.List.{append-nil}
 use Rattle.asl_print.proofs.Exprs.{literal_gives, literal_free, expr_gives, formula_gives}
 
 -- ---- beliefs, rules and goals
@@ -128,21 +131,53 @@ body_stops : (fs : List Formula) (rest : List ℕ) → Stop rest → Stop (spec.
 body_stops [] rest q = q
 body_stops (f ∷ fs) rest q = refl
 
+-- the parts of a plan before what ends it
+module _ (p : Plan) (end : List ℕ) (Q : List ℕ → Type 0) where
+  abbrev behind_trigger : List ℕ
+  behind_trigger = spec.context_text p.context ++ (spec.body_text p.body ++ end)
+
+  parts_give : spelled.is_spelled_plan p ≡ true → Gives Q end (bares.stop ∷ []) → ((rest : List ℕ) → Stop (end ++ rest))
+      → Gives Q (spec.label_text p.label ++ (spec.trigger_text p.trigger ++ behind_trigger)) (tokens.plan_tokens p)
+  parts_give s ends stops =
+      let h = both _ _ s in
+      let g = both _ _ h.1 in
+      let k = both _ _ g.1 in
+      let last : Gives Q (spec.body_text p.body ++ end) (tokens.body_tokens p.body ++ bares.stop ∷ []) =
+      then (body_gives p.body k.1) ends (λ rest q. stops rest) in
+      let behind : (rest : List ℕ) → Stop ((spec.body_text p.body ++ end) ++ rest) =
+      λ rest. subst Stop (sym (append_assoc (spec.body_text p.body) end rest)) (body_stops p.body (end ++ rest) (stops rest)) in
+      let after_trigger : (rest : List ℕ) → Stop (behind_trigger ++ rest) =
+      λ rest. subst Stop (sym (append_assoc (spec.context_text p.context) (spec.body_text p.body ++ end) rest))
+      (context_stops p.context _ (behind rest)) in
+      next (label_gives p.label h.0) (then (trigger_gives p.trigger g.0) (then (context_gives p.context k.0) last (λ rest q. behind rest))
+      (λ rest q. after_trigger rest))
+
 pub plan_gives : (p : Plan) → spelled.is_spelled_plan p ≡ true → Gives Any (spec.plan_text p) (tokens.plan_tokens p)
 plan_gives p s =
-    let h = both _ _ s in
-    let g = both _ _ h.1 in
-    let k = both _ _ g.1 in
-    let end : Gives Any (spec.body_text p.body ++ codes ".\n") (tokens.body_tokens p.body ++ bares.stop ∷ []) =
-    then (body_gives p.body k.1) line_end (λ rest q. refl) in
-    let behind : (rest : List ℕ) → Stop ((spec.body_text p.body ++ codes ".\n") ++ rest) =
-    λ rest. subst Stop (sym (append_assoc (spec.body_text p.body) (codes ".\n") rest)) (body_stops p.body (codes ".\n" ++ rest) refl) in
-    let after_trigger : (rest : List ℕ) → Stop ((spec.context_text p.context ++ (spec.body_text p.body ++ codes ".\n")) ++ rest) =
-    λ rest. subst Stop (sym (append_assoc (spec.context_text p.context) (spec.body_text p.body ++ codes ".\n") rest))
-    (context_stops p.context _ (behind rest)) in
     same_gives (from_five (spec.label_text p.label) (spec.trigger_text p.trigger) (spec.context_text p.context) (spec.body_text p.body) (codes ".\n")) refl
-    (next (label_gives p.label h.0) (then (trigger_gives p.trigger g.0) (then (context_gives p.context k.0) end (λ rest q. behind rest))
-    (λ rest q. after_trigger rest)))
+    (parts_give p (codes ".\n") Any s line_end (λ rest. refl))
+
+-- before what begins no name
+pub line_gives : (p : Plan) → spelled.is_spelled_plan p ≡ true → Gives NoName (spec.plan_line p) (tokens.plan_tokens p)
+line_gives p s =
+    same_gives (from_five (spec.label_text p.label) (spec.trigger_text p.trigger) (spec.context_text p.context) (spec.body_text p.body) (codes ".")) refl
+    (parts_give p (codes ".") NoName s stop_gives (λ rest. refl))
+
+no_name : (rest : List ℕ) → Stop rest → NoName rest
+no_name [] q = refl
+no_name (b ∷ rest) q = no_lower (is_lower b) (is_upper b) (is_digit b) q where
+  no_lower : (l u d : Bool) → not ((l || u) || d) ≡ true → l ≡ false
+  no_lower false u d e = refl
+  no_lower true u d e = cc
+
+pub line_stops : (p : Plan) → spelled.is_spelled_plan p ≡ true → Gives Stop (spec.plan_line p) (tokens.plan_tokens p)
+line_stops p s = narrower no_name (line_gives p s)
+
+pub lines_lex : LinesLex
+lines_lex p s = whole (line_stops p s)
+
+pub lines_end : LinesEnd
+lines_end p = append-nil (spec.plan_text p) ∙ sym (append_assoc _ (codes ".") (codes "\n"))
 
 -- ---- agents
 

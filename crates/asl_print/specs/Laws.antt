@@ -1,5 +1,5 @@
 -- What the tokens of printed texts are.
-use Rattle.std.specs.Prelude.{◌≡◌, true, List, map}
+use Rattle.std.specs.Prelude.{◌≡◌, true, List, ◌++◌, map, codes}
 use Rattle.asl_term.specs.declared.syntax.Plan.{Plan}
 use Rattle.asl_term.specs.declared.syntax.AgentText.{AgentText}
 use Rattle.asl_term.specs.declared.syntax.LiteralOf.{LiteralOf}
@@ -12,7 +12,7 @@ use Rattle.asl_lexer.specs.declared.token.Tok.{Tok}
 use Rattle.asl_lexer.specs.Words.{pieces, is_end}
 use Rattle.asl_lexer.specs.Bare.{bare}
 use Rattle.asl_lexer.specs.Seams.{HasTokens, Gives, Any, Stop}
-use Rattle.asl_print.specs.Agents.{plan_text, agent_text}
+use Rattle.asl_print.specs.Agents.{alone, plan_line, plan_text, agent_text}
 use Rattle.asl_print.specs.Tokens.{term_tokens, expr_tokens, formula_tokens, literal_tokens, plan_tokens}
 use Rattle.asl_print.specs.Tokens.{agent_tokens, clause_tokens}
 use Rattle.asl_print.specs.Spelled.{is_spelled, is_spelled_literal, is_spelled_expr, is_spelled_formula}
@@ -57,6 +57,13 @@ PlansLex = (p : Plan) → is_spelled_plan p ≡ true → HasTokens (plan_text p)
 
 abbrev pub AgentsLex : Type 0
 AgentsLex = (a : AgentText) → is_spelled_agent a ≡ true → HasTokens (agent_text a) (agent_tokens a)
+
+-- the text of a plan in one line has the tokens of the plan, and with a line feed it is that of an agent with this plan alone
+abbrev pub LinesLex : Type 0
+LinesLex = (p : Plan) → is_spelled_plan p ≡ true → HasTokens (plan_line p) (plan_tokens p)
+
+abbrev pub LinesEnd : Type 0
+LinesEnd = (p : Plan) → agent_text (alone p) ≡ plan_line p ++ codes "\n"
 
 -- ---- pieces
 

@@ -2,7 +2,7 @@
 
 ghost use Rattle.asl_print.specs.Laws.{TermsGive, LiteralsGive, ExprsGive, FormulasGive, PlansGive, AgentsGive};
 ghost use Rattle.asl_print.specs.Laws.{TermsLex, LiteralsLex, ExprsLex, FormulasLex, PlansLex, AgentsLex};
-ghost use Rattle.asl_print.specs.Laws.{ClausesCut};
+ghost use Rattle.asl_print.specs.Laws.{LinesLex, LinesEnd, ClausesCut};
 ghost use Rattle.asl_print.specs.Means.{TokensMean};
 
 /// The tokens of a term's text, before others and alone.
@@ -33,6 +33,13 @@ pub fn formulas_lex()
 pub fn plans_lex()
     ensures before { PlansGive }
     ensures alone { PlansLex }
+{}
+
+/// The tokens of a plan's text in one line, which is the text of an agent with this plan alone, but for the line feed.
+#[tactic(auto, using(crate::proofs::Agents::lines_lex, crate::proofs::Agents::lines_end))]
+pub fn lines_lex()
+    ensures tokens { LinesLex }
+    ensures end { LinesEnd }
 {}
 
 /// The tokens of an agent's text.

@@ -2,13 +2,14 @@
 //!
 //! After `Starved` a `write` may leave a part of its text in `out`; `print_agent` leaves `out` as it was.
 
-ghost use Rattle.std.specs.Prelude.{◌≡◌, ◌++◌, OnOk, OnErr};
+ghost use Rattle.std.specs.Prelude.{◌≡◌, ◌++◌, IfOk, OnOk, OnErr};
 ghost use Rattle.std.specs.List.{flat_map};
 ghost use Rattle.asl_print.specs.Agents as spec;
 
 use asl_term::printing_expr::{print_expr, print_formula, print_literal};
 use asl_term::sequence::{Seq, Starved};
 use asl_term::syntax::{AgentText, Clause, Expr, Formula, Kind, Literal, Plan, Text, Trigger};
+use std::alloc::Global;
 
 fn write_belief(l: &Literal, out: &mut Text) -> Result<(), Starved>
     ensures { OnOk result (out.new ≡ out.old ++ spec.belief_text l.now) }
@@ -112,6 +113,25 @@ fn write_plan(p: &Plan, out: &mut Text) -> Result<(), Starved>
     write_context(&p.context, out)?;
     write_body(p.body.as_slice(), out)?;
     out.append(b".\n")
+}
+
+fn write_line(p: &Plan, out: &mut Text) -> Result<(), Starved>
+    ensures { OnOk result (out.new ≡ out.old ++ spec.plan_line p.now) }
+{
+    write_label(&p.label, out)?;
+    write_trigger(&p.trigger, out)?;
+    write_context(&p.context, out)?;
+    write_body(p.body.as_slice(), out)?;
+    out.append(b".")
+}
+
+/// The text of a plan in one line, without the line feed.
+pub fn plan_line(alloc: Global, p: &Plan) -> Result<Text, Starved>
+    ensures { IfOk result (λ t. t ≡ spec.plan_line p.now) }
+{
+    let mut text = Seq::new(alloc);
+    write_line(p, &mut text)?;
+    Ok(text)
 }
 
 fn write_beliefs(all: &[Literal], out: &mut Text) -> Result<(), Starved>

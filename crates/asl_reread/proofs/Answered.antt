@@ -2,13 +2,16 @@
 use Rattle.std.proofs.Common.{◌≡◌, ℕ, suc, Bool, true, false, List, [], ◌∷◌, ◌++◌, map, Ok, refl, ap, sym, ◌∙◌, subst}
 use Rattle.std.specs.List.{list_all}
 use Rattle.std.proofs.lemmas.Bool.{and_from}
+use Rattle.std.proofs.lemmas.List.{append-nil}
 use Rattle.asl_lexer.specs.declared.token.Tok.{Tok}
 use Rattle.asl_lexer.specs.Words.{pieces, is_end}
-use Rattle.asl_lexer.specs.Bare.{bare}
+use Rattle.asl_lexer.specs.Bare.{Bare, bare}
+use Rattle.asl_lexer.specs.Seams.{Gives, Stop}
 use Rattle.asl_lexer.proofs.Bytes.{both}
 use Rattle.asl_lexer.proofs.Seams.{whole, before_stop}
 use Rattle.asl_lexer.proofs.SpelledTokens.{tokens_spelled}
 use Rattle.asl_term.specs.declared.syntax.AgentText.{AgentText}
+use Rattle.asl_term.specs.declared.syntax.Plan.{Plan}
 use Rattle.asl_meaning.specs.declared.lexeme.Lexeme.{Lexeme}
 use Rattle.asl_meaning.specs.Lexemes.{lexemes}
 use Rattle.asl_meaning.specs.Limits.{too_deep}
@@ -18,9 +21,10 @@ use Rattle.asl_grammar.specs.Limits.{is_within}
 use Rattle.asl_grammar.specs.Sentences.{Says}
 use Rattle.asl_grammar.specs.Agents.{Answers, all_read, is_read, IsAgent}
 use Rattle.asl_grammar.proofs.Bounded.{says_within}
-use Rattle.asl_print.specs.Agents.{agent_text}
+use Rattle.asl_print.specs.Agents.{alone, plan_line, agent_text}
+use Rattle.asl_print.specs.Tokens.{plan_tokens, agent_tokens}
 use Rattle.asl_print.specs.Spelled.{is_spelled_literal, is_spelled_rule, is_spelled_plan, is_spelled_agent}
-use Rattle.asl_print.proofs.Agents.{agent_gives}
+use Rattle.asl_print.proofs.Agents.{agent_gives, line_stops}
 use Rattle.asl_print.proofs.Pieces.{clauses_cut}
 use Rattle.asl_reread.proofs.Turns.{again, bare_lexemes, by_bares, turned}
 use Rattle.asl_reread.proofs.Clauses.{sentence_tokens, sentence_shown, is_spelled_sentence, GoodSentence, good_sentence}
@@ -90,9 +94,10 @@ answers k (p ∷ ps) (every_next {s = s} {ss = ss} h hs) e =
     let others : map (map bare) ps ≡ map sentence_tokens ss = cc in
     is_read (piece_fits p s h first) (piece_says p s h first) h.within (answers (suc k) ps hs others)
 
-printed : (a : AgentText) → Every Kept (sentences_of a) → IsAgent (agent_text a) a
-printed a k =
-    let t = whole (before_stop (agent_gives a (all_spelled_agent a k))) in
+-- a text that gives the tokens of the agent is a source of it
+printed_as : (text : List ℕ) (a : AgentText) → Every Kept (sentences_of a) → (is_spelled_agent a ≡ true → Gives Stop text (agent_tokens a)) → IsAgent text a
+printed_as text a k gives =
+    let t = whole (gives (all_spelled_agent a k)) in
     record {
       sentences = sentences_of a;
       said = record {
@@ -103,9 +108,24 @@ printed a k =
       together = sym (gathered a);
     }
 
-pub printed_is_read : Counts → (bytes : List ℕ) (a : AgentText) → IsAgent bytes a → IsAgent (agent_text a) a
-printed_is_read c bytes a is =
+kept_of : Counts → (bytes : List ℕ) (a : AgentText) → IsAgent bytes a → Every Kept (sentences_of a)
+kept_of c bytes a is =
     let toks = is.said.tokens in
     let spelled = spelled_pieces is_end toks (all_spelled toks (tokens_spelled bytes toks is.said.lexed)) in
     let every = in_order Kept (all_kept c is.said.read spelled) in
-    printed a (subst (λ (b : AgentText). Every Kept (sentences_of b)) (sym is.together) every)
+    subst (λ (b : AgentText). Every Kept (sentences_of b)) (sym is.together) every
+
+pub printed_is_read : Counts → (bytes : List ℕ) (a : AgentText) → IsAgent bytes a → IsAgent (agent_text a) a
+printed_is_read c bytes a is = printed_as (agent_text a) a (kept_of c bytes a is) (λ s. before_stop (agent_gives a s))
+
+-- the tokens of an agent with one plan are those of the plan
+plan_spelled : (p : Plan) → is_spelled_agent (alone p) ≡ true → is_spelled_plan p ≡ true
+plan_spelled p s = (both (is_spelled_plan p) true s).0
+
+alone_tokens : (p : Plan) → plan_tokens p ≡ agent_tokens (alone p)
+alone_tokens p = sym (append-nil (plan_tokens p))
+
+pub line_is_read : Counts → (bytes : List ℕ) (p : Plan) → IsAgent bytes (alone p) → IsAgent (plan_line p) (alone p)
+line_is_read c bytes p is =
+    printed_as (plan_line p) (alone p) (kept_of c bytes (alone p) is)
+    (λ s. subst (λ (ts : List Bare). Gives Stop (plan_line p) ts) (alone_tokens p) (line_stops p (plan_spelled p s)))

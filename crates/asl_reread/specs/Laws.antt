@@ -4,6 +4,7 @@ use Rattle.asl_term.specs.declared.syntax.LiteralOf.{LiteralOf}
 use Rattle.asl_term.specs.declared.syntax.Term.{Term}
 use Rattle.asl_term.specs.declared.syntax.Expr.{Expr}
 use Rattle.asl_term.specs.declared.syntax.AgentText.{AgentText}
+use Rattle.asl_term.specs.declared.syntax.Plan.{Plan}
 use Rattle.asl_term.specs.Texts as texts
 use Rattle.asl_term.specs.Exprs.{literal_text, text}
 use Rattle.asl_lexer.specs.declared.token.Tok.{Tok}
@@ -12,7 +13,7 @@ use Rattle.asl_meaning.specs.declared.meaning.Meaning.{Meaning}
 use Rattle.asl_meaning.specs.Lexemes.{lexemes}
 use Rattle.asl_meaning.specs.Meanings.{as_term, as_formula}
 use Rattle.asl_reading.specs.Grammar.{Reads, disjunction, ReadsLiteral}
-use Rattle.asl_print.specs.Agents.{agent_text}
+use Rattle.asl_print.specs.Agents.{alone, plan_line, agent_text}
 use Rattle.asl_grammar.specs.Agents.{IsAgent}
 
 -- ---- agents
@@ -24,6 +25,10 @@ PrintedIsRead = (bytes : List ℕ) (a : AgentText) → IsAgent bytes a → IsAge
 -- and of no other
 abbrev pub NothingElseIsRead : Type 0
 NothingElseIsRead = (bytes : List ℕ) (a b : AgentText) → IsAgent bytes a → IsAgent (agent_text a) b → b ≡ a
+
+-- the text of a plan in one line is a source with that plan and nothing else
+abbrev pub PlanLinesAreRead : Type 0
+PlanLinesAreRead = (bytes : List ℕ) (p : Plan) → IsAgent bytes (alone p) → IsAgent (plan_line p) (alone p)
 
 -- ---- parts, with any number of brackets
 

@@ -127,7 +127,8 @@ pub struct Plain {
 }
 
 /// The files of the shelf, which calls of shelf and sink fail, the words, and the numbers of workers with each of which they are
-/// called; the words alone are called where there is none.
+/// called; the words alone are called where there is none. Where a file is cut, by its name, they are called once for each proper
+/// prefix of it.
 #[derive(Drop)]
 pub struct Given {
     pub files: Files,
@@ -135,6 +136,7 @@ pub struct Given {
     pub sink_fails: Numbers,
     pub words: Vec<String>,
     pub workers: Numbers,
+    pub cut: Text,
 }
 
 impl Given {
@@ -145,6 +147,7 @@ impl Given {
             sink_fails: Seq::new(alloc),
             words: Vec::new(alloc),
             workers: Seq::new(alloc),
+            cut: Seq::new(alloc),
         }
     }
 }

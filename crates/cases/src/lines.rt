@@ -15,7 +15,8 @@ const TEXT_KEYS: [&str; 11] = [
 ];
 
 /// The keys of a case that take a number, numbers or a word.
-const PLAIN_KEYS: [&str; 14] = [
+const PLAIN_KEYS: [&str; 15] = [
+    "cut",
     "workers",
     "cycles",
     "lead",

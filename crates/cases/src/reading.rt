@@ -203,6 +203,19 @@ fn files_into(section: &Section<'_>, files: &mut Files, desk: &mut Desk) {
     }
 }
 
+/// The name of the file that is cut, of which there are bytes.
+fn cut_into(section: &Section<'_>, files: &Files, cut: &mut Text, desk: &mut Desk) {
+    let Some(entry) = find(section, "cut") else {
+        return;
+    };
+    for file in files.as_slice() {
+        if file.name.as_slice() == entry.rest && file.bytes.len() > 0 {
+            return desk.put(entry.rest, cut);
+        }
+    }
+    desk.refuse(entry.number, "no file of this name has bytes");
+}
+
 /// The last lines of the report of one agent that has so many turns: the facts of the world at the end, where there are some,
 /// and the schedule.
 fn put_end(section: &Section<'_>, turns: u64, out: &mut Text, desk: &mut Desk) {
@@ -338,6 +351,7 @@ pub fn read_case(
     check_section(section, desk);
     check_options(section, desk);
     files_into(section, &mut given.files, desk);
+    cut_into(section, &given.files, &mut given.cut, desk);
     numbers_into(
         section,
         "shelf_fails",

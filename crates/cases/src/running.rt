@@ -102,6 +102,40 @@ struct Done<'a> {
     written: &'a [u8],
 }
 
+/// How many bytes of the file of this name the call finds: all, or its first ones alone.
+#[derive(Clone, Copy)]
+struct Cut<'a> {
+    name: &'a [u8],
+    length: u64,
+}
+
+/// The files, of which the one that is cut has its first bytes alone.
+fn cut_files(files: &Files, cut: Cut<'_>, desk: &mut Desk) -> Files {
+    let mut all = Seq::new(desk.alloc);
+    for file in files.as_slice() {
+        match copy_text(desk.alloc, &file.bytes) {
+            Ok(mut bytes) => {
+                if file.name.as_slice() == cut.name {
+                    bytes.truncate(cut.length);
+                }
+                desk.put_file(file.name.as_slice(), bytes, &mut all);
+            }
+            Err(starved) => desk.check(Err(starved)),
+        }
+    }
+    all
+}
+
+/// How many bytes the file of this name has.
+fn length_of(files: &Files, name: &[u8]) -> u64 {
+    for file in files.as_slice() {
+        if file.name.as_slice() == name {
+            return file.bytes.len();
+        }
+    }
+    0
+}
+
 fn copy_files(files: &Files, desk: &mut Desk) -> Files {
     let mut all = Seq::new(desk.alloc);
     for file in files.as_slice() {
@@ -228,6 +262,7 @@ fn run_once<R: Threads + Wait + Sync>(
     rt: &R,
     plain: &Plain,
     given: &Given,
+    files: &Files,
     words: &[String],
     wanted: &Wanted,
     reason: &mut Text,
@@ -235,8 +270,8 @@ fn run_once<R: Threads + Wait + Sync>(
 ) -> Result<bool, Starved> {
     let room = room_of(desk.alloc, plain.room)?;
     let blanks = room.len() as usize;
-    let files = copy_files(&given.files, desk);
-    let mut shelf = memory_shelf(files, copy_numbers(&given.shelf_fails, desk));
+    let shelved = copy_files(files, desk);
+    let mut shelf = memory_shelf(shelved, copy_numbers(&given.shelf_fails, desk));
     let mut sink = memory_sink(room, plain.short, copy_numbers(&given.sink_fails, desk));
     let status = make(rt, desk.alloc, words, &mut shelf, &mut sink)?;
     let written = sink.written().get(blanks..).unwrap_or(&[]);
@@ -247,7 +282,29 @@ fn run_once<R: Threads + Wait + Sync>(
         status: code(&status),
         written,
     };
-    is_again(rt, words, &given.files, &done, reason, desk)
+    is_again(rt, words, files, &done, reason, desk)
+}
+
+/// Calls the words once, or once for each proper prefix of the file that is cut.
+fn run_cut<R: Threads + Wait + Sync>(
+    rt: &R,
+    plain: &Plain,
+    given: &Given,
+    wanted: &Wanted,
+    reason: &mut Text,
+    desk: &mut Desk,
+) -> Result<bool, Starved> {
+    let (words, name) = (given.words.as_slice(), given.cut.as_slice());
+    for length in 0..length_of(&given.files, name) {
+        reason.truncate(0);
+        desk.put_named("cut at ", length, reason);
+        desk.put(b": ", reason);
+        let files = cut_files(&given.files, Cut { name, length }, desk);
+        if !run_once(rt, plain, given, &files, words, wanted, reason, desk)? {
+            return Ok(false);
+        }
+    }
+    Ok(true)
 }
 
 /// Calls the words, with each of the numbers of workers where the case tells some.
@@ -261,14 +318,20 @@ fn run<R: Threads + Wait + Sync>(
 ) -> Result<bool, Starved> {
     let words = given.words.as_slice();
     if given.workers.len() == 0 {
-        return run_once(rt, plain, given, words, wanted, reason, desk);
+        let files = &given.files;
+        return if given.cut.len() == 0 {
+            run_once(rt, plain, given, files, words, wanted, reason, desk)
+        } else {
+            run_cut(rt, plain, given, wanted, reason, desk)
+        };
     }
     for workers in given.workers.as_slice() {
         reason.truncate(0);
         desk.put_named("workers ", *workers, reason);
         desk.put(b": ", reason);
         let words = with_workers(words, *workers, desk);
-        if !run_once(rt, plain, given, words.as_slice(), wanted, reason, desk)? {
+        let words = words.as_slice();
+        if !run_once(rt, plain, given, &given.files, words, wanted, reason, desk)? {
             return Ok(false);
         }
     }

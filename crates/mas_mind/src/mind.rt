@@ -15,6 +15,9 @@ pub enum Verb {
     Unachieve,
     AskOne,
     AskAll,
+    TellHow,
+    UntellHow,
+    AskHow,
 }
 
 /// The word of a verb, as a source and a trace write it.
@@ -28,6 +31,9 @@ pub fn verb_text(verb: Verb) -> &'static str
         Verb::Unachieve => "unachieve",
         Verb::AskOne => "askOne",
         Verb::AskAll => "askAll",
+        Verb::TellHow => "tellHow",
+        Verb::UntellHow => "untellHow",
+        Verb::AskHow => "askHow",
     }
 }
 

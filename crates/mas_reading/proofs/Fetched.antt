@@ -23,13 +23,14 @@ use Rattle.mas_reading.specs.Files.{Has, HasFile, Reader, IsRefusal, IsUnfetched
 use Rattle.mas_reading.specs.Faults.{lex_status, text_status, world_status, project_status}
 use Rattle.mas_reading.specs.declared.status.What.TheVariants as what
 use Rattle.mas_reading.specs.declared.status.Status.{Status}
-use Rattle.mas_reading.specs.declared.status.Status.TheVariants.{Ok, Usage, Missing, ReadFault, WriteFault, Refused, Limit, Budget, Memory}
+use Rattle.mas_reading.specs.declared.status.Status.TheVariants.{Ok, No, Usage, Missing, ReadFault, WriteFault, Refused, Limit, Budget, Memory}
 
 -- ---- bytes that are not there
 
 pub unfetched : (r : Reader) (name : List ℕ) (held : Option (List Filed)) (before after : ℕ) (status : Status) →
     IsUnfetched r.most name held before after status → IsRefusal r name held before after status
 unfetched r name held before after Ok h = absurd h
+unfetched r name held before after No h = absurd h
 unfetched r name held before after Usage h = absurd h
 unfetched r name held before after (Missing lacked) h = h
 unfetched r name held before after ReadFault h = h
@@ -62,6 +63,7 @@ rose_from first before after l r = search rules
 pub refusal_from : (r : Reader) (name : List ℕ) (held : Option (List Filed)) (first before after : ℕ) (status : Status) → first ≤ before →
     IsRefusal r name held before after status → IsRefusal r name held first after status
 refusal_from r name held first before after Ok l h = absurd h
+refusal_from r name held first before after No l h = absurd h
 refusal_from r name held first before after Usage l h = absurd h
 refusal_from r name held first before after (Missing lacked) l h = h
 refusal_from r name held first before after ReadFault l h = rose_from first before after l h

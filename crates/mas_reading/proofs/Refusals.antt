@@ -29,7 +29,7 @@ use Rattle.mas_reading.specs.declared.status.Reason.TheVariants as reason
 use Rattle.mas_reading.specs.declared.status.What.{What}
 use Rattle.mas_reading.specs.declared.status.What.TheVariants as what
 use Rattle.mas_reading.specs.declared.status.Status.{Status}
-use Rattle.mas_reading.specs.declared.status.Status.TheVariants.{Ok, Usage, Missing, ReadFault, WriteFault, Refused, Limit, Budget, Memory}
+use Rattle.mas_reading.specs.declared.status.Status.TheVariants.{Ok, No, Usage, Missing, ReadFault, WriteFault, Refused, Limit, Budget, Memory}
 use Rattle.mas_reading.specs.Projects.{is_agent_file, all_cycles, most_cycles}
 use Rattle.mas_reading.specs.Faults.{text_status, world_status, project_status}
 use Rattle.mas_reading.specs.Files.{Reader, agents, worlds, projects, IsRefusal}
@@ -72,6 +72,7 @@ module _ (r : Reader) (Fault : Type 0) (Has : List ℕ → Fault → Type 0) (st
 
   fault_of : Faulty → Large → (name bytes : List ℕ) (status : Status) → Refuses r name bytes status → Status_of name bytes status
   fault_of f l name bytes Ok h = absurd h
+  fault_of f l name bytes No h = absurd h
   fault_of f l name bytes Usage h = absurd h
   fault_of f l name bytes (Missing lacked) h = absurd h
   fault_of f l name bytes ReadFault h = absurd h
@@ -225,6 +226,7 @@ made_one r one name Failed s t h g = absurd h
 made : (r : Reader) (files : List Filed) (name : List ℕ) (before after : ℕ) (status : Status) → Calm before after status →
     IsRefusal r name (Some files) before after status → Made r name (fetched files name r.most) status
 made r files name before after Ok c h = absurd h
+made r files name before after No c h = absurd h
 made r files name before after Usage c h = absurd h
 made r files name before after (Missing lacked) c h = subst (λ x. Made r name x (Missing lacked)) h.has (ap Missing h.same)
 made r files name before after ReadFault c h = absurd (c.no_fault h)

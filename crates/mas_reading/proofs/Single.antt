@@ -27,7 +27,7 @@ use Rattle.mas_io.specs.declared.shelf.Fetched.TheVariants.{Bytes, Missing as La
 use Rattle.mas_reading.specs.declared.sources.Role.{Role}
 use Rattle.mas_reading.specs.declared.sources.Source.{Source}
 use Rattle.mas_reading.specs.declared.status.Status.{Status}
-use Rattle.mas_reading.specs.declared.status.Status.TheVariants.{Ok, Usage, Missing, ReadFault, WriteFault, Refused, Limit, Budget, Memory}
+use Rattle.mas_reading.specs.declared.status.Status.TheVariants.{Ok, No, Usage, Missing, ReadFault, WriteFault, Refused, Limit, Budget, Memory}
 use Rattle.mas_reading.specs.declared.status.Reason.{Reason}
 use Rattle.mas_reading.specs.declared.status.Reason.TheVariants as reason
 use Rattle.mas_reading.specs.declared.status.What.{What}
@@ -248,6 +248,7 @@ project_read bytes p h = record { faulty = project_faulty bytes p h; large = pro
 pub not_refused_file : (r : Reader) (files : List Filed) (name : List ℕ) (before after : ℕ) (status : Status) (P : List ℕ → Type 0) →
     (h : HasFile r.most (Some files) name P) → Accepted r h.bytes → (Rose before after → ⊥) → IsRefusal r name (Some files) before after status → status ≡ Memory
 not_refused_file r files name before after Ok P h n f c = absurd c
+not_refused_file r files name before after No P h n f c = absurd c
 not_refused_file r files name before after Usage P h n f c = absurd c
 not_refused_file r files name before after (Missing lacked) P h n f c = absurd (bytes_lack h.bytes (h.has ∙ sym c.has))
 not_refused_file r files name before after ReadFault P h n f c = absurd (f c)
@@ -317,6 +318,7 @@ first_not known cycles files word source before after status h f (part_refused p
 pub not_refused : (known : List (List ℕ)) (cycles : ℕ) (files : List Filed) (word : List ℕ) (source : Source) (before after : ℕ) (status : Status) → HasSource known cycles (Some files) word source →
     (Rose before after → ⊥) → AreRefused known cycles (Some files) word before after status → status ≡ Memory
 not_refused known cycles files word source before after Ok h f c = first_not known cycles files word source before after Ok h f c
+not_refused known cycles files word source before after No h f c = first_not known cycles files word source before after No h f c
 not_refused known cycles files word source before after Usage h f c = first_not known cycles files word source before after Usage h f c
 not_refused known cycles files word source before after (Missing lacked) h f c = first_not known cycles files word source before after (Missing lacked) h f c
 not_refused known cycles files word source before after ReadFault h f c = first_not known cycles files word source before after ReadFault h f c

@@ -1,11 +1,12 @@
 -- What is told where memory may lack.
 use Rattle.std.proofs.Common.{◌≢◌, refl}
 use Rattle.mas_reading.specs.declared.status.Status.{Status}
-use Rattle.mas_reading.specs.declared.status.Status.TheVariants.{Ok, Usage, Missing, ReadFault, WriteFault, Refused, Limit, Budget, Memory}
+use Rattle.mas_reading.specs.declared.status.Status.TheVariants.{Ok, No, Usage, Missing, ReadFault, WriteFault, Refused, Limit, Budget, Memory}
 use Rattle.mas_reading.specs.Sources.{UnlessMemory}
 
 pub unless : (Is : Status → Type 0) (s : Status) → Is s → UnlessMemory Is s
 unless Is Ok h = h
+unless Is No h = h
 unless Is Usage h = h
 unless Is (Missing name) h = h
 unless Is ReadFault h = h
@@ -17,6 +18,7 @@ unless Is Memory h = tt
 
 pub unless_as : (Is Js : Status → Type 0) → ((s : Status) → Is s → Js s) → (s : Status) → UnlessMemory Is s → UnlessMemory Js s
 unless_as Is Js f Ok h = f Ok h
+unless_as Is Js f No h = f No h
 unless_as Is Js f Usage h = f Usage h
 unless_as Is Js f (Missing name) h = f (Missing name) h
 unless_as Is Js f ReadFault h = f ReadFault h
@@ -28,6 +30,7 @@ unless_as Is Js f Memory h = tt
 
 pub is_told : (Is : Status → Type 0) (s : Status) → s ≢ Memory → UnlessMemory Is s → Is s
 is_told Is Ok n h = h
+is_told Is No n h = h
 is_told Is Usage n h = h
 is_told Is (Missing name) n h = h
 is_told Is ReadFault n h = h

@@ -18,7 +18,7 @@ use Rattle.mas_reading.specs.declared.status.Reason.TheVariants as reason
 use Rattle.mas_reading.specs.declared.status.What.{What}
 use Rattle.mas_reading.specs.declared.status.What.TheVariants as what
 use Rattle.mas_reading.specs.declared.status.Status.{Status}
-use Rattle.mas_reading.specs.declared.status.Status.TheVariants.{Ok, Usage, Missing, ReadFault, WriteFault, Refused, Limit, Budget, Memory}
+use Rattle.mas_reading.specs.declared.status.Status.TheVariants.{Ok, No, Usage, Missing, ReadFault, WriteFault, Refused, Limit, Budget, Memory}
 
 -- the most bytes of the file of a project, a world or an agent
 abbrev pub most_bytes : ℕ
@@ -128,6 +128,7 @@ IsPast r held name quantity count = HasFile r.most held name (λ bytes. r.large 
 -- after; want of memory alone is free
 abbrev pub IsRefusal : Reader → List ℕ → Option (List Filed) → ℕ → ℕ → Status → Type 0
 IsRefusal r name held before after Ok = ⊥
+IsRefusal r name held before after No = ⊥
 IsRefusal r name held before after Usage = ⊥
 IsRefusal r name held before after (Missing lacked) = IsMissing r.most held name lacked
 IsRefusal r name held before after ReadFault = Rose before after

@@ -9,6 +9,7 @@ use Rattle.mas_reading.specs.declared.status.Status.TheVariants as status
 
 abbrev pub status_code : Status → ℕ
 status_code status.Ok = 0
+status_code status.No = 1
 status_code status.Usage = 2
 status_code (status.Missing name) = 3
 status_code status.ReadFault = 4
@@ -22,6 +23,11 @@ status_code status.Memory = 9
 abbrev pub whole : Bool → Status
 whole false = status.Ok
 whole true = status.Budget
+
+-- where an answer was written whole: whether it is yes
+abbrev pub verdict : Bool → Status
+verdict true = status.Ok
+verdict false = status.No
 
 -- a text and a line feed
 abbrev pub line : List ℕ → List ℕ
@@ -47,10 +53,11 @@ what_word what.Clause = codes "clause"
 what_word what.Agents = codes "agents"
 what_word what.Cycles = codes "cycles"
 
--- nothing where the report was written whole and no end in it is `budget`, else one line
+-- nothing where the report was written whole and no end in it is `budget`, or it is that of a run, else one line
 abbrev pub fault_text : Status → List ℕ
 fault_text status.Ok = []
-fault_text status.Usage = line (codes "usage: jasonrun run PROJECT | replay PROJECT SCHEDULE | demo K")
+fault_text status.No = line (codes "no")
+fault_text status.Usage = line (codes "usage: jasonrun run PROJECT | replay PROJECT SCHEDULE | check PROJECT REPORT | demo K")
 fault_text (status.Missing name) = line (codes "missing " ++ name)
 fault_text status.ReadFault = line (codes "read fault")
 fault_text status.WriteFault = line (codes "write fault")

@@ -49,12 +49,14 @@ pub enum What {
     Cycles,
 }
 
-/// How a call of the program ended. The place of `Refused` is that of a byte, from 0, for the first four reasons, and for
+/// How a call of the program ended. `No` is the answer that a report is not that of a run.
+/// The place of `Refused` is that of a byte, from 0, for the first four reasons, and for
 /// the others the number, from 1, of the clause, of the piece of a project, of the agent, of the line of a schedule or of the turn.
 /// The count of `Limit` is the allowed bytes of a file, the number of the clause, of the agents, or of their cycles together.
 #[derive(Drop)]
 pub enum Status {
     Ok,
+    No,
     Usage,
     Missing(Text),
     ReadFault,
@@ -81,6 +83,7 @@ pub fn code(s: &Status) -> u8
 {
     match s {
         Status::Ok => 0,
+        Status::No => 1,
         Status::Usage => 2,
         Status::Missing(_) => 3,
         Status::ReadFault => 4,
@@ -170,6 +173,13 @@ pub fn whole(spent: bool) -> Status
     if spent { Status::Budget } else { Status::Ok }
 }
 
+/// The status of an answer that was written whole.
+pub fn verdict(yes: bool) -> Status
+    ensures { result ≡ spec.verdict yes }
+{
+    if yes { Status::Ok } else { Status::No }
+}
+
 /// The line for standard error, with its line feed, empty for `Ok`.
 pub fn fault_line(alloc: Global, s: &Status) -> Result<Text, Starved>
     ensures text { IfOk result (λ t. t ≡ fault_text s.now) }
@@ -177,9 +187,10 @@ pub fn fault_line(alloc: Global, s: &Status) -> Result<Text, Starved>
 {
     match s {
         Status::Ok => Ok(Seq::new(alloc)),
+        Status::No => text_of(alloc, b"no\n"),
         Status::Usage => text_of(
             alloc,
-            b"usage: jasonrun run PROJECT | replay PROJECT SCHEDULE | demo K\n",
+            b"usage: jasonrun run PROJECT | replay PROJECT SCHEDULE | check PROJECT REPORT | demo K\n",
         ),
         Status::Missing(name) => missing_line(alloc, name),
         Status::ReadFault => text_of(alloc, b"read fault\n"),

@@ -6,7 +6,7 @@ use Rattle.mas_io.specs.Sink.{grown}
 use Rattle.mas_io.specs.Told.{Told, IsUnwritten}
 use Rattle.mas_io.specs.Writing.{IsCut}
 use Rattle.mas_reading.specs.declared.status.Status.{Status}
-use Rattle.mas_reading.specs.declared.status.Status.TheVariants.{Ok, Usage, Missing, ReadFault, WriteFault, Refused, Limit, Budget, Memory}
+use Rattle.mas_reading.specs.declared.status.Status.TheVariants.{Ok, No, Usage, Missing, ReadFault, WriteFault, Refused, Limit, Budget, Memory}
 use Rattle.mas_reading.specs.declared.status.What.TheVariants as what
 use Rattle.mas_reading.specs.Projects.{all_cycles}
 use Rattle.mas_reading.specs.Files.{Reader, IsRefusal, agents, worlds, projects}
@@ -14,22 +14,24 @@ use Rattle.mas_reading.specs.Sources.{FirstRefused, project_refused, cycles_refu
 use Rattle.mas_reading.specs.Statuses.{whole}
 use Rattle.mas_top.specs.Opening.{Setup}
 use Rattle.mas_reading.specs.Known.{known}
-use Rattle.mas_top.specs.Runs.{Wanted, Given, schedules, FileRefused, GivenRefused}
+use Rattle.mas_top.specs.Runs.{Wanted, schedules, FileRefused, GivenRefused}
 use Rattle.mas_top.specs.Caused.{Texts, ForFiles, FileCaused}
 
 -- ---- what is refused
 
 -- a status with which nothing was written
-abbrev refuses : Status → Bool
+abbrev pub refuses : Status → Bool
 refuses Ok = false
+refuses No = false
 refuses Usage = false
 refuses Budget = false
 refuses WriteFault = false
 refuses other = true
 
 -- a file is refused with no status of a report
-no_report : (r : Reader) (name : List ℕ) (held : Option (List Filed)) (before after : ℕ) (status : Status) → IsRefusal r name held before after status → refuses status ≡ true
+pub no_report : (r : Reader) (name : List ℕ) (held : Option (List Filed)) (before after : ℕ) (status : Status) → IsRefusal r name held before after status → refuses status ≡ true
 no_report r name held before after Ok h = absurd h
+no_report r name held before after No h = absurd h
 no_report r name held before after Usage h = absurd h
 no_report r name held before after (Missing lacked) h = refl
 no_report r name held before after ReadFault h = refl
@@ -58,6 +60,7 @@ file_refuses u held wanted before after status (inr r) = no_report (schedules u 
 refused_by : (Is : Texts) (u : Setup) (wanted : Wanted) (before after : Told) (status : Status) → refuses status ≡ true →
     FileRefused u before.held wanted before.shelf_faults after.shelf_faults status → IsUnwritten before after → FileCaused Is u wanted before after status
 refused_by Is u wanted before after Ok e r n = absurd cc
+refused_by Is u wanted before after No e r n = absurd cc
 refused_by Is u wanted before after Usage e r n = absurd cc
 refused_by Is u wanted before after (Missing lacked) e r n = record { why = r; unwritten = n }
 refused_by Is u wanted before after ReadFault e r n = record { why = r; unwritten = n }
@@ -76,6 +79,7 @@ one_refused Is u wanted before after status r n =
 pub refused_file : (Is : Texts) (u : Setup) (wanted : Wanted) (before after : Told) (status : Status) →
     GivenRefused u before.held wanted before.shelf_faults after.shelf_faults status → IsUnwritten before after → FileCaused Is u wanted before after status
 refused_file Is u wanted before after Ok r n = one_refused Is u wanted before after Ok r n
+refused_file Is u wanted before after No r n = one_refused Is u wanted before after No r n
 refused_file Is u wanted before after Usage r n = one_refused Is u wanted before after Usage r n
 refused_file Is u wanted before after (Missing lacked) r n = one_refused Is u wanted before after (Missing lacked) r n
 refused_file Is u wanted before after ReadFault r n = one_refused Is u wanted before after ReadFault r n

@@ -23,7 +23,7 @@ use Rattle.mas_reading.specs.Known.{known}
 use Rattle.mas_reading.specs.Sources.{HasSource, FirstRefused, AreRefused, UnlessMemory}
 use Rattle.mas_reading.specs.declared.sources.Source.{Source}
 use Rattle.mas_reading.specs.declared.status.Status.{Status}
-use Rattle.mas_reading.specs.declared.status.Status.TheVariants.{Ok, Usage, Missing, ReadFault, WriteFault, Refused, Limit, Budget, Memory}
+use Rattle.mas_reading.specs.declared.status.Status.TheVariants.{Ok, No, Usage, Missing, ReadFault, WriteFault, Refused, Limit, Budget, Memory}
 use Rattle.mas_top.specs.Demo.{DemoHas, IsToldRun, IsDemo, DemoRefused, DemoCaused, IsDemoComplete}
 use Rattle.mas_report.specs.declared.options.Options.{Options}
 use Rattle.mas_world.specs.Worlds.{Used}
@@ -70,6 +70,7 @@ still r = omega (arith, r)
 
 told_of_file : (r : Reader) (name : List ℕ) (held : Option (List Filed)) (status : Status) → IsRefusal r name held 0 0 status → tells status ≡ true
 told_of_file r name held Ok h = absurd h
+told_of_file r name held No h = absurd h
 told_of_file r name held Usage h = absurd h
 told_of_file r name held (Missing lacked) h = refl
 told_of_file r name held ReadFault h = absurd (still h)
@@ -82,6 +83,7 @@ told_of_file r name held Memory h = refl
 one_refused : (u : Setup) (k : ℕ) (way : Way) (before after : Told) (status : Status) → tells status ≡ true → DemoRefused u k status → IsUnwritten before after →
     DemoCaused u k way before after status
 one_refused u k way before after Ok e r w = absurd cc
+one_refused u k way before after No e r w = absurd cc
 one_refused u k way before after Usage e r w = absurd cc
 one_refused u k way before after (Missing lacked) e r w = record { why = r; unwritten = w }
 one_refused u k way before after ReadFault e r w = absurd cc
@@ -102,6 +104,7 @@ by_first u k way before after status r w =
 pub unwritten : (u : Setup) (k : ℕ) (way : Way) (before after : Told) (status : Status) → UnlessMemory (DemoRefused u k) status → IsUnwritten before after →
     DemoCaused u k way before after status
 unwritten u k way before after Ok r w = by_first u k way before after Ok r w
+unwritten u k way before after No r w = by_first u k way before after No r w
 unwritten u k way before after Usage r w = by_first u k way before after Usage r w
 unwritten u k way before after (Missing lacked) r w = by_first u k way before after (Missing lacked) r w
 unwritten u k way before after ReadFault r w = by_first u k way before after ReadFault r w
@@ -129,6 +132,7 @@ not_first objects k status l h t r =
 pub demo_complete : (objects : List Used) (k : ℕ) (way : Way) (before after : Told) (status : Status) → 1 ≤ k → k ≤ 200 →
     DemoCaused (setup defaults objects) k way before after status → IsDemoComplete (setup defaults objects) before after status
 demo_complete objects k way before after Ok l h c t f = inl refl
+demo_complete objects k way before after No l h c t f = absurd c
 demo_complete objects k way before after Usage l h c t f = absurd c
 demo_complete objects k way before after (Missing lacked) l h c t f = inr (not_first objects k (Missing lacked) l h t c.why)
 demo_complete objects k way before after ReadFault l h c t f = absurd c

@@ -1,5 +1,5 @@
 -- The promises of the top call, from the cause of each status.
-use Rattle.std.proofs.Common.{ℕ, ◌≡◌, inl, inr, Bool, true, false, List, ◌++◌, Option, None, Some, refl, ap, sym, ◌∙◌, subst}
+use Rattle.std.proofs.Common.{ℕ, ◌≡◌, inl, inr, Bool, true, false, List, ◌++◌, Option, Some, refl, ap, sym, ◌∙◌, subst}
 use Rattle.std.proofs.lemmas.List.{append_cancel_left}
 use Rattle.asl_term.specs.declared.syntax.Filed.{Filed}
 use Rattle.asl_cycle.specs.Agent.{agent_kind}
@@ -9,7 +9,7 @@ use Rattle.mas_io.specs.Writing.{Wrote}
 use Rattle.mas_io.specs.Causes.{Rose}
 use Rattle.mas_reading.specs.declared.sources.Source.{Source}
 use Rattle.mas_reading.specs.declared.status.Status.{Status}
-use Rattle.mas_reading.specs.declared.status.Status.TheVariants.{Ok, Usage, Missing, ReadFault, WriteFault, Refused, Limit, Budget, Memory}
+use Rattle.mas_reading.specs.declared.status.Status.TheVariants.{Ok, No, Usage, Missing, ReadFault, WriteFault, Refused, Limit, Budget, Memory}
 use Rattle.mas_reading.specs.Statuses.{whole}
 use Rattle.mas_reading.specs.Files.{HasFile, IsRefusal}
 use Rattle.mas_reading.specs.Known.{known}
@@ -120,6 +120,7 @@ not_refused_here u wanted before after status files e n f m c = n status (record
 pub complete_file : (Is : Texts) (u : Setup) (wanted : Wanted) (before after : Told) (status : Status) → FileCaused Is u wanted before after status →
     IsComplete u wanted before after status
 complete_file Is u wanted before after Ok c files e n f k = inl (false, refl)
+complete_file Is u wanted before after No c files e n f k = absurd c
 complete_file Is u wanted before after Usage c files e n f k = absurd c
 complete_file Is u wanted before after (Missing lacked) c files e n f k =
     absurd (not_refused_here u wanted before after (Missing lacked) files e n f (λ q. cc) c.why)

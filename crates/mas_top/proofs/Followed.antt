@@ -1,12 +1,10 @@
 -- A schedule is read in one way, and one that leads to the end is not refused.
-use Rattle.std.proofs.Common.{ℕ, ◌≡◌, ◌+◌, Bool, true, false, ◌&&◌, if◌then◌else◌, List, [], ◌∷◌, Option, None, Some, refl, ap, sym, ◌∙◌}
+use Rattle.std.proofs.Common.{ℕ, ◌≡◌, List, None, Some, ap, sym, ◌∙◌}
 use Rattle.std.specs.Prelude.{Result, Ok as Yes, Err as No}
 use Rattle.asl_cycle.specs.Agent.{agent_kind}
-use Rattle.mas_mind.specs.Minds.{Kind}
-use Rattle.mas_board.specs.Boards.{is_gone}
-use Rattle.mas_core.specs.Platform.{Platform, turn, and_run, run, ended, first_here}
-use Rattle.mas_core.specs.Replay.{Stuck, Came, follow_on, follow}
-use Rattle.mas_board.specs.declared.seats.Place.{Place}
+use Rattle.mas_core.specs.Platform.{run, first_here}
+use Rattle.mas_core.specs.Replay.{follow}
+use Rattle.mas_report.proofs.Judged.{came_stuck, follows, none_here}
 use Rattle.mas_schedule.specs.Reading.{IsSchedule}
 use Rattle.mas_schedule.proofs.Answered.{one_answer}
 use Rattle.mas_reading.specs.declared.sources.Source.{Source}
@@ -14,7 +12,7 @@ use Rattle.mas_reading.specs.declared.status.Reason.{Reason}
 use Rattle.mas_reading.specs.declared.status.Reason.TheVariants as reason
 use Rattle.mas_reading.proofs.Single.{Accepted}
 use Rattle.mas_top.specs.Opening.{Setup, opening}
-use Rattle.mas_top.specs.Runs.{How, by_file, IsFollowed, schedules}
+use Rattle.mas_top.specs.Runs.{by_file, IsFollowed, schedules}
 
 abbrev read : List ℕ → Result (List ℕ) ℕ
 read names = Yes names
@@ -36,29 +34,6 @@ some_same e = cc
 
 none_some : {A : Type 0} {x : A} → None ≡ Some x → ⊥
 none_some e = cc
-
-pub came_stuck : {V : Type 0} (p : Platform V) (n : ℕ) → Came p ≡ Stuck n → ⊥
-came_stuck p n e = cc
-
--- a run that comes to its end is stuck nowhere
-follows_on : {V : Type 0} (k : Kind V) (q : Option (Platform V)) (n : ℕ) (names : List ℕ) (done : Platform V) →
-    ((r : Platform V) → run k r names ≡ Some done → follow k r (n + 1) names ≡ Came done) → and_run (λ r. run k r names) q ≡ Some done →
-    follow_on (λ r. follow k r (n + 1) names) n q ≡ Came done
-follows_on k None n names done f e = absurd (none_some e)
-follows_on k (Some r) n names done f e = f r e
-
-pub follows : {V : Type 0} (k : Kind V) (p : Platform V) (n : ℕ) (names : List ℕ) (done : Platform V) → run k p names ≡ Some done → follow k p n names ≡ Came done
-follows k p n [] done e = ap Came (some_same e)
-follows k p n (a ∷ names) done e = follows_on k (turn k p a) n names done (λ r. follows k r (n + 1) names done) e
-
-here_by : (b e : Bool) (a : ℕ) (f : Option ℕ) → (b && e) ≡ true → (e ≡ true → f ≡ None) → (if b then f else Some a) ≡ None
-here_by true e a f h k = k h
-here_by false e a f h k = absurd cc
-
--- where every agent has left there is none that has not
-none_here : (a : ℕ) (seats : List Place) → ended seats ≡ true → first_here a seats ≡ None
-none_here a [] e = refl
-none_here a (seat ∷ seats) e = here_by (is_gone seat.phase) (ended seats) a (first_here (a + 1) seats) e (none_here (a + 1) seats)
 
 schedule_faulty : (u : Setup) (source : Source) (bytes names : List ℕ) → IsFollowed u source bytes names → (place : ℕ) (why : Reason) →
     (schedules u source).faulty bytes place why → ⊥

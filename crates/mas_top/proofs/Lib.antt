@@ -2,6 +2,8 @@ pub mod Opened
 pub mod Runs
 pub mod Played
 pub mod Caused
+pub mod Verdicts
+pub mod Claims
 pub mod Followed
 pub mod Refusals
 pub mod Drawn

@@ -24,7 +24,7 @@ use Rattle.mas_reading.specs.declared.status.Reason.{Reason}
 use Rattle.mas_reading.specs.declared.status.Reason.TheVariants as reason
 use Rattle.mas_reading.specs.declared.status.What.TheVariants as what
 use Rattle.mas_reading.specs.declared.status.Status.{Status}
-use Rattle.mas_reading.specs.declared.status.Status.TheVariants.{Ok, Usage, Missing, ReadFault, WriteFault, Refused, Limit, Budget, Memory}
+use Rattle.mas_reading.specs.declared.status.Status.TheVariants.{Ok, No, Usage, Missing, ReadFault, WriteFault, Refused, Limit, Budget, Memory}
 use Rattle.mas_reading.specs.Files.{Has, HasFile, IsRefusal, IsUnfetched}
 use Rattle.mas_reading.specs.Known.{known}
 use Rattle.mas_reading.specs.Sources.{HasWorld, HasRole, HasRoles, HasSource, FirstRefused, AreRefused}
@@ -81,6 +81,7 @@ line_why u source bytes place reason.Unended h = absurd h
 pub unread : (u : Setup) (source : Source) (name : List ℕ) (held : Option (List Filed)) (before after : ℕ) (status : Status) →
     IsRefusal lines name held before after status → IsRefusal (schedules u source) name held before after status
 unread u source name held before after Ok h = absurd h
+unread u source name held before after No h = absurd h
 unread u source name held before after Usage h = absurd h
 unread u source name held before after (Missing lacked) h = h
 unread u source name held before after ReadFault h = h

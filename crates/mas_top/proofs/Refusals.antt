@@ -21,7 +21,8 @@ use Rattle.mas_reading.proofs.Refusals.{OneStatus, Faulty, Large, FaultOf, there
 use Rattle.mas_top.specs.Opening.{Setup, opening}
 use Rattle.mas_top.specs.Runs.{Wanted, IsIllegal, IsUnended, schedules, FileRefused, ScheduleRefused}
 use Rattle.mas_top.specs.Laws.{OneRefusal}
-use Rattle.mas_top.proofs.Followed.{names_fault, file_same, one_schedule, came_stuck, follows}
+use Rattle.mas_report.proofs.Judged.{came_stuck, follows}
+use Rattle.mas_top.proofs.Followed.{names_fault, file_same, one_schedule}
 
 -- ---- the bytes of a schedule are refused in one way
 

@@ -3,7 +3,6 @@ use Rattle.std.proofs.Common.{ℕ, zero, suc, ◌≡◌, ◌+◌, ◌*◌, ◌<�
 use Rattle.std.proofs.Math.Nat.{suc-mul}
 use Rattle.std.proofs.lemmas.Fmt.{length-decimal-le}
 use Rattle.std.proofs.lemmas.List.{length-append, length-replicate}
-use Rattle.asl_term.specs.declared.syntax.Filed.{Filed}
 use Rattle.asl_cycle.specs.Agent.{Mindset, agent_kind}
 use Rattle.mas_mind.specs.Minds.{Kind}
 use Rattle.mas_board.specs.Boards.{no_seat}
@@ -12,17 +11,17 @@ use Rattle.mas_laws.specs.Ends.{RunsEnd}
 use Rattle.mas_laws.specs.Lead.{NeverFarAhead}
 use Rattle.mas_laws.specs.Mail.{MailFromOpening}
 use Rattle.mas_laws.specs.Quiet.{QuietLasts}
-use Rattle.mas_schedule.specs.Reading.{IsSchedule}
 use Rattle.mas_schedule.specs.Schedule.{more_numbers, numbers_text, count_line, schedule_text, printed, AllFromOne}
 use Rattle.mas_report.specs.Report.{front_text, report_text, is_spent}
+use Rattle.mas_report.proofs.Backs.{shown, words_within}
 use Rattle.mas_report.proofs.Numbered.{run_numbers}
 use Rattle.mas_reading.specs.declared.sources.Source.{Source}
 use Rattle.mas_reading.specs.Projects.{most_cycles}
-use Rattle.mas_top.specs.Opening.{Setup, opening, opening_board, opening_minds, opening_world}
+use Rattle.mas_top.specs.Opening.{Setup, opening, opening_minds, opening_world}
 use Rattle.mas_top.specs.Runs.{most_bytes, given}
 use Rattle.mas_top.specs.Ways.{along}
 use Rattle.mas_top.specs.Headline.{IsReportOf, IsRunReportOf}
-use Rattle.mas_top.specs.Laws.{IsRepeatable, CanRepeat, KeepsLaws, ReportsKeepLaws}
+use Rattle.mas_top.specs.Laws.{CanRepeat, CanCheck, ReportsKeepLaws}
 use Rattle.mas_top.proofs.Played.{can_run}
 
 some_same : {A : Type 0} {x y : A} → Some x ≡ Some y → x ≡ y
@@ -115,6 +114,22 @@ can_repeat ends u files wanted g spent w h r =
       short = schedule_short names each count;
       followed = record { is = record { count = (some, count); each = each; is = refl }; leads = record { done = r.done; ran = r.ran; ended = r.ended } };
       again = again u source spent w r;
+    }
+
+-- ---- a report is its own
+
+pub can_check : RunsEnd agent_kind → CanCheck
+can_check ends u files wanted g spent w l h r =
+    let source = g.source in
+    let again = can_repeat ends u files wanted g spent w h r in
+    let s = again.followed.is in
+    let few : length source.names * u.options.cycles ≤ most_cycles =
+    subst (λ n. length n * u.options.cycles ≤ most_cycles) (sym h.source.describe.names) h.source.asked.few in
+    record {
+      options = u.options;
+      shows = shown agent_kind u.options (opening u source) spent w r (words_within u.options l) s.count s.each;
+      allowed = record { within = l; few = few };
+      report = record { spent = spent; report = r };
     }
 
 -- ---- the laws of the platform

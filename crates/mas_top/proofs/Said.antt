@@ -3,17 +3,18 @@ use Rattle.std.proofs.Common.{◌≡◌, inl, inr, List, ℕ, sym, subst}
 use Rattle.mas_words.specs.Asked as words
 use Rattle.mas_words.specs.Plain.{AskFor, AskForNothing, AskOnlyFor, AreRead}
 use Rattle.mas_io.specs.Told.{Told, IsUnwritten}
-use Rattle.mas_report.specs.Limits.{defaults}
 use Rattle.mas_reading.specs.declared.status.Status.{Status}
 use Rattle.mas_reading.specs.declared.status.Status.TheVariants.{Memory}
 use Rattle.mas_world.specs.Worlds.{Used}
 use Rattle.mas_top.specs.Caused.{Texts}
-use Rattle.mas_top.specs.Headline.{IsRunReportOf, IsHeadline, PrintsSchedule, IsComplete, ForRuns, ForDemos, AskedCaused, WordsCaused}
+use Rattle.mas_top.specs.Headline.{IsRunReportOf, IsHeadline, PrintsSchedule, IsComplete, ForRuns, ForClaims, ForDemos, AskedCaused, WordsCaused}
 use Rattle.mas_top.specs.Opening.{Setup, setup}
 use Rattle.mas_top.specs.Runs.{by_workers, by_file, wanted}
 use Rattle.mas_top.specs.Ways.{way_of}
+use Rattle.mas_top.specs.Checking.{claim, Judges, IsClaimComplete}
 use Rattle.mas_top.specs.Demo.{IsDemoComplete}
 use Rattle.mas_top.proofs.Demos.{demo_complete}
+use Rattle.mas_top.proofs.Claims.{judged_claim, complete_claim}
 use Rattle.mas_top.proofs.Drawn.{headline_file, schedule_file, complete_file}
 
 -- the cause for what the words ask for
@@ -26,6 +27,7 @@ said Is objects given before after status (inr w) a h = subst (λ x. AskedCaused
 pub left : {S : Type 0} (objects : List Used) (old new : S) → new ≡ old → (a : words.Asked) → ForDemos (λ u count way. new ≡ old) objects a
 left objects old new e (words.run project options workers) = tt
 left objects old new e (words.replay project schedule options) = tt
+left objects old new e (words.check project report) = tt
 left objects old new e (words.demo count workers) = e
 
 -- or where they ask for this alone
@@ -41,6 +43,7 @@ unread given asked only none = absurd (none asked only.it)
 short_by : (objects : List Used) (before after : Told) (a : words.Asked) → IsUnwritten before after → AskedCaused IsRunReportOf objects before after Memory a
 short_by objects before after (words.run project options workers) u = u
 short_by objects before after (words.replay project schedule options) u = u
+short_by objects before after (words.check project report) u = u
 short_by objects before after (words.demo count workers) u = u
 
 pub short_words : (objects : List Used) (given : List (List ℕ)) (before after : Told) → AreRead given → IsUnwritten before after →
@@ -53,6 +56,7 @@ headline_by : (objects : List Used) (before after : Told) (status : Status) (a :
 headline_by objects before after status (words.run project options workers) c = headline_file (setup options objects) (wanted project (by_workers workers)) before after status c
 headline_by objects before after status (words.replay project schedule options) c =
     headline_file (setup options objects) (wanted project (by_file schedule)) before after status c
+headline_by objects before after status (words.check project report) c = tt
 headline_by objects before after status (words.demo count workers) c = tt
 
 schedule_by : (objects : List Used) (before after : Told) (status : Status) (a : words.Asked) → AskedCaused IsRunReportOf objects before after status a →
@@ -60,6 +64,7 @@ schedule_by : (objects : List Used) (before after : Told) (status : Status) (a :
 schedule_by objects before after status (words.run project options workers) c = schedule_file (setup options objects) (wanted project (by_workers workers)) before after status c
 schedule_by objects before after status (words.replay project schedule options) c =
     schedule_file (setup options objects) (wanted project (by_file schedule)) before after status c
+schedule_by objects before after status (words.check project report) c = tt
 schedule_by objects before after status (words.demo count workers) c = tt
 
 complete_by : (objects : List Used) (before after : Told) (status : Status) (a : words.Asked) → AskedCaused IsRunReportOf objects before after status a →
@@ -68,12 +73,28 @@ complete_by objects before after status (words.run project options workers) c =
     let u = setup options objects in complete_file (IsRunReportOf u) u (wanted project (by_workers workers)) before after status c
 complete_by objects before after status (words.replay project schedule options) c =
     let u = setup options objects in complete_file (IsRunReportOf u) u (wanted project (by_file schedule)) before after status c
+complete_by objects before after status (words.check project report) c = tt
 complete_by objects before after status (words.demo count workers) c = tt
+
+check_by : (objects : List Used) (before after : Told) (status : Status) (a : words.Asked) → AskedCaused IsRunReportOf objects before after status a →
+    ForClaims (λ c. Judges objects c before after status) a
+check_by objects before after status (words.run project options workers) c = tt
+check_by objects before after status (words.replay project schedule options) c = tt
+check_by objects before after status (words.check project report) c = judged_claim objects (claim project report) before after status c
+check_by objects before after status (words.demo count workers) c = tt
+
+checked_by : (objects : List Used) (before after : Told) (status : Status) (a : words.Asked) → AskedCaused IsRunReportOf objects before after status a →
+    ForClaims (λ c. IsClaimComplete objects c before after status) a
+checked_by objects before after status (words.run project options workers) c = tt
+checked_by objects before after status (words.replay project schedule options) c = tt
+checked_by objects before after status (words.check project report) c = complete_claim objects (claim project report) before after status c
+checked_by objects before after status (words.demo count workers) c = tt
 
 demo_by : (objects : List Used) (before after : Told) (status : Status) (a : words.Asked) → words.IsPermitted a →
     AskedCaused IsRunReportOf objects before after status a → ForDemos (λ u count way. IsDemoComplete u before after status) objects a
 demo_by objects before after status (words.run project options workers) p c = tt
 demo_by objects before after status (words.replay project schedule options) p c = tt
+demo_by objects before after status (words.check project report) p c = tt
 demo_by objects before after status (words.demo count workers) p c = demo_complete objects count (way_of workers) before after status p.0.0 p.0.1 c
 
 demo_said : (objects : List Used) (given : List (List ℕ)) (before after : Told) (status : Status) → WordsCaused IsRunReportOf objects given before after status →
@@ -95,6 +116,16 @@ pub complete_words : (objects : List Used) (given : List (List ℕ)) (before aft
     (a : words.Asked) → AskFor given a → ForRuns (λ u asked. IsComplete u asked before after status) objects a
 complete_words objects given before after status c a h =
     complete_by objects before after status a (said IsRunReportOf objects given before after status c a h)
+
+pub check_words : (objects : List Used) (given : List (List ℕ)) (before after : Told) (status : Status) → WordsCaused IsRunReportOf objects given before after status →
+    (a : words.Asked) → AskFor given a → ForClaims (λ c. Judges objects c before after status) a
+check_words objects given before after status c a h =
+    check_by objects before after status a (said IsRunReportOf objects given before after status c a h)
+
+pub checked_words : (objects : List Used) (given : List (List ℕ)) (before after : Told) (status : Status) → WordsCaused IsRunReportOf objects given before after status →
+    (a : words.Asked) → AskFor given a → ForClaims (λ c. IsClaimComplete objects c before after status) a
+checked_words objects given before after status c a h =
+    checked_by objects before after status a (said IsRunReportOf objects given before after status c a h)
 
 pub demo_words : (objects : List Used) (given : List (List ℕ)) (before after : Told) (status : Status) → WordsCaused IsRunReportOf objects given before after status →
     (a : words.Asked) → AskFor given a → ForDemos (λ u count way. IsDemoComplete u before after status) objects a

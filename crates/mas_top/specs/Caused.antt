@@ -4,7 +4,7 @@ use Rattle.asl_term.specs.declared.syntax.Filed.{Filed}
 use Rattle.mas_io.specs.Told.{Told, IsUnwritten}
 use Rattle.mas_io.specs.Writing.{Wrote, WroteSome}
 use Rattle.mas_reading.specs.declared.status.Status.{Status}
-use Rattle.mas_reading.specs.declared.status.Status.TheVariants.{Ok, Usage, Missing, ReadFault, WriteFault, Refused, Limit, Budget, Memory}
+use Rattle.mas_reading.specs.declared.status.Status.TheVariants.{Ok, No, Usage, Missing, ReadFault, WriteFault, Refused, Limit, Budget, Memory}
 use Rattle.mas_top.specs.Opening.{Setup}
 use Rattle.mas_top.specs.Runs.{Wanted, Given, HasGiven, FileRefused}
 
@@ -31,6 +31,7 @@ pub record IsRefusedFile (u : Setup) (wanted : Wanted) (before after : Told) (st
 -- where such texts are to be written; want of memory alone is free
 abbrev pub FileCaused : Texts → Setup → Wanted → Told → Told → Status → Type 0
 FileCaused Is u wanted before after Ok = Wrote (ForFiles Is u before.held wanted false) before after
+FileCaused Is u wanted before after No = ⊥
 FileCaused Is u wanted before after Usage = ⊥
 FileCaused Is u wanted before after (Missing lacked) = IsRefusedFile u wanted before after (Missing lacked)
 FileCaused Is u wanted before after ReadFault = IsRefusedFile u wanted before after ReadFault

@@ -14,7 +14,7 @@ use Rattle.mas_reading.specs.Known.{known}
 use Rattle.mas_reading.specs.Sources.{HasSource, FirstRefused}
 use Rattle.mas_reading.specs.declared.sources.Source.{Source}
 use Rattle.mas_reading.specs.declared.status.Status.{Status}
-use Rattle.mas_reading.specs.declared.status.Status.TheVariants.{Ok, Usage, Missing, ReadFault, WriteFault, Refused, Limit, Budget, Memory}
+use Rattle.mas_reading.specs.declared.status.Status.TheVariants.{Ok, No, Usage, Missing, ReadFault, WriteFault, Refused, Limit, Budget, Memory}
 use Rattle.mas_top.specs.Opening.{Setup, opening}
 use Rattle.mas_top.specs.Ways.{Way, IsScheduled, Leads}
 
@@ -56,6 +56,7 @@ beside held shelf_faults written sink_faults = record { held = held; shelf_fault
 -- the cause of a status of `demo`, which refuses no words and reads from a shelf of which no call fails
 abbrev pub DemoCaused : Setup → ℕ → Way → Told → Told → Status → Type 0
 DemoCaused u k way before after Ok = Wrote (IsDemo u k way) before after
+DemoCaused u k way before after No = ⊥
 DemoCaused u k way before after Usage = ⊥
 DemoCaused u k way before after (Missing lacked) = IsRefusedDemo u k before after (Missing lacked)
 DemoCaused u k way before after ReadFault = ⊥

@@ -17,6 +17,7 @@ use Rattle.mas_words.specs.Asked as words
 use Rattle.mas_words.specs.Plain.{AskForNothing, AskOnlyFor}
 use Rattle.mas_world.specs.Worlds.{Used}
 use Rattle.mas_report.specs.Limits.{defaults}
+use Rattle.mas_top.specs.Checking.{Claim, claim, ClaimCaused}
 use Rattle.mas_top.specs.Demo.{DemoCaused}
 use Rattle.mas_top.specs.Opening.{Setup, setup, opening}
 use Rattle.mas_top.specs.Runs.{by_workers, by_file, Wanted, wanted, Given, HasGiven, NoneRefused}
@@ -82,12 +83,21 @@ IsComplete u wanted before after status =
 abbrev pub ForRuns : (Setup → Wanted → Type 0) → List Used → words.Asked → Type 0
 ForRuns Holds objects (words.run project options workers) = Holds (setup options objects) (wanted project (by_workers workers))
 ForRuns Holds objects (words.replay project schedule options) = Holds (setup options objects) (wanted project (by_file schedule))
+ForRuns Holds objects (words.check project report) = Unit {0}
 ForRuns Holds objects (words.demo count workers) = Unit {0}
+
+-- what holds of a claim that a report is that of a run
+abbrev pub ForClaims : (Claim → Type 0) → words.Asked → Type 0
+ForClaims Holds (words.run project options workers) = Unit {0}
+ForClaims Holds (words.replay project schedule options) = Unit {0}
+ForClaims Holds (words.check project report) = Holds (claim project report)
+ForClaims Holds (words.demo count workers) = Unit {0}
 
 -- what holds of a demo of so many agents
 abbrev pub ForDemos : (Setup → ℕ → Way → Type 0) → List Used → words.Asked → Type 0
 ForDemos Holds objects (words.run project options workers) = Unit {0}
 ForDemos Holds objects (words.replay project schedule options) = Unit {0}
+ForDemos Holds objects (words.check project report) = Unit {0}
 ForDemos Holds objects (words.demo count workers) = Holds (setup defaults objects) count (way_of workers)
 
 -- ---- the cause of each status
@@ -98,6 +108,7 @@ AskedCaused Is objects before after status (words.run project options workers) =
     let u = setup options objects in FileCaused (Is u) u (wanted project (by_workers workers)) before after status
 AskedCaused Is objects before after status (words.replay project schedule options) =
     let u = setup options objects in FileCaused (Is u) u (wanted project (by_file schedule)) before after status
+AskedCaused Is objects before after status (words.check project report) = ClaimCaused objects (claim project report) before after status
 AskedCaused Is objects before after status (words.demo count workers) = DemoCaused (setup defaults objects) count (way_of workers) before after status
 
 -- the words are not read

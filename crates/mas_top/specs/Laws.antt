@@ -14,6 +14,8 @@ use Rattle.mas_reading.specs.declared.sources.Source.{Source}
 use Rattle.mas_reading.specs.declared.status.Status.{Status}
 use Rattle.mas_reading.specs.declared.status.Status.TheVariants.{Memory}
 use Rattle.mas_reading.specs.Laws.{Surely}
+use Rattle.mas_report.specs.Limits.{IsWithin}
+use Rattle.mas_top.specs.Checking.{IsOwn}
 use Rattle.mas_top.specs.Opening.{Setup, opening}
 use Rattle.mas_top.specs.Runs.{most_bytes, Wanted, Given, given, IsFollowed, HasGiven, FileRefused}
 use Rattle.mas_top.specs.Headline.{IsReportOf, IsRunReportOf}
@@ -46,6 +48,14 @@ abbrev pub CanRepeat : Type 0
 CanRepeat =
     (u : Setup) (files : List Filed) (wanted : Wanted) (g : Given) (spent : Bool) (w : List ℕ) → HasGiven u (Some files) wanted g →
     IsReportOf u spent g w → IsRepeatable u g.source spent w
+
+-- ---- a report can be checked
+
+-- each report of what files describe, with options within their limits, is that of the options and the schedule in it
+abbrev pub CanCheck : Type 0
+CanCheck =
+    (u : Setup) (files : List Filed) (wanted : Wanted) (g : Given) (spent : Bool) (w : List ℕ) → IsWithin u.options → HasGiven u (Some files) wanted g →
+    IsReportOf u spent g w → IsOwn u.objects g.source w
 
 -- ---- what is true of the run that a report tells
 

@@ -4,6 +4,7 @@ pub mod Ways
 pub mod Runs
 pub mod Caused
 pub mod Demo
+pub mod Checking
 pub mod Headline
 pub mod Playing
 pub mod Laws

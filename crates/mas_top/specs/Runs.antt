@@ -39,7 +39,7 @@ pub record Given : Type 0 where
 abbrev pub given : Source → Way → Given
 given source way = record { source = source; way = way }
 
--- the most bytes of the file of a schedule
+-- the most bytes of the file of a schedule or of a report
 abbrev pub most_bytes : ℕ
 most_bytes = 268435456
 

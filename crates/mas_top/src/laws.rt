@@ -1,6 +1,6 @@
 //! Laws of what is asked for, as contracts of functions that do nothing.
 
-ghost use Rattle.mas_top.specs.Laws.{NotRefused, OneRefusal, CanRepeat, ReportsKeepLaws};
+ghost use Rattle.mas_top.specs.Laws.{NotRefused, OneRefusal, CanRepeat, CanCheck, ReportsKeepLaws};
 
 use asl_cycle::agent::Agent;
 use mas_laws::endings::runs_end;
@@ -23,6 +23,13 @@ pub fn one_refusal()
 /// every agent leaves. What the replay writes whole is that report again, and its status the same.
 pub fn can_repeat()
     ensures { CanRepeat }
+{
+    runs_end::<Agent>();
+}
+
+/// A check of a report that a run or a replay wrote is answered by yes.
+pub fn can_check()
+    ensures { CanCheck }
 {
     runs_end::<Agent>();
 }

@@ -1,6 +1,7 @@
 //! The top call: from the words and the files to the report of a run.
 #![tactic(auto)]
 
+pub mod checking;
 pub mod demo;
 pub mod laws;
 pub mod minds;

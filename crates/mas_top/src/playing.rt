@@ -31,8 +31,8 @@ use std::alloc::Global;
 use std::sync::Wait;
 use std::thread::Threads;
 
-/// The most bytes of the file of a schedule.
-const MOST_BYTES: u64 = 268_435_456;
+/// The most bytes of the file of a schedule or of a report.
+pub const MOST_BYTES: u64 = 268_435_456;
 
 /// How a project is run: by so many workers, or along the schedule of the file of this name.
 #[derive(Clone, Copy)]

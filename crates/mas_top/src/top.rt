@@ -4,14 +4,16 @@ ghost use Rattle.std.specs.Prelude.{◌≡◌, map, string_bytes};
 ghost use Rattle.mas_io.specs.Told.{told_of, IsKept};
 ghost use Rattle.mas_report.specs.Limits.{IsWithin};
 ghost use Rattle.mas_top.specs.Caused.{FileCaused};
+ghost use Rattle.mas_top.specs.Checking.{IsClaimComplete, Judges};
 ghost use Rattle.mas_top.specs.Demo.{IsDemoComplete};
-ghost use Rattle.mas_top.specs.Headline.{AskedCaused, ForDemos, ForRuns, IsComplete, IsHeadline, IsRunReportOf, PrintsSchedule, WordsCaused};
+ghost use Rattle.mas_top.specs.Headline.{AskedCaused, ForClaims, ForDemos, ForRuns, IsComplete, IsHeadline, IsRunReportOf, PrintsSchedule, WordsCaused};
 ghost use Rattle.mas_top.specs.Opening.{objects_of, setup};
 ghost use Rattle.mas_top.specs.Runs.{wanted, how_of, CanBe};
 ghost use Rattle.mas_words.specs.Asked as said;
 ghost use Rattle.mas_words.specs.Asked.{IsPermitted, asked_of};
 ghost use Rattle.mas_words.specs.Plain.{AskFor, AskForNothing};
 
+use crate::checking::print_verdict;
 use crate::demo::print_demo;
 use crate::playing::{How, run_files};
 use mas_going::gate::Gate;
@@ -98,6 +100,9 @@ fn run_asked<R: Threads + Wait + Sync, S: Shelf, K: Sink, A: Artifact + Send, G:
                 rt, alloc, &options, project, how, shelf, sink, gate, artifacts,
             )
         }
+        Asked::Check { project, report } => {
+            print_verdict(alloc, project, report, shelf, sink, artifacts)
+        }
         Asked::Demo { count, workers } => print_demo(
             rt,
             alloc,
@@ -140,11 +145,11 @@ fn run_read<R: Threads + Wait + Sync, S: Shelf, K: Sink, A: Artifact + Send, G: 
 }
 
 /// The top call: does what the words ask for, and calls the gate beside each cycle of an agent where more workers than one
-/// are started, which is no more than one for each agent. The words leave out the program's own name. For a run or a replay, of the files and the options that the words name,
-/// the clauses say what a report is that was written whole, by `Ok` or `Budget`, in which order the turns of its schedule are,
-/// when no fault may be answered, and the cause of each status; after a write fault a prefix of the report is written, or
-/// nothing. Of a demo they are `demo`, `untouched` and `caused`. Words that are not read, the status of which is `Usage`, leave
-/// shelf and sink as they were.
+/// are started, which is no more than one for each agent. The words leave out the program's own name. For a run or a replay, of
+/// the files and the options that the words name, the clauses say what a report is that was written whole, by `Ok` or `Budget`,
+/// in which order the turns of its schedule are, when no fault may be answered, and the cause of each status; after a write fault
+/// a prefix of the report is written, or nothing. Of a check they are `check`, `checked` and `caused`, and of a demo `demo`,
+/// `untouched` and `caused`. Words that are not read, the status of which is `Usage`, leave shelf and sink as they were.
 pub fn run_words<R: Threads + Wait + Sync, S: Shelf, K: Sink, G: Gate + Sync>(
     rt: &R,
     alloc: Global,
@@ -166,6 +171,14 @@ pub fn run_words<R: Threads + Wait + Sync, S: Shelf, K: Sink, G: Gate + Sync>(
         let objects = objects_of named table facts artifacts.items in
         (asked : said.Asked) → AskFor (map string_bytes words.now) asked →
         ForRuns (λ u files. IsComplete u files (told shelf.old sink.old) (told shelf.new sink.new) result) objects asked }
+    ensures check { let told = told_of S.holds S.faults K.written K.faults in
+        let objects = objects_of named table facts artifacts.items in
+        (asked : said.Asked) → AskFor (map string_bytes words.now) asked →
+        ForClaims (λ c. Judges objects c (told shelf.old sink.old) (told shelf.new sink.new) result) asked }
+    ensures checked { let told = told_of S.holds S.faults K.written K.faults in
+        let objects = objects_of named table facts artifacts.items in
+        (asked : said.Asked) → AskFor (map string_bytes words.now) asked →
+        ForClaims (λ c. IsClaimComplete objects c (told shelf.old sink.old) (told shelf.new sink.new) result) asked }
     ensures demo { let told = told_of S.holds S.faults K.written K.faults in
         let objects = objects_of named table facts artifacts.items in
         (asked : said.Asked) → AskFor (map string_bytes words.now) asked →

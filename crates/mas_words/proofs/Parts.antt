@@ -3,7 +3,7 @@ use Rattle.std.proofs.Common.{◌≡◌, ◌∙◌, ℕ, Bool, true, false, not,
 use Rattle.std.proofs.Common.{None, Some, option_and_then, is_some, eqb, ◌&&◌, nat_lt, length, refl, sym, ap, ap₂, arith}
 use Rattle.std.specs.Bool.{⊤}
 use Rattle.mas_words.specs.declared.table.Command.{Command}
-use Rattle.mas_words.specs.declared.table.Command.TheVariants.{Run, Replay, Demo}
+use Rattle.mas_words.specs.declared.table.Command.TheVariants.{Run, Replay, Check, Demo}
 use Rattle.mas_words.specs.declared.table.Setting.{Setting}
 use Rattle.mas_words.specs.declared.table.Setting.TheVariants.{Workers, Cycles, Lead, Depth, Tries, Level}
 use Rattle.mas_words.specs.Table.{key, form, takes, name_count, command_of}
@@ -42,6 +42,7 @@ key_joined c s Level x v e = ap (word_met c s true (key Level ++ 61 ∷ x ∷ v)
 pub command_found : (c : Command) → command_of (form c).word ≡ Some c
 command_found Run = refl
 command_found Replay = refl
+command_found Check = refl
 command_found Demo = refl
 
 dash : (b : ℕ) → not (eqb b 45) ≡ true → eqb b 45 ≡ false

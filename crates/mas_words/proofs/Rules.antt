@@ -6,7 +6,7 @@ use Rattle.clap.specs.Simple.{built, is_simple, new_rule}
 use Rattle.clap.specs.declared.builder.action.ArgAction.TheVariants.{Set}
 use Rattle.clap.specs.declared.builder.value_parser.ValueParser.TheVariants as parser
 use Rattle.mas_words.specs.declared.table.Command.{Command}
-use Rattle.mas_words.specs.declared.table.Command.TheVariants.{Run, Replay, Demo}
+use Rattle.mas_words.specs.declared.table.Command.TheVariants.{Run, Replay, Check, Demo}
 use Rattle.mas_words.specs.declared.table.Setting.{Setting}
 use Rattle.mas_words.specs.declared.table.Setting.TheVariants.{Workers, Cycles, Lead, Depth, Tries, Level}
 use Rattle.mas_words.specs.Table.{takes, name_count, same}
@@ -27,6 +27,7 @@ option_built o = one_text (id_of o) (Some (id_of o)) None
 
 abbrev pub name_id : Command → ℕ → Text
 name_id Replay (suc k) = codes "schedule"
+name_id Check (suc k) = codes "report"
 name_id Demo k = codes "count"
 name_id _ _ = codes "project"
 
@@ -39,6 +40,7 @@ rules_for c = (built (app_for c)).top.rules
 pub simple : (c : Command) → is_simple (app_for c) ≡ true
 simple Run = refl
 simple Replay = refl
+simple Check = refl
 simple Demo = refl
 
 pub by_long : (c : Command) (o : Setting) → takes c o ≡ true → arg_by_long (rules_for c) (id_of o) ≡ Some (option_built o)
@@ -54,6 +56,7 @@ by_long Replay Lead e = refl
 by_long Replay Depth e = refl
 by_long Replay Tries e = refl
 by_long Replay Level e = refl
+by_long Check o e = absurd (grind arith)
 by_long Demo Workers e = refl
 by_long Demo o e = absurd (grind arith)
 
@@ -70,6 +73,7 @@ option_by_id Replay Lead e = refl
 option_by_id Replay Depth e = refl
 option_by_id Replay Tries e = refl
 option_by_id Replay Level e = refl
+option_by_id Check o e = absurd (grind arith)
 option_by_id Demo Workers e = refl
 option_by_id Demo o e = absurd (grind arith)
 
@@ -79,6 +83,9 @@ by_index Run (suc k) h = absurd (omega arith)
 by_index Replay zero h = refl
 by_index Replay (suc zero) h = refl
 by_index Replay (suc (suc k)) h = absurd (omega arith)
+by_index Check zero h = refl
+by_index Check (suc zero) h = refl
+by_index Check (suc (suc k)) h = absurd (omega arith)
 by_index Demo zero h = refl
 by_index Demo (suc k) h = absurd (omega arith)
 
@@ -88,6 +95,9 @@ name_by_id Run (suc k) h = absurd (omega arith)
 name_by_id Replay zero h = refl
 name_by_id Replay (suc zero) h = refl
 name_by_id Replay (suc (suc k)) h = absurd (omega arith)
+name_by_id Check zero h = refl
+name_by_id Check (suc zero) h = refl
+name_by_id Check (suc (suc k)) h = absurd (omega arith)
 name_by_id Demo zero h = refl
 name_by_id Demo (suc k) h = absurd (omega arith)
 
@@ -109,6 +119,12 @@ option_name Replay Lead (suc k) = refl
 option_name Replay Depth (suc k) = refl
 option_name Replay Tries (suc k) = refl
 option_name Replay Level (suc k) = refl
+option_name Check Workers (suc k) = refl
+option_name Check Cycles (suc k) = refl
+option_name Check Lead (suc k) = refl
+option_name Check Depth (suc k) = refl
+option_name Check Tries (suc k) = refl
+option_name Check Level (suc k) = refl
 option_name _ Workers _ = refl
 option_name _ Cycles _ = refl
 option_name _ Lead _ = refl
@@ -123,6 +139,12 @@ name_option Replay Lead (suc k) = refl
 name_option Replay Depth (suc k) = refl
 name_option Replay Tries (suc k) = refl
 name_option Replay Level (suc k) = refl
+name_option Check Workers (suc k) = refl
+name_option Check Cycles (suc k) = refl
+name_option Check Lead (suc k) = refl
+name_option Check Depth (suc k) = refl
+name_option Check Tries (suc k) = refl
+name_option Check Level (suc k) = refl
 name_option _ Workers _ = refl
 name_option _ Cycles _ = refl
 name_option _ Lead _ = refl
@@ -142,6 +164,13 @@ other_name Replay (suc zero) zero e h f = refl
 other_name Replay (suc zero) (suc zero) e h f = absurd (grind arith)
 other_name Replay (suc zero) (suc (suc k)) e h f = absurd (omega arith)
 other_name Replay (suc (suc j)) k e h f = absurd (omega arith)
+other_name Check zero zero e h f = absurd (grind arith)
+other_name Check zero (suc zero) e h f = refl
+other_name Check zero (suc (suc k)) e h f = absurd (omega arith)
+other_name Check (suc zero) zero e h f = refl
+other_name Check (suc zero) (suc zero) e h f = absurd (grind arith)
+other_name Check (suc zero) (suc (suc k)) e h f = absurd (omega arith)
+other_name Check (suc (suc j)) k e h f = absurd (omega arith)
 other_name Demo zero zero e h f = absurd (grind arith)
 other_name Demo (suc j) k e h f = absurd (omega arith)
 other_name Demo zero (suc k) e h f = absurd (omega arith)
@@ -158,4 +187,6 @@ pub same_name : (c : Command) (k : ℕ) → bytes_eq (name_id c k) (name_id c k)
 same_name Run k = refl
 same_name Replay zero = refl
 same_name Replay (suc k) = refl
+same_name Check zero = refl
+same_name Check (suc k) = refl
 same_name Demo k = refl

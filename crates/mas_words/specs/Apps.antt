@@ -3,7 +3,7 @@ use Rattle.std.specs.Prelude.{ℕ, true, List, [], ◌∷◌, codes, drop, map, 
 use Rattle.clap.specs.Walk.{Rule}
 use Rattle.clap.specs.Simple.{App, new_app, new_rule, with_rule, on_top}
 use Rattle.mas_words.specs.declared.table.Command.{Command}
-use Rattle.mas_words.specs.declared.table.Command.TheVariants.{Run, Replay, Demo}
+use Rattle.mas_words.specs.declared.table.Command.TheVariants.{Run, Replay, Check, Demo}
 use Rattle.mas_words.specs.declared.table.Setting.{Setting}
 use Rattle.mas_words.specs.Table.{key, form}
 
@@ -21,6 +21,7 @@ option_rule o = long_rule (id_of o)
 abbrev pub name_ids : Command → List (List ℕ)
 name_ids Run = codes "project" ∷ []
 name_ids Replay = codes "project" ∷ codes "schedule" ∷ []
+name_ids Check = codes "project" ∷ codes "report" ∷ []
 name_ids Demo = codes "count" ∷ []
 
 abbrev pub bare : List ℕ → App

@@ -2,7 +2,7 @@
 use Rattle.std.specs.Prelude.{ℕ, List, codes, None}
 use Rattle.clap.specs.Walk.{Row, first_of}
 use Rattle.mas_words.specs.declared.table.Command.{Command}
-use Rattle.mas_words.specs.declared.table.Command.TheVariants.{Run, Replay, Demo}
+use Rattle.mas_words.specs.declared.table.Command.TheVariants.{Run, Replay, Check, Demo}
 use Rattle.mas_words.specs.declared.table.Setting.TheVariants.{Workers, Cycles, Lead, Depth, Tries, Level}
 use Rattle.mas_words.specs.Apps.{id_of}
 use Rattle.mas_words.specs.Words.{Given, Said, listed}
@@ -10,6 +10,7 @@ use Rattle.mas_words.specs.Words.{Given, Said, listed}
 abbrev pub names_among : Command → List Row → List (List ℕ)
 names_among Run rows = listed (first_of (codes "project") rows) None
 names_among Replay rows = listed (first_of (codes "project") rows) (first_of (codes "schedule") rows)
+names_among Check rows = listed (first_of (codes "project") rows) (first_of (codes "report") rows)
 names_among Demo rows = listed (first_of (codes "count") rows) None
 
 abbrev pub given_among : List Row → Given

@@ -65,6 +65,16 @@ fn replay_app<'a>(alloc: Global) -> Result<App<'a>, AllocError>
     }
 }
 
+fn check_app<'a>(alloc: Global) -> Result<App<'a>, AllocError>
+    ensures { IfOk result (λ a. app_of a ≡ spec.app_for Command.Check) }
+{
+    let app = with_name(alloc, bare(alloc, "check"), "project")?;
+    match with_name(alloc, app, "report") {
+        Ok(app) => Ok(app),
+        Err(error) => Err(error),
+    }
+}
+
 fn demo_app<'a>(alloc: Global) -> Result<App<'a>, AllocError>
     ensures { IfOk result (λ a. app_of a ≡ spec.app_for Command.Demo) }
 {
@@ -82,6 +92,7 @@ pub fn app_for<'a>(alloc: Global, command: Command) -> Result<App<'a>, AllocErro
     match command {
         Command::Run => run_app(alloc),
         Command::Replay => replay_app(alloc),
+        Command::Check => check_app(alloc),
         Command::Demo => demo_app(alloc),
     }
 }

@@ -17,6 +17,11 @@ pub enum Asked<'a> {
         schedule: &'a [u8],
         options: Options,
     },
+    /// Whether the report is that of a run of the project.
+    Check {
+        project: &'a [u8],
+        report: &'a [u8],
+    },
     /// A demonstration with so many agents, by so many workers.
     Demo {
         count: u64,

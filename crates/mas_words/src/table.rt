@@ -7,6 +7,7 @@ ghost use Rattle.mas_words.specs.Table as spec;
 pub enum Command {
     Run,
     Replay,
+    Check,
     Demo,
 }
 
@@ -30,6 +31,9 @@ pub fn command_of(word: &[u8]) -> Option<Command>
     }
     if word == b"replay".as_slice() {
         return Some(Command::Replay);
+    }
+    if word == b"check".as_slice() {
+        return Some(Command::Check);
     }
     if word == b"demo".as_slice() {
         return Some(Command::Demo);
@@ -69,6 +73,7 @@ pub fn takes(command: Command, setting: Setting) -> bool
     match command {
         Command::Run => true,
         Command::Replay => !matches!(setting, Setting::Workers),
+        Command::Check => false,
         Command::Demo => matches!(setting, Setting::Workers),
     }
 }
@@ -80,6 +85,7 @@ pub fn name_count(command: Command) -> u64
     match command {
         Command::Run => 1,
         Command::Replay => 2,
+        Command::Check => 2,
         Command::Demo => 1,
     }
 }

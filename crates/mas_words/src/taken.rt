@@ -74,6 +74,7 @@ fn said_by<'a>(command: Command, matches: &ArgMatches<'a>) -> Said<'a>
     let (first, second) = match command {
         Command::Run => (text_of(matches, "project"), None),
         Command::Replay => (text_of(matches, "project"), text_of(matches, "schedule")),
+        Command::Check => (text_of(matches, "project"), text_of(matches, "report")),
         Command::Demo => (text_of(matches, "count"), None),
     };
     Said {

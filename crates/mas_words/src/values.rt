@@ -116,6 +116,7 @@ pub fn asked_by<'a>(command: Command, said: &Said<'a>) -> Option<Asked<'a>>
         (Command::Replay, Some(project), Some(schedule)) => {
             to_replay(project, schedule, &said.given)
         }
+        (Command::Check, Some(project), Some(report)) => Some(Asked::Check { project, report }),
         (Command::Demo, Some(count), None) => to_demo(count, &said.given),
         _ => None,
     }

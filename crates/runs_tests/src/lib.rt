@@ -7,5 +7,3 @@ mod edge;
 mod laws;
 #[cfg(test)]
 mod objects;
-#[cfg(test)]
-mod pings;

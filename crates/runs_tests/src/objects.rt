@@ -1,6 +1,5 @@
 //! Artifacts of one's own, handed in to runs.
 
-use crate::pings::{Pings, ping};
 use asl_term::copying::text_of;
 use asl_term::printing_expr::print_literal;
 use asl_term::room::Roomy;
@@ -15,6 +14,7 @@ use mas_world::artifact::Artifact;
 use std::alloc::Global;
 use std::sync::Wait;
 use std::thread::Threads;
+use world_tests::pings::{Pings, ping};
 
 fn file(alloc: Global, name: &[u8], bytes: &[u8], files: &mut Files) -> Result<(), Starved> {
     let name = text_of(alloc, name)?;

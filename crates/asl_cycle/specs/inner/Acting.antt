@@ -5,7 +5,7 @@ use Rattle.std.specs.Str.{bytes_eq}
 use Rattle.std.proofs.Common.{sym, ap, ◌∙◌}
 use Rattle.asl_term.specs.declared.syntax.LiteralOf.{LiteralOf}
 use Rattle.asl_term.specs.declared.syntax.CallOf.{CallOf}
-use Rattle.asl_term.specs.declared.syntax.Plan.{Plan}
+use Rattle.asl_plans.specs.declared.entry.Entry.{Entry}
 use Rattle.asl_term.specs.declared.syntax.Term.{Term}
 use Rattle.asl_term.specs.declared.syntax.Expr.{Expr}
 use Rattle.asl_term.specs.declared.syntax.Expr.TheVariants as expr
@@ -85,7 +85,7 @@ falls k n e a (m ∷ below) = falls_by (is_raised k.plans n e m.trigger) (has_me
   falls_by false false h = refl
 
 -- nor is the one that waits for its action
-pub falls_acting : (plans : List Plan) (n : ℕ) (e : Error) (a : Agenda) (stack : List Means) → (fails plans n e a stack).agenda.acting ≡ a.acting
+pub falls_acting : (plans : List Entry) (n : ℕ) (e : Error) (a : Agenda) (stack : List Means) → (fails plans n e a stack).agenda.acting ≡ a.acting
 falls_acting plans n e a [] = refl
 falls_acting plans n e a (m ∷ below) = falls_by (is_raised plans n e m.trigger) (has_means below) (falls_acting plans n e a below) where
   falls_by : (raises more : Bool) → (fails plans n e a below).agenda.acting ≡ a.acting

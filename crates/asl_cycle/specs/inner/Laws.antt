@@ -22,7 +22,7 @@ use Rattle.asl_kqml.specs.declared.peers.Peers.{Peers}
 use Rattle.asl_cycle.specs.declared.rows.Line.{Line}
 use Rattle.asl_cycle.specs.declared.rows.Line.TheVariants as line
 use Rattle.asl_cycle.specs.declared.rows.Sofar.{Sofar}
-use Rattle.asl_cycle.specs.Steps.{by, written, percept_on, feed, feed_on, sel_ev_on, sel_int_on}
+use Rattle.asl_cycle.specs.Steps.{by, written, percept_on, feed, feed_on, sel_ev_on, sel_int_on, taught}
 use Rattle.asl_cycle.specs.Cycle as spec
 use Rattle.asl_cycle.specs.Trace.{shown}
 use Rattle.asl_cycle.specs.Agent.{Mindset, surroundings, agent_cycle, told, agent_kind}
@@ -128,8 +128,9 @@ module _ (k : Around) (peers : Peers) where
       let w = sel_ev_on p (v ∷ events) in
       clash q (rel k peers w.parts (written s w) v (is_loud s.lines (line.Rule row.SelEv1) [] refl))
 
+module _ (k : Around) (peers : Peers) where
   mail_stays : (p : Parts) (s : Sofar) (m : Option Message) → is_quiet (spec.from_msg k peers p s m).thought ≡ true → Stays p (spec.from_msg k peers p s m)
-  mail_stays p s None q = ev_stays p (written s (by row.Msg0 p [] true)) p.agenda.events refl q
+  mail_stays p s None q = ev_stays (taught k p.number None) peers p (written s (by row.Msg0 p [] true)) p.agenda.events refl q
   mail_stays p s (Some m) q = clash q (reads k peers p s m)
 
   fed_stays : (p : Parts) (s : Sofar) (m : Option Message) (f : Feedback) (a : Option Acting)
@@ -170,10 +171,11 @@ module _ (k : Around) (peers : Peers) where
   ev_quiet p s [] e r h = int_quiet p (written s (sel_ev_on p [])) p.agenda.running r h
   ev_quiet p s (v ∷ events) e r h = cc
 
+module _ (k : Around) (peers : Peers) where
   mail_quiet : (p : Parts) (s : Sofar) (m : Option Message) → m ≡ None → p.agenda.events ≡ [] → p.agenda.running ≡ []
       → spec.quiet_lines (((s.lines ++ line.Rule row.Msg0 ∷ []) ++ line.Rule row.SelEv2 ∷ []) ++ line.Rule row.SelInt2 ∷ []) ≡ true
       → is_quiet (spec.from_msg k peers p s m).thought ≡ true
-  mail_quiet p s None none e r h = ev_quiet p (written s (by row.Msg0 p [] true)) p.agenda.events e r h
+  mail_quiet p s None none e r h = ev_quiet (taught k p.number None) peers p (written s (by row.Msg0 p [] true)) p.agenda.events e r h
   mail_quiet p s (Some m) none e r h = cc
 
   percept_quiet : (asks : ℕ) (p : Parts) (m : Option Message) (beliefs : List (LiteralOf Term)) (events : List Trigger) → m ≡ None → events ≡ []
@@ -185,12 +187,14 @@ module _ (k : Around) (peers : Peers) where
       mail_quiet w.parts (written (written (spec.nothing_yet asks) w) (feed k w.parts None)) m none h r refl
   percept_quiet asks p m beliefs (v ∷ events) none e h r = cc
 
+-- whatever plans are known then
+module _ (k next : Around) (peers : Peers) where
   pub still_again : (p : Parts) (asks : ℕ) (kept : Option Feedback) (i j : Input) → is_quiet (spec.cycle k peers p asks kept i).thought ≡ true
       → j.percepts ≡ i.percepts → j.message ≡ None
-      → is_quiet (spec.cycle k peers (spec.cycle k peers p asks kept i).parts (spec.cycle k peers p asks kept i).asks None j).thought ≡ true
+      → is_quiet (spec.cycle next peers (spec.cycle k peers p asks kept i).parts (spec.cycle k peers p asks kept i).asks None j).thought ≡ true
   still_again p asks kept i j q same none_sent =
       let c = updated i.percepts p.beliefs in
-      let found = percept_stays asks p kept i.message c.beliefs c.events q in
+      let found = percept_stays k peers asks p kept i.message c.beliefs c.events q in
       let stays = found.1 in
       let r = (spec.cycle k peers p asks kept i).parts in
       let beliefs : r.beliefs ≡ p.beliefs = ap (λ x. x.beliefs) stays.parts ∙ updated_quiet i.percepts p.beliefs found.0 in
@@ -198,8 +202,9 @@ module _ (k : Around) (peers : Peers) where
       let none : d.events ≡ [] = ap (λ l. (updated l r.beliefs).events) same ∙ (ap (λ bs. (updated i.percepts bs).events) beliefs ∙ found.0) in
       let events : r.agenda.events ≡ [] = ap (λ x. x.agenda.events) stays.parts ∙ stays.events in
       let running : r.agenda.running ≡ [] = ap (λ x. x.agenda.running) stays.parts ∙ stays.running in
-      percept_quiet (spec.cycle k peers p asks kept i).asks r j.message d.beliefs d.events none_sent none (ap (λ es. es ++ []) events) running
+      percept_quiet next peers (spec.cycle k peers p asks kept i).asks r j.message d.beliefs d.events none_sent none (ap (λ es. es ++ []) events) running
 
 pub quiet_again : (m : Mindset) (i j : Input) → is_quiet (agent_cycle m i).thought ≡ true → j.percepts ≡ i.percepts → j.message ≡ None
     → is_quiet (agent_cycle (agent_cycle m i).mind j).thought ≡ true
-quiet_again m i j q same none = still_again (surroundings m) m.peers m.parts m.asks m.kept i j q same none
+quiet_again m i j q same none =
+    still_again (surroundings m) (surroundings (agent_cycle m i).mind) m.peers m.parts m.asks m.kept i j q same none

@@ -20,7 +20,7 @@ use Rattle.asl_kqml.specs.declared.peers.Peers.{Peers}
 use Rattle.asl_kqml.specs.declared.took.Took.{Took}
 use Rattle.asl_kqml.specs.declared.took.Took.TheVariants as took
 use Rattle.asl_kqml.specs.Receive.{receive}
-use Rattle.asl_cycle.specs.Steps.{by, written, took_row, took_line, sends_line, falls_lines}
+use Rattle.asl_cycle.specs.Steps.{by, written, took_row, took_line, sends_line, falls_lines, taught}
 use Rattle.asl_cycle.specs.Steps.{feed, sel_ev, rel_pl, appl_pl, sel_appl, add_im, sel_int, exec_step, clear_step}
 use Rattle.asl_cycle.specs.Cycle as spec
 
@@ -118,12 +118,13 @@ module _ (k : Around) (peers : Peers) where
       ev q w.sofar (second_is_loud s.lines (line.Rule r) (took_line peers m) (map (sends_line peers) (option_to_list reply) ++ falls_lines fs) refl)
   taken s m q (took.Spent b) = refl
 
+module _ (k : Around) (peers : Peers) where
   -- a cycle with a message is not quiet
   pub reads : (p : Parts) (s : Sofar) (m : Message) → Loud (spec.from_msg k peers p s (Some m))
-  reads p s m = let r = receive k peers p m in taken s m r.parts r.took
+  reads p s m = let r = receive k peers p m in taken (taught k p.number (Some m)) peers s m r.parts r.took
 
   pub mail : (p : Parts) (s : Sofar) (m : Option Message) → HasLoud s.lines → Loud (spec.from_msg k peers p s m)
-  mail p s None h = ev p (written s (by row.Msg0 p [] true)) (stays_loud s.lines (line.Rule row.Msg0 ∷ []) h)
+  mail p s None h = ev (taught k p.number None) peers p (written s (by row.Msg0 p [] true)) (stays_loud s.lines (line.Rule row.Msg0 ∷ []) h)
   mail p s (Some m) h = reads p s m
 
   pub feeds : (p : Parts) (s : Sofar) (kept : Option Feedback) (m : Option Message) → HasLoud s.lines → Loud (spec.from_feed k peers p s kept m)

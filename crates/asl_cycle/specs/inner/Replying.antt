@@ -40,13 +40,13 @@ module _ (me n : ℕ) (m : Message) (sender : IsAgent n m.from) where
   abbrev Fit : Received → Type 0
   Fit r = IsReplyFrom me n r.took
 
-  reply_by : (b : Bool) (t : Term) → IfSome (cond b None
-      (Some (record { from = me; to = m.from; verb = verb.Tell; content = sealed t; ask = 0; reply = m.ask }))) (IsFrom me n)
-  reply_by true t = tt
-  reply_by false t = record { from_me = refl; receiver = sender }
+  reply_by : (v : Verb) (b : Bool) (t : Term) → IfSome (cond b None
+      (Some (record { from = me; to = m.from; verb = v; content = sealed t; ask = 0; reply = m.ask }))) (IsFrom me n)
+  reply_by v true t = tt
+  reply_by v false t = record { from_me = refl; receiver = sender }
 
   replies : (r : Row) (p : Parts) (t : Term) → Fit (spec.replies r p (spec.reply me m t))
-  replies r p t = reply_by (eqb m.ask 0 && is_nothing t) t
+  replies r p t = reply_by verb.Tell (eqb m.ask 0 && is_nothing t) t
 
   tell : (name : List ℕ) (p : Parts) (o : Option (List (LiteralOf Term))) → Fit (spec.tell name p o)
   tell name p None = tt
@@ -86,6 +86,10 @@ module _ (me n : ℕ) (m : Message) (sender : IsAgent n m.from) where
     asks_all p None = tt
     asks_all p (Some g) = ask_all p g (spec.sought_all k p g)
 
+    asks_how : (p : Parts) (o : Option (LiteralOf Term)) → Fit (spec.asks_how k me m p o)
+    asks_how p None = tt
+    asks_how p (Some g) = let t = spec.how_answer k.plans p.number g in reply_by (spec.how_verb m) (eqb m.ask 0 && is_nothing t) t
+
     answered : (p : Parts) (stack : List Means) (o : Option (List Pair)) → Fit (spec.answered k p stack o)
     answered p stack None = tt
     answered p stack (Some s) = tt
@@ -107,6 +111,9 @@ module _ (me n : ℕ) (m : Message) (sender : IsAgent n m.from) where
     verbs name p content verb.Unachieve = unachieve p (literal_of content)
     verbs name p content verb.AskOne = asks_one p (literal_of content)
     verbs name p content verb.AskAll = asks_all p (literal_of content)
+    verbs name p content verb.TellHow = tt
+    verbs name p content verb.UntellHow = tt
+    verbs name p content verb.AskHow = asks_how p (literal_of content)
 
 pub reply_fits : (k : Around) (peers : Peers) (p : Parts) (m : Message) → IsAgent (length peers.names) m.from
     → IsReplyFrom peers.me (length peers.names) (spec.receive k peers p m).took

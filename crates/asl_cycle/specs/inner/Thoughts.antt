@@ -32,7 +32,7 @@ use Rattle.asl_cycle.specs.declared.config.Applied.{Applied}
 use Rattle.asl_cycle.specs.declared.config.Applied.TheVariants as applied
 use Rattle.asl_cycle.specs.declared.config.After.{After}
 use Rattle.asl_cycle.specs.declared.config.After.TheVariants as after
-use Rattle.asl_cycle.specs.Steps.{Stepped, by, written, took_row, took_line, sends_line, falls_lines, of_acted, exec_by}
+use Rattle.asl_cycle.specs.Steps.{Stepped, by, written, took_row, took_line, sends_line, falls_lines, of_acted, exec_by, taught}
 use Rattle.asl_cycle.specs.Steps.{feed, sel_ev, rel_pl, appl_pl, sel_appl, add_im, sel_int, exec_step, clear_step}
 use Rattle.asl_cycle.specs.Cycle as spec
 use Rattle.asl_cycle.specs.inner.Acting.{IsGround, exec_ground, clear_ground}
@@ -195,10 +195,17 @@ module _ (k : Around) (peers : Peers) where
       ev q w.sofar calm
   taken s m q (took.Spent b) h g = tt
 
-  mail : (p : Parts) (s : Sofar) (m : Option Message) → IfSome m (λ x. IsAgent all x.from) → Calm s → Fine k me all (spec.from_msg k peers p s m)
-  mail p s None sender h = ev p (written s (by row.Msg0 p [] true)) (calm_more me all s (by row.Msg0 p [] true) h)
-  mail p s (Some m) sender h = let r = receive k peers p m in taken s m r.parts r.took h (reply_fits k peers p m sender)
+module _ (k : Around) (peers : Peers) where
+  abbrev known : ℕ
+  known = length peers.names
 
-  pub feeds_fine : (p : Parts) (s : Sofar) (kept : Option Feedback) (m : Option Message) → IfSome m (λ x. IsAgent all x.from) → Calm s
-      → IsFine me all (spec.from_feed k peers p s kept m).thought
-  feeds_fine p s kept m sender h = let w = feed k p kept in mail w.parts (written s w) m sender (calm_more me all s w h)
+  mail : (p : Parts) (s : Sofar) (m : Option Message) → IfSome m (λ x. IsAgent known x.from) → IsCalm peers.me known s
+      → IsFine peers.me known (spec.from_msg k peers p s m).thought
+  mail p s None sender h =
+      ev (taught k p.number None) peers p (written s (by row.Msg0 p [] true)) (calm_more peers.me known s (by row.Msg0 p [] true) h)
+  mail p s (Some m) sender h =
+      let r = receive k peers p m in taken (taught k p.number (Some m)) peers s m r.parts r.took h (reply_fits k peers p m sender)
+
+  pub feeds_fine : (p : Parts) (s : Sofar) (kept : Option Feedback) (m : Option Message) → IfSome m (λ x. IsAgent known x.from) → IsCalm peers.me known s
+      → IsFine peers.me known (spec.from_feed k peers p s kept m).thought
+  feeds_fine p s kept m sender h = let w = feed k p kept in mail w.parts (written s w) m sender (calm_more peers.me known s w h)

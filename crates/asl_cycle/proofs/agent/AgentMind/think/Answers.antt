@@ -24,8 +24,9 @@ returns-clause-made c =
     sym (ap (λ (m : Mindset). agent_cycle m c.args.input) c.self.view_is)
     ∙ (cycled (the_view a) c.args.input a.around.actions c.take-kept.result
     (record { parts = parts q.beliefs.beliefs q.agenda q.number; asks = f.asks; lines = f.lines; thought = f.thought })
-    q.beliefs.rules c.take-kept.new.self c.asks-self-inside.result c.as_slice.result.now c.write_lines.new.out
-    c.self.invariant.1.1.1.1.0 c.take-kept.ensures.value c.in_ok-finished.ensures.made c.in_ok-finished.ensures.rules c.take-kept.ensures.after
+    c.cycle.new.k.lib.plans c.cycle.new.k.budgets q.beliefs.rules c.take-kept.new.self c.asks-self-inside.result c.as_slice.result.now c.write_lines.new.out
+    c.self.invariant.1.1.1.1.0 c.take-kept.ensures.value c.in_ok-finished.ensures.made c.in_ok-finished.ensures.plans c.in_ok-finished.ensures.budgets
+    c.in_ok-finished.ensures.rules c.take-kept.ensures.after
     c.asks-self-inside.ensures c.as_slice.ensures c.in_ok-write_lines.ensures.ok)
 
 pub invariant_of-self-2 : goal.invariant_of-self-2
@@ -44,4 +45,7 @@ invariant_of-self-2 c =
     let asks : a.asks ≤ 1 + a.cycles = c.self.invariant.1.0 in
     let made : a.cycles ≡ c.args.self.now.cycles = ap (λ (m : Mindset). m.cycles) c.self.view_is in
     let short : c.args.self.now.cycles < 1000000 = c.requires.short in
-    (omega arith, (grind (arith, asked, asks), (grind (arith, made, short), (omega arith, (c.self.invariant.1.1.1.1.0, awaited)))))
+    let tries : c.cycle.new.k.budgets.tries ≡ a.around.budgets.tries = ap (λ b. b.tries) c.in_ok-finished.ensures.budgets in
+    let named = c.in_ok-finished.ensures.actions ∙ c.self.invariant.1.1.1.1.0 in
+    let few : a.around.budgets.tries ≤ 10000000 = c.self.invariant.1.1.1.0 in
+    (omega arith, (grind (arith, asked, asks), (grind (arith, made, short), (grind (arith, tries, few), (named, awaited)))))

@@ -1,0 +1,23 @@
+//! A plan with those who it is from.
+
+use asl_term::sequence::Seq;
+use asl_term::syntax::{Plan, Text};
+
+/// Numbers of agents, each once. 0 stands for the source of the agent itself.
+pub type Owners = Seq<u32>;
+
+/// A plan, with those who it is from.
+#[derive(Drop)]
+pub struct Entry {
+    pub plan: Plan,
+    pub owners: Owners,
+}
+
+pub type Entries = Seq<Entry>;
+
+/// What an owner takes back: one plan, or all plans of a label.
+#[derive(Drop)]
+pub enum Which {
+    Same(Plan),
+    Label(Text),
+}

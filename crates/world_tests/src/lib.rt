@@ -1,0 +1,6 @@
+//! An artifact of one's own over the calls of a world, and tests of artifacts that go.
+#![tactic(auto)]
+
+#[cfg(test)]
+mod going;
+pub mod pings;
