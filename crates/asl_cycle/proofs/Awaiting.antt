@@ -1,7 +1,5 @@
 -- A stack waits for its action after a cycle exactly where the thought has one.
-use Rattle.std.proofs.Common.{◌≡◌, ℕ, zero, suc, ◌+◌, Bool, true, false, ◌||◌, List, [], ◌∷◌, length, Option, None, Some, is_some, Result, Ok, Err, OnOk, refl, sym, ap, subst, ◌∙◌}
-use Rattle.asl_term.specs.declared.syntax.CallOf.{CallOf}
-use Rattle.asl_term.specs.declared.syntax.Expr.{Expr}
+use Rattle.std.proofs.Common.{◌≡◌, ℕ, zero, suc, Bool, true, false, ◌||◌, List, [], ◌∷◌, length, Option, None, Some, is_some, Result, Ok, Err, OnOk, refl, sym, ap, subst, ◌∙◌}
 use Rattle.asl_term.specs.declared.syntax.Kind.{Kind}
 use Rattle.asl_term.specs.declared.syntax.Kind.TheVariants as kind
 use Rattle.asl_intend.specs.declared.entry.Means.{Means}
@@ -36,8 +34,9 @@ use Rattle.asl_cycle.specs.declared.config.After.{After}
 use Rattle.asl_cycle.specs.declared.config.After.TheVariants as after
 use Rattle.asl_cycle.specs.declared.config.Applied.{Applied}
 use Rattle.asl_cycle.specs.declared.config.Applied.TheVariants as applied
-use Rattle.asl_cycle.specs.declared.config.Chosen.{Chosen}
-use Rattle.asl_cycle.specs.declared.config.Chosen.TheVariants as chosen
+use Rattle.asl_choose.specs.declared.chosen.Chosen.{Chosen}
+use Rattle.asl_choose.specs.declared.chosen.Chosen.TheVariants as chosen
+use Rattle.asl_choose.specs.Choosing.{choose}
 use Rattle.asl_cycle.specs.declared.config.Intended.{Intended}
 use Rattle.asl_cycle.specs.declared.config.Related.{Related}
 use Rattle.asl_cycle.specs.Steps as step
@@ -148,7 +147,7 @@ module _ (k : Around) (peers : Peers) where
 
   appl_of : (p : Parts) (s : Sofar) (r : Related) → Ends p (spec.from_appl_pl k peers p s r)
   appl_of p s r none =
-      let w = step.appl_pl k p r in after_appl w.parts (written s w) w.next (appl_keeps p r.event (step.choose k p r.number r.choices) ∙ none)
+      let w = step.appl_pl k p r in after_appl w.parts (written s w) w.next (appl_keeps p r.event (choose k p r.number r.choices) ∙ none)
 
   pub rel_keeps : (p : Parts) (v : Event) (cs : List Choice) → (step.rel_pl_on k p v cs).parts.agenda.acting ≡ p.agenda.acting
   rel_keeps p v [] = dropped_keeps row.Rel2 row.Rel3 p v v.trigger.kind (step.irrelevant v.trigger.add v.trigger.kind) None

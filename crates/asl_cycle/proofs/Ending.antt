@@ -1,5 +1,5 @@
 -- What becomes of intentions by an internal action on goals, beliefs or other agents.
-use Rattle.std.proofs.Common.{◌≡◌, ℕ, ◌+◌, Bool, true, false, ◌||◌, cond, if◌then◌else◌, List, [], ◌∷◌, ◌++◌, map, slice_get, Option, None, Some, Result, Ok, Err, codes, refl, sym, ap, subst, ◌∙◌, arith}
+use Rattle.std.proofs.Common.{◌≡◌, ℕ, ◌+◌, Bool, true, false, ◌||◌, cond, if◌then◌else◌, List, [], ◌∷◌, ◌++◌, slice_get, Option, None, Some, Result, Ok, Err, codes, refl, sym, ap, ◌∙◌, arith}
 use Rattle.std.specs.Str.{bytes_eq}
 use Rattle.asl_term.specs.declared.syntax.LiteralOf.{LiteralOf}
 use Rattle.asl_term.specs.declared.syntax.Term.{Term}
@@ -25,7 +25,7 @@ use Rattle.asl_exec.specs.declared.rows.Fall.{Fall}
 use Rattle.asl_exec.specs.declared.rows.Row.TheVariants as row
 use Rattle.asl_exec.specs.declared.went.Went.{Went}
 use Rattle.asl_exec.specs.declared.went.Went.TheVariants as went
-use Rattle.asl_exec.specs.Clear.{answer, bound_by, done_below, emptied, popped}
+use Rattle.asl_exec.specs.Clear.{answer, bound_by, done_below}
 use Rattle.asl_exec.specs.Parts.{Around, Parts, Made, made, failed, told}
 use Rattle.mas_mind.specs.declared.mind.Message.{Message}
 use Rattle.asl_kqml.specs.declared.peers.Peers.{Peers}
@@ -43,7 +43,7 @@ use Rattle.asl_goals.specs.Inside as spec
 use Rattle.asl_goals.specs.Inside.{Did}
 use Rattle.asl_goals.specs.Sending.{term_at, letter, is_ask, spread}
 use Rattle.asl_cycle.specs.Turns.{ends_goals, goal_of, dropped_by_call, dropped_by_head}
-use Rattle.asl_cycle.specs.Intentions.{Intention, Heap, total, held, one_or_none, begin, Becomes, Failed, Over, GoesOn, Clears, Outcome, Cut, searched, Ended, End, Executed}
+use Rattle.asl_cycle.specs.Intentions.{Intention, Heap, total, held, one_or_none, begin, Becomes, Over, GoesOn, Outcome, Cut, searched, Ended, End, Executed}
 use Rattle.asl_cycle.proofs.Sums.{total_append, ready_held, told_held, becomes}
 use Rattle.asl_cycle.proofs.Failing.{fell}
 use Rattle.asl_cycle.proofs.Executing.{Onward}

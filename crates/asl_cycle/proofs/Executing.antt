@@ -1,5 +1,5 @@
 -- What becomes of the current stack by the row of its first formula.
-use Rattle.std.proofs.Common.{◌≡◌, ℕ, ◌+◌, Bool, true, false, cond, List, [], ◌∷◌, Option, None, Some, Ok, Err, codes, refl, sym, ap, subst, ◌∙◌, arith}
+use Rattle.std.proofs.Common.{◌≡◌, ℕ, ◌+◌, Bool, true, false, cond, List, [], ◌∷◌, Option, None, Some, Ok, Err, codes, refl, ap, arith}
 use Rattle.std.specs.Str.{bytes_eq}
 use Rattle.asl_term.specs.declared.syntax.LiteralOf.{LiteralOf}
 use Rattle.asl_term.specs.declared.syntax.CallOf.{CallOf}
@@ -17,30 +17,27 @@ use Rattle.asl_unify.specs.Applied.{within_formula}
 use Rattle.asl_unify.specs.Comparing.{Holding, Gives, Fails, Passes, holds}
 use Rattle.asl_unify.specs.Settling.{Settled, settle_formula}
 use Rattle.asl_beliefs.specs.declared.removed.Removed.{Removed}
-use Rattle.asl_beliefs.specs.Changes.{Changed, Removal, added, removed, replaced, removed_events}
+use Rattle.asl_beliefs.specs.Changes.{Changed, added, removed, replaced, removed_events}
 use Rattle.asl_beliefs.specs.Sources.{with_source}
 use Rattle.asl_resolve.specs.declared.answers.Answer.{Answer}
 use Rattle.asl_resolve.specs.declared.answers.Answer.TheVariants as answer
 use Rattle.asl_intend.specs.declared.entry.Means.{Means}
-use Rattle.asl_intend.specs.declared.agenda.Agenda.{Agenda}
 use Rattle.asl_intend.specs.declared.agenda.Error.{Error}
 use Rattle.asl_intend.specs.declared.agenda.Error.TheVariants as error
-use Rattle.asl_intend.specs.Agendas.{external_event}
-use Rattle.asl_intend.specs.Stacks.{bound, head, without_head, with_head}
+use Rattle.asl_intend.specs.Stacks.{head, without_head, with_head}
 use Rattle.asl_fail.specs.Fails.{posted}
 use Rattle.asl_exec.specs.declared.rows.Row.{Row}
 use Rattle.asl_exec.specs.declared.rows.Row.TheVariants as row
 use Rattle.asl_exec.specs.declared.went.Went.{Went}
 use Rattle.asl_exec.specs.declared.went.Went.TheVariants as went
 use Rattle.asl_exec.specs.Clear.{bound_by}
-use Rattle.asl_exec.specs.Said.{print_text}
 use Rattle.asl_exec.specs.Parts.{Around, Parts, Made, made, failed, goal_event, told}
 use Rattle.asl_exec.specs.Exec as spec
 use Rattle.asl_cycle.specs.declared.config.After.{After}
 use Rattle.asl_cycle.specs.declared.config.After.TheVariants as after
 use Rattle.asl_cycle.specs.Steps.{after_of}
 use Rattle.asl_cycle.specs.Turns.{dropped_by_call, dropped_by_settled, dropped_by_head}
-use Rattle.asl_cycle.specs.Intentions.{Intention, Heap, held, total_acting, one_or_none, begin, Becomes, Failed, Clears, Executed}
+use Rattle.asl_cycle.specs.Intentions.{Intention, Heap, held, total_acting, begin, Becomes, Clears, Executed}
 use Rattle.asl_cycle.proofs.Sums.{posted_held, told_held, becomes}
 use Rattle.asl_cycle.proofs.Failing.{fell_as}
 

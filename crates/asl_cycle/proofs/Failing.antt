@@ -1,15 +1,13 @@
 -- What becomes of a stack that fails, and of one whose top is done.
-use Rattle.std.proofs.Common.{◌≡◌, ℕ, zero, suc, ◌+◌, ◌≤◌, Bool, true, false, cond, if◌then◌else◌, List, [], ◌∷◌, ◌++◌, length, map, Option, None, Some, refl, sym, ap, ◌∙◌, arith}
-use Rattle.asl_term.specs.declared.syntax.LiteralOf.{LiteralOf}
+use Rattle.std.proofs.Common.{◌≡◌, ℕ, zero, suc, ◌+◌, ◌≤◌, Bool, true, false, cond, if◌then◌else◌, List, [], ◌∷◌, ◌++◌, length, map, Option, None, Some, refl, arith}
 use Rattle.asl_plans.specs.declared.entry.Entry.{Entry}
-use Rattle.asl_term.specs.declared.syntax.Term.{Term}
 use Rattle.asl_unify.specs.declared.subst.Pair.{Pair}
 use Rattle.asl_intend.specs.declared.entry.Means.{Means}
 use Rattle.asl_intend.specs.declared.agenda.Agenda.{Agenda}
 use Rattle.asl_intend.specs.declared.agenda.Error.{Error}
 use Rattle.asl_intend.specs.declared.agenda.Error.TheVariants as error
 use Rattle.asl_intend.specs.Means.{applied_means}
-use Rattle.asl_intend.specs.Stacks.{bound, head, has_head, without_first, without_head, is_bounded, is_bounded_trigger}
+use Rattle.asl_intend.specs.Stacks.{head, has_head, without_head, is_bounded, is_bounded_trigger}
 use Rattle.asl_fail.specs.Fails.{fails, is_raised, failure_event, raised, popped_one, dropped}
 use Rattle.asl_exec.specs.declared.rows.Row.TheVariants as row
 use Rattle.asl_exec.specs.declared.went.Went.TheVariants as went
@@ -19,7 +17,7 @@ use Rattle.asl_exec.specs.Clear.{clear, answer, bound_by}
 use Rattle.asl_cycle.specs.declared.rows.Sofar.{Sofar}
 use Rattle.asl_cycle.specs.Steps.{of_made, written}
 use Rattle.asl_cycle.specs.Cycle as spec
-use Rattle.asl_cycle.specs.Intentions.{Intention, Heap, held, one_or_none, Becomes, Failed, Over, GoesOn, Clears}
+use Rattle.asl_cycle.specs.Intentions.{Intention, held, one_or_none, Becomes, Failed, Over, GoesOn, Clears}
 use Rattle.asl_cycle.proofs.Sums.{posted_held, ready_held, becomes, becomes_as}
 
 -- ---- failing

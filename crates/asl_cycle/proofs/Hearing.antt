@@ -1,30 +1,24 @@
 -- What becomes of intentions by a message.
-use Rattle.std.proofs.Common.{◌≡◌, ℕ, ◌+◌, Bool, true, false, cond, eqb, List, [], ◌∷◌, ◌++◌, Option, None, Some, refl, sym, ap, subst, ◌∙◌, arith}
+use Rattle.std.proofs.Common.{◌≡◌, ℕ, ◌+◌, Bool, true, false, cond, eqb, List, [], ◌∷◌, ◌++◌, Option, None, Some, refl, ap, subst, ◌∙◌, arith}
 use Rattle.asl_term.specs.declared.syntax.Expr.TheVariants as expr
 use Rattle.asl_term.specs.declared.syntax.Kind.TheVariants as kind
 use Rattle.asl_term.specs.declared.syntax.LiteralOf.{LiteralOf}
 use Rattle.asl_term.specs.declared.syntax.Term.{Term}
 use Rattle.asl_term.specs.declared.syntax.Trigger.{Trigger}
-use Rattle.asl_term.specs.declared.syntax.Plan.{Plan}
 use Rattle.asl_unify.specs.declared.subst.Pair.{Pair}
 use Rattle.asl_unify.specs.Compare.{ask}
 use Rattle.asl_unify.specs.Matches.{agreed}
 use Rattle.asl_unify.specs.Renamed.{renamed}
 use Rattle.asl_unify.specs.Unified.{unified}
-use Rattle.asl_beliefs.specs.Changes.{Changed, all_added}
 use Rattle.asl_resolve.specs.declared.answers.Answer.{Answer}
 use Rattle.asl_resolve.specs.declared.answers.Answer.TheVariants as answer
 use Rattle.asl_resolve.specs.declared.answers.Answers.{Answers}
 use Rattle.asl_resolve.specs.declared.answers.Answers.TheVariants as answers
-use Rattle.asl_intend.specs.declared.entry.Means.{Means}
-use Rattle.asl_intend.specs.declared.agenda.Agenda.{Agenda}
 use Rattle.asl_intend.specs.declared.agenda.Ask.{Ask}
 use Rattle.asl_intend.specs.declared.agenda.Error.TheVariants as error
 use Rattle.asl_intend.specs.Agendas.{ask_of, external_event, without_ask}
 use Rattle.asl_intend.specs.Stacks.{bound, without_head}
 use Rattle.asl_fail.specs.Fails.{posted}
-use Rattle.asl_exec.specs.declared.rows.Row.{Row}
-use Rattle.asl_exec.specs.declared.rows.Row.TheVariants as row
 use Rattle.asl_exec.specs.Exec.{sought}
 use Rattle.asl_exec.specs.Parts.{Around, Parts, with_agenda, with_number, told}
 use Rattle.mas_mind.specs.declared.mind.Message.{Message}
@@ -35,7 +29,7 @@ use Rattle.asl_kqml.specs.Contents.{agent_name, literal_of, literals_of, ground_
 use Rattle.asl_kqml.specs.Receive as spec
 use Rattle.asl_kqml.specs.Receive.{Received}
 use Rattle.asl_cycle.specs.Turns.{dropped_by_message, dropped_by_verb}
-use Rattle.asl_cycle.specs.Intentions.{Intention, Heap, total, held, one_or_none, begin, Becomes, Answered, Reads}
+use Rattle.asl_cycle.specs.Intentions.{Intention, held, Becomes, Answered, Reads}
 use Rattle.asl_cycle.proofs.Sums.{posted_held, ready_held, told_held, becomes, begins}
 use Rattle.asl_cycle.proofs.Failing.{fell_as}
 use Rattle.asl_cycle.proofs.Ending.{desires_end}

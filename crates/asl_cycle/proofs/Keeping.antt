@@ -1,10 +1,9 @@
 -- Each cycle keeps the intentions.
-use Rattle.std.proofs.Common.{◌≡◌, ℕ, ◌+◌, true, List, [], ◌∷◌, ◌++◌, Option, None, Some, refl, sym, ap, subst, ◌∙◌, arith}
+use Rattle.std.proofs.Common.{◌≡◌, true, List, [], ◌∷◌, ◌++◌, Option, None, Some, refl, sym, subst, ◌∙◌, arith}
 use Rattle.asl_term.specs.declared.syntax.LiteralOf.{LiteralOf}
 use Rattle.asl_term.specs.declared.syntax.Term.{Term}
 use Rattle.asl_term.specs.declared.syntax.Kind.{Kind}
 use Rattle.asl_term.specs.declared.syntax.Kind.TheVariants as kind
-use Rattle.asl_term.specs.declared.syntax.Plan.{Plan}
 use Rattle.asl_beliefs.specs.Changes.{updated}
 use Rattle.asl_intend.specs.declared.entry.Means.{Means}
 use Rattle.asl_intend.specs.declared.agenda.Acting.{Acting}
@@ -16,11 +15,10 @@ use Rattle.asl_intend.specs.Means.{applied_means}
 use Rattle.asl_intend.specs.Stacks.{head, without_head}
 use Rattle.asl_plans.specs.declared.library.Choice.{Choice}
 use Rattle.asl_plans.specs.Plans.{relevant}
-use Rattle.asl_exec.specs.declared.rows.Row.{Row}
 use Rattle.asl_exec.specs.declared.rows.Row.TheVariants as row
 use Rattle.asl_exec.specs.declared.went.Went.{Went}
 use Rattle.asl_exec.specs.declared.went.Went.TheVariants as went
-use Rattle.asl_exec.specs.Parts.{Around, Parts, Made, with_agenda, told}
+use Rattle.asl_exec.specs.Parts.{Around, Parts, Made}
 use Rattle.asl_exec.specs.Exec.{exec}
 use Rattle.mas_mind.specs.declared.mind.Feedback.{Feedback}
 use Rattle.mas_mind.specs.declared.mind.Feedback.TheVariants as feedback
@@ -39,16 +37,16 @@ use Rattle.asl_cycle.specs.declared.config.After.{After}
 use Rattle.asl_cycle.specs.declared.config.After.TheVariants as after
 use Rattle.asl_cycle.specs.declared.config.Applied.{Applied}
 use Rattle.asl_cycle.specs.declared.config.Applied.TheVariants as applied
-use Rattle.asl_cycle.specs.declared.config.Chosen.{Chosen}
-use Rattle.asl_cycle.specs.declared.config.Chosen.TheVariants as chosen
+use Rattle.asl_choose.specs.declared.chosen.Chosen.{Chosen}
+use Rattle.asl_choose.specs.declared.chosen.Chosen.TheVariants as chosen
+use Rattle.asl_choose.specs.Choosing.{choose}
 use Rattle.asl_cycle.specs.declared.config.Intended.{Intended}
 use Rattle.asl_cycle.specs.declared.config.Related.{Related}
 use Rattle.asl_cycle.specs.Steps as step
 use Rattle.asl_cycle.specs.Steps.{after_of, written}
 use Rattle.asl_cycle.specs.Cycle as spec
-use Rattle.asl_cycle.specs.Acts.{is_fed}
 use Rattle.asl_cycle.specs.Turns.{dropped_by_head, dropped_by_message}
-use Rattle.asl_cycle.specs.Intentions.{Intention, Heap, held, total, total_acting, one_or_none, begin, Becomes, End, Executed, Fed, Feeds, Reads, Treated, Treats, Selects, KeepsIntentions, CyclesKeepIntentions}
+use Rattle.asl_cycle.specs.Intentions.{Intention, Heap, held, Becomes, End, Executed, Fed, Feeds, Reads, Treated, Treats, Selects, CyclesKeepIntentions}
 use Rattle.asl_cycle.proofs.Sums.{ready_held, told_held, becomes, begins, becomes_as}
 use Rattle.asl_cycle.proofs.Failing.{fell_as, cleared}
 use Rattle.asl_cycle.proofs.Executing.{Leads, Rows, executes}
@@ -209,7 +207,7 @@ module _ (k : Around) (peers : Peers) where
   appl : (p : Parts) (s : Sofar) (r : Related) → p.agenda.acting ≡ None → Ended (spec.from_appl_pl k peers p s r)
       → Handled r.event p (spec.from_appl_pl k peers p s r)
   appl p s r none e =
-      let c = step.choose k p r.number r.choices in
+      let c = choose k p r.number r.choices in
       let w = step.appl_pl k p r in
       after_appl r.event p w.parts (written s w) w.next (appl_keeps k peers p r.event c ∙ none) (appl_to p r.event c) e
 

@@ -32,8 +32,9 @@ use Rattle.mas_mind.specs.declared.mind.Message.{Message}
 use Rattle.mas_mind.specs.declared.mind.Outs.{Outs}
 use Rattle.mas_mind.specs.declared.mind.Thought.TheVariants as thought
 use Rattle.asl_cycle.specs.declared.rows.Sofar.{Sofar}
-use Rattle.asl_cycle.specs.declared.config.Chosen.{Chosen}
-use Rattle.asl_cycle.specs.declared.config.Chosen.TheVariants as chosen
+use Rattle.asl_choose.specs.declared.chosen.Chosen.{Chosen}
+use Rattle.asl_choose.specs.declared.chosen.Chosen.TheVariants as chosen
+use Rattle.asl_choose.specs.Choosing.{choose}
 use Rattle.asl_cycle.specs.declared.config.Related.{Related}
 use Rattle.asl_cycle.specs.declared.config.Intended.{Intended}
 use Rattle.asl_cycle.specs.declared.config.Applied.{Applied}
@@ -195,7 +196,7 @@ module _ (k : Around) (peers : Peers) (named : Option (LiteralOf Term)) where
   appl_of : (p : Parts) (s : Sofar) (r : Related) → Ordered p (spec.from_appl_pl k peers p s r)
   appl_of p s r =
       let w = step.appl_pl k p r in
-      keeps p w.parts (spec.from_appl_pl k peers p s r) (appl_keeps p r.event (step.choose k p r.number r.choices)) (after_appl w.parts (written s w) w.next)
+      keeps p w.parts (spec.from_appl_pl k peers p s r) (appl_keeps p r.event (choose k p r.number r.choices)) (after_appl w.parts (written s w) w.next)
 
   rel_keeps : (p : Parts) (v : Event) (cs : List Choice) → (step.rel_pl_on k p v cs).parts.agenda.running ≡ p.agenda.running
   rel_keeps p v [] = dropped_keeps row.Rel2 row.Rel3 p v v.trigger.kind (step.irrelevant v.trigger.add v.trigger.kind) None

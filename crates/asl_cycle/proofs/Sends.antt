@@ -20,6 +20,7 @@ use Rattle.asl_term.specs.contracts.syntax.Clause as clause
 use Rattle.asl_term.specs.contracts.syntax.Formula as formula
 use Rattle.asl_term.specs.contracts.syntax.Plan as plan
 use Rattle.asl_term.specs.contracts.syntax.Trigger as trigger
+use Rattle.asl_unify.proofs.slots.Slots.TheSendSync as slots
 use Rattle.asl_unify.specs.contracts.subst.Pair as pair
 use Rattle.asl_unify.specs.contracts.subst.Subst as bound
 use Rattle.asl_unify.specs.contracts.subst.Subst.TheInside as bound_inside
@@ -107,7 +108,7 @@ pair_send : IsSend pair.the_row
 pair_send = search (sendable, as_row_send, var.the_field_send, var.the_send, term_field_send) depth 16
 
 subst_send : IsSend bound.the_row
-subst_send = view_send bound_inside.the_row _ _ _ _ (declared_send bound_inside.the_type (seq_send _ pair_send, tt))
+subst_send = view_send bound_inside.the_row _ _ _ _ (declared_send bound_inside.the_type (seq_send _ pair_send, (search (sendable, as_row_send, crosses, slots.the_field_send, slots.the_send) depth 14, tt)))
 
 first_send : IsSend first.the_row
 first_send = search (sendable, as_row_send, formula_field_send) depth 16

@@ -1,5 +1,5 @@
 -- What is counted of agendas.
-use Rattle.std.proofs.Common.{◌≡◌, ℕ, ◌+◌, List, [], ◌∷◌, ◌++◌, map, Option, None, Some, refl, sym, ap, ◌∙◌, arith}
+use Rattle.std.proofs.Common.{◌≡◌, ℕ, ◌+◌, List, [], ◌∷◌, ◌++◌, map, Option, None, refl, ap, arith}
 use Rattle.asl_term.specs.declared.syntax.Trigger.{Trigger}
 use Rattle.asl_intend.specs.declared.entry.Means.{Means}
 use Rattle.asl_intend.specs.declared.agenda.Agenda.{Agenda}
@@ -7,7 +7,7 @@ use Rattle.asl_intend.specs.declared.agenda.Event.{Event}
 use Rattle.asl_intend.specs.Agendas.{external, external_event}
 use Rattle.asl_fail.specs.Fails.{posted}
 use Rattle.asl_exec.specs.Parts.{told}
-use Rattle.asl_cycle.specs.Intentions.{Intention, Heap, total, total_acting, held, one_or_none, begin, Becomes, IsNone}
+use Rattle.asl_cycle.specs.Intentions.{Intention, Heap, total, held, one_or_none, begin, Becomes, IsNone}
 
 pub total_append : {A : Type 0} (f : A → ℕ) (xs ys : List A) → total f (xs ++ ys) ≡ total f xs + total f ys
 total_append f [] ys = omega arith

@@ -1,5 +1,5 @@
 -- The stack that waits for its action.
-use Rattle.std.specs.Prelude.{ℕ, ◌≡◌, Bool, true, false, Option, None, Some, is_some}
+use Rattle.std.specs.Prelude.{ℕ, ◌≡◌, Bool, true, Option, None, Some, is_some}
 use Rattle.asl_intend.specs.declared.agenda.Acting.{Acting}
 use Rattle.asl_exec.specs.Parts.{Around, Parts}
 use Rattle.mas_mind.specs.declared.mind.Feedback.{Feedback}

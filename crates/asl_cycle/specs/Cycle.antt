@@ -22,7 +22,8 @@ use Rattle.asl_cycle.specs.declared.config.Applied.{Applied}
 use Rattle.asl_cycle.specs.declared.config.Applied.TheVariants as applied
 use Rattle.asl_cycle.specs.declared.config.After.{After}
 use Rattle.asl_cycle.specs.declared.config.After.TheVariants as after
-use Rattle.asl_cycle.specs.Steps.{Stepped, Onward, written, percept, feed, msg, taught, sel_ev, rel_pl, appl_pl, sel_appl, add_im, sel_int, exec_step, clear_step}
+use Rattle.asl_cycle.specs.Steps.{Stepped, Onward, written, percept, feed, msg, taught, sel_ev, rel_pl, appl_pl, sel_appl, add_im, sel_int}
+use Rattle.asl_cycle.specs.Steps.{exec_step, clear_step}
 
 -- what a cycle leaves, the number of the next ask among it, writes and thinks
 pub record Ran : Type 0 where

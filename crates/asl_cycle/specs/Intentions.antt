@@ -210,4 +210,5 @@ abbrev pub CyclesKeepIntentions : Type 0
 CyclesKeepIntentions =
     (k : Around) (peers : Peers) (p : Parts) (asks : ℕ) (kept : Option Feedback) (i : Input) (o : Outs)
     → is_fed p.agenda.acting kept ≡ true → (cycle k peers p asks kept i).thought ≡ thought.Outs o
-    → KeepsIntentions k.plans (plans_after k.plans p.number i.message) (dropped_by_message p.number i.message) p.agenda (cycle k peers p asks kept i).parts.agenda
+    → KeepsIntentions k.plans (plans_after k.plans p.number i.message) (dropped_by_message p.number i.message)
+    p.agenda (cycle k peers p asks kept i).parts.agenda

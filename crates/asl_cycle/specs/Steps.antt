@@ -6,18 +6,9 @@ use Rattle.asl_term.specs.declared.syntax.Term.{Term}
 use Rattle.asl_term.specs.declared.syntax.Kind.{Kind}
 use Rattle.asl_term.specs.declared.syntax.Kind.TheVariants as kind
 use Rattle.asl_term.specs.declared.syntax.Trigger.{Trigger}
-use Rattle.asl_term.specs.declared.syntax.Plan.{Plan}
-use Rattle.asl_unify.specs.declared.subst.Pair.{Pair}
-use Rattle.asl_unify.specs.Renamed.{renamed_literal, renamed_formula, renamed_expr}
 use Rattle.asl_beliefs.specs.Changes.{Changed, updated}
-use Rattle.asl_beliefs.specs.Bases.{facts_of}
-use Rattle.asl_resolve.specs.declared.answers.Answer.{Answer}
-use Rattle.asl_resolve.specs.declared.answers.Answer.TheVariants as answer
-use Rattle.asl_resolve.specs.Base.{base}
-use Rattle.asl_resolve.specs.Marks.{marks, decide}
 use Rattle.asl_plans.specs.declared.library.Choice.{Choice}
 use Rattle.asl_plans.specs.declared.entry.Entry.{Entry}
-use Rattle.asl_plans.specs.Libraries.{plan_at}
 use Rattle.asl_plans.specs.Plans.{relevant}
 use Rattle.asl_intend.specs.declared.entry.Means.{Means}
 use Rattle.asl_intend.specs.declared.agenda.Error.{Error}
@@ -48,13 +39,14 @@ use Rattle.asl_kqml.specs.Receive.{Received, receive, learned}
 use Rattle.asl_goals.specs.declared.acted.Acted.{Acted}
 use Rattle.asl_goals.specs.declared.acted.Acted.TheVariants as acted
 use Rattle.asl_goals.specs.Inside.{Did, act_inside}
+use Rattle.asl_choose.specs.declared.chosen.Chosen.{Chosen}
+use Rattle.asl_choose.specs.declared.chosen.Chosen.TheVariants as chosen
+use Rattle.asl_choose.specs.Choosing.{choose}
 use Rattle.asl_cycle.specs.declared.rows.Mail.{Mail}
 use Rattle.asl_cycle.specs.declared.rows.Line.{Line}
 use Rattle.asl_cycle.specs.declared.rows.Line.TheVariants as line
 use Rattle.asl_cycle.specs.declared.rows.Sofar.{Sofar}
 use Rattle.asl_cycle.specs.declared.config.Related.{Related}
-use Rattle.asl_cycle.specs.declared.config.Chosen.{Chosen}
-use Rattle.asl_cycle.specs.declared.config.Chosen.TheVariants as chosen
 use Rattle.asl_cycle.specs.declared.config.Intended.{Intended}
 use Rattle.asl_cycle.specs.declared.config.Applied.{Applied}
 use Rattle.asl_cycle.specs.declared.config.Applied.TheVariants as applied
@@ -237,31 +229,6 @@ abbrev pub rel_pl : Around → Parts → Event → Stepped (Option Related)
 rel_pl k p v = rel_pl_on k p v (relevant k.plans p.number v.trigger)
 
 -- ---- ApplPl: the first plan whose context is found
-
-abbrev pub renamed_trigger : ℕ → Trigger → Trigger
-renamed_trigger n t = record { add = t.add; kind = t.kind; lit = renamed_literal n t.lit }
-
--- a plan's means, renamed
-abbrev pub renamed_means : ℕ → Plan → Means
-renamed_means n plan = record { trigger = renamed_trigger n plan.trigger; body = map (renamed_formula n) plan.body }
-
--- what the search for a plan's context answers, renamed, under the plan's match and from the counter
-abbrev pub sought : Around → Parts → ℕ → Plan → List Pair → Answer
-sought k p n plan s = decide k.budgets.tries (marks (base (facts_of p.beliefs k.rules) k.solve) k.budgets.depth (renamed_expr n plan.context) s p.number)
-
--- a context that is Found chooses its plan, one that is Spent ends the cycle, and all others lead to the next plan
-abbrev pub choose_by : ℕ → Plan → Answer → Chosen → Chosen
-choose_by n plan (answer.Found s m) rest = chosen.Plan (renamed_means n plan) s m
-choose_by n plan (answer.Spent b) rest = chosen.Spent b
-choose_by n plan other rest = rest
-
-abbrev pub choose_at : Around → Parts → ℕ → Option Plan → List Pair → Chosen → Chosen
-choose_at k p n None s rest = rest
-choose_at k p n (Some plan) s rest = choose_by n plan (sought k p n plan s) rest
-
-abbrev pub choose : Around → Parts → ℕ → List Choice → Chosen
-choose k p n [] = chosen.Nothing
-choose k p n (c ∷ choices) = choose_at k p n (plan_at k.plans c.plan) c.subst (choose k p n choices)
 
 abbrev pub appl_pl_on : Around → Parts → Event → Chosen → Stepped Applied
 appl_pl_on k p v (chosen.Plan m s n) = by row.Appl1 p [] (applied.Plan record { event = v; means = m; subst = s; next = n })

@@ -3,7 +3,6 @@
 use asl_intend::agenda::Event;
 use asl_intend::entry::Means;
 use asl_plans::library::Choices;
-use asl_resolve::answers::Spent;
 use asl_term::syntax::Literal;
 use asl_unify::subst::Subst;
 
@@ -13,15 +12,6 @@ pub struct Related {
     pub event: Event,
     pub choices: Choices,
     pub number: u64,
-}
-
-/// What the contexts of the relevant plans give.
-#[derive(Drop)]
-pub enum Chosen {
-    /// The renamed means of the first plan whose context is found, with the solution and its next fresh number.
-    Plan(Means, Subst, u64),
-    Nothing,
-    Spent(Spent),
 }
 
 /// An event with the means that were chosen for it, their solution and its next fresh number.

@@ -2,7 +2,6 @@
 #![tactic(auto)]
 
 pub mod agent;
-pub mod choosing;
 pub mod config;
 pub mod cycle;
 pub mod laws;

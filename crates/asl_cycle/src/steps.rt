@@ -10,12 +10,13 @@ ghost use Rattle.asl_cycle.specs.Steps as spec;
 ghost use Rattle.asl_cycle.specs.Steps.{Wrought};
 ghost use Rattle.asl_cycle.specs.inner.Choosing.{AppliedAtMost};
 
-use crate::choosing::choose;
-use crate::config::{After, Applied, Chosen, Intended, Related};
+use crate::config::{After, Applied, Intended, Related};
 use crate::lines::{put_fall, put_falling, put_took, rule, send, send_all};
 use crate::rows::{Line, Sofar};
 use asl_beliefs::base::BeliefBase;
 use asl_beliefs::removed::BeliefFault;
+use asl_choose::choosing::choose;
+use asl_choose::chosen::Chosen;
 use asl_exec::clear::clear;
 use asl_exec::exec::exec;
 use asl_exec::parts::{Around, Parts, fails_as, tell};

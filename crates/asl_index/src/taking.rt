@@ -93,7 +93,9 @@ pub fn remove_from(
     match first_hit(alloc, store, p, s)? {
         None => Ok(None),
         Some(hit) => {
-            let taken = build_all(alloc, p.annots.as_slice(), hit.subst.pairs(), &[])?;
+            // That its pairs are sound is known once they are read.
+            hit.subst.pairs();
+            let taken = build_all(alloc, p.annots.as_slice(), &hit.subst, &[])?;
             let event = lose_at(alloc, store, hit.slot, taken.as_slice())?;
             Ok(Some(Removed {
                 event,

@@ -13,7 +13,7 @@ use asl_term::syntax::{Formula, Formulas, Literal, Term, Trigger};
 use asl_unify::apply::apply_formula;
 use asl_unify::build::build_literal;
 use asl_unify::limits::{TermFault, apply_literal, fits_literal};
-use asl_unify::subst::Subst;
+use asl_unify::subst::{Subst, no_subst};
 use std::alloc::Global;
 use std::mem;
 
@@ -108,15 +108,14 @@ impl Entry {
     {
         match self.body.at(0) {
             None => Ok(None),
-            Some(f) => match apply_formula(
-                alloc,
-                f,
-                self.own.pairs(),
-                bound_since(log, self.since),
-            ) {
-                Ok(r) => Ok(Some(r)),
-                Err(e) => Err(e),
-            },
+            Some(f) => {
+                // That its pairs are sound is known once they are read.
+                self.own.pairs();
+                match apply_formula(alloc, f, &self.own, bound_since(log, self.since)) {
+                    Ok(r) => Ok(Some(r)),
+                    Err(e) => Err(e),
+                }
+            }
         }
     }
 
@@ -127,10 +126,15 @@ impl Entry {
         ensures fault { IfErr result (λ e. Passes (stacks.is_bounded (stacks.first (spec.seen log.now self.now))) e) }
     {
         match &self.first {
-            Some(f) => match apply_formula(alloc, &f.formula, &[], bound_since(log, f.since)) {
-                Ok(r) => Ok(Some(r)),
-                Err(e) => Err(e),
-            },
+            Some(f) => {
+                let none = no_subst(alloc);
+                let first = apply_formula(alloc, &f.formula, &none, bound_since(log, f.since));
+                drop(none);
+                match first {
+                    Ok(r) => Ok(Some(r)),
+                    Err(e) => Err(e),
+                }
+            }
             None => self.first_of_body(alloc, log),
         }
     }
@@ -141,7 +145,8 @@ impl Entry {
         ensures value { IfOk result (λ r. r ≡ (spec.seen log.now self.now).trigger) }
         ensures small { IfOk result stacks.IsBuildable }
     {
-        let own = self.own.pairs();
+        let own = &self.own;
+        own.pairs();
         let rest = bound_since(log, self.since);
         let goal = &self.trigger.lit;
         let Some(_) = fits_literal(goal, own, rest, TRIGGER_LEVELS, TRIGGER_NODES) else {
@@ -160,7 +165,8 @@ impl Entry {
         ensures { result ≡ stacks.is_bounded_trigger (spec.seen log.now self.now).trigger }
     {
         let rest = bound_since(log, self.since);
-        match fits_literal(&self.trigger.lit, self.own.pairs(), rest, 250, 10_000) {
+        self.own.pairs();
+        match fits_literal(&self.trigger.lit, &self.own, rest, 250, 10_000) {
             Some(_) => true,
             None => false,
         }
@@ -243,10 +249,11 @@ impl Entry {
         ensures ok { IfOk result (λ r. (r ≡ (spec.seen log.now self.now).trigger) × stacks.BoundedTrigger r) }
         ensures fault { IfErr result (λ e. Passes (stacks.is_bounded_trigger (spec.seen log.now self.now).trigger) e) }
     {
+        self.own.pairs();
         match apply_literal(
             alloc,
             &self.trigger.lit,
-            self.own.pairs(),
+            &self.own,
             bound_since(log, self.since),
         ) {
             Ok(lit) => Ok(Trigger {

@@ -1,6 +1,6 @@
 //! The longest expression at a place of the tokens.
 
-ghost use Rattle.std.specs.Prelude.{◌≡◌, ◌+◌, ◌<◌, ◌≤◌, ◌^◌, length, drop, IfOk};
+ghost use Rattle.std.specs.Prelude.{◌≡◌, ◌+◌, ◌<◌, ◌^◌, length, drop, IfOk};
 ghost use Rattle.asl_meaning.specs.Lexemes.{lexemes};
 ghost use Rattle.asl_reading.specs.Places as spec;
 ghost use Rattle.asl_reading.specs.Places.{IsFound, IsWhole};
@@ -120,12 +120,11 @@ fn found_in(alloc: Global, behind: &[Lexeme], from: u64) -> Result<Option<Found>
     }
 }
 
-/// The longest expression that begins at a place of the tokens; a limit is answered with the number 0.
+/// The longest expression that begins at a place of the tokens, none at a place behind them; a limit is answered with the number 0.
 pub fn expr_at(alloc: Global, toks: &[Tok], from: u64) -> Result<Option<Found>, TextFault>
-    requires { from ≤ length toks.now }
     ensures { spec.FindsIn (drop from (lexemes toks.now)) from result }
 {
     let all = lexemes(alloc, toks)?;
-    let (_, behind) = all.split_at(from as usize);
+    let (_, behind) = all.split_at((from as usize).min(all.len()));
     found_in(alloc, behind, from)
 }

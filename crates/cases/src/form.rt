@@ -128,7 +128,7 @@ pub struct Plain {
 
 /// The files of the shelf, which calls of shelf and sink fail, the words, and the numbers of workers with each of which they are
 /// called; the words alone are called where there is none. Where a file is cut, by its name, they are called once for each proper
-/// prefix of it.
+/// prefix of it. Where a line of version 1 is told, the report is renewed from the one that has this line.
 #[derive(Drop)]
 pub struct Given {
     pub files: Files,
@@ -137,6 +137,7 @@ pub struct Given {
     pub words: Vec<String>,
     pub workers: Numbers,
     pub cut: Text,
+    pub old: Text,
 }
 
 impl Given {
@@ -148,6 +149,7 @@ impl Given {
             words: Vec::new(alloc),
             workers: Seq::new(alloc),
             cut: Seq::new(alloc),
+            old: Seq::new(alloc),
         }
     }
 }

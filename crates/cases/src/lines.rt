@@ -9,9 +9,9 @@ use asl_term::sequence::Starved;
 const PIECES: [&str; 4] = ["|", "+", "!", "*"];
 
 /// The keys of a case that take a text.
-const TEXT_KEYS: [&str; 11] = [
+const TEXT_KEYS: [&str; 12] = [
     "source", "world", "schedule", "file", "words", "project", "fault", "output", "trace", "facts",
-    "has",
+    "has", "old",
 ];
 
 /// The keys of a case that take a number, numbers or a word.

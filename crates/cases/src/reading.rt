@@ -60,7 +60,7 @@ fn put_front(section: &Section<'_>, out: &mut Text, desk: &mut Desk) {
     let lead = number_at(section, "lead", 1, 1000, 8, desk);
     let depth = number_at(section, "depth", 1, 10_000, 500, desk);
     let tries = number_at(section, "tries", 1, 10_000_000, 100_000, desk);
-    desk.put_named("jasonrun 1\ncycles ", cycles, out);
+    desk.put_named("jasonrun 2\ncycles ", cycles, out);
     desk.put_named(" lead ", lead, out);
     desk.put_named(" depth ", depth, out);
     desk.put_named(" tries ", tries, out);
@@ -216,6 +216,13 @@ fn cut_into(section: &Section<'_>, files: &Files, cut: &mut Text, desk: &mut Des
     desk.refuse(entry.number, "no file of this name has bytes");
 }
 
+/// The last line that the report has in version 1.
+fn old_into(section: &Section<'_>, old: &mut Text, desk: &mut Desk) {
+    if let Some(entry) = find(section, "old") {
+        lines_into(&entry, old, desk);
+    }
+}
+
 /// The last lines of the report of one agent that has so many turns: the facts of the world at the end, where there are some,
 /// and the schedule.
 fn put_end(section: &Section<'_>, turns: u64, out: &mut Text, desk: &mut Desk) {
@@ -225,8 +232,8 @@ fn put_end(section: &Section<'_>, turns: u64, out: &mut Text, desk: &mut Desk) {
     }
     desk.put_named("mail\nschedule ", turns, out);
     desk.put(b"\n1", out);
-    for _ in 1..turns {
-        desk.put(b" 1", out);
+    if turns > 1 {
+        desk.put_named("x", turns, out);
     }
     desk.put(b"\n", out);
 }
@@ -352,6 +359,7 @@ pub fn read_case(
     check_options(section, desk);
     files_into(section, &mut given.files, desk);
     cut_into(section, &given.files, &mut given.cut, desk);
+    old_into(section, &mut given.old, desk);
     numbers_into(
         section,
         "shelf_fails",

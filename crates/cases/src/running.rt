@@ -45,6 +45,9 @@ fn room_of(alloc: Global, places: u64) -> Result<Roomy<u8>, Starved>
 /// The name of the file of the schedule that a report prints.
 const PRINTED: &str = "the printed schedule";
 
+/// The name of the file of a report of version 1.
+const OLD: &str = "the report of version 1";
+
 /// Calls the words, with a tally, a slot and a belt.
 fn make<R: Threads + Wait + Sync>(
     rt: &R,
@@ -215,24 +218,32 @@ fn replay_words(words: &[String], desk: &mut Desk) -> Option<Vec<String>> {
     Some(all)
 }
 
-/// Whether these words, along the schedule of a report, write the report again, and end as its run did.
-fn replayed<R: Threads + Wait + Sync>(
+/// One file more.
+#[derive(Clone, Copy)]
+struct Extra<'a> {
+    name: &'a str,
+    bytes: &'a [u8],
+}
+
+/// Whether these words, with one file more, write this and end with this code.
+fn writes<R: Threads + Wait + Sync>(
     rt: &R,
     words: &[String],
     files: &Files,
-    done: &Done<'_>,
+    extra: Extra<'_>,
+    wanted: &Done<'_>,
     desk: &mut Desk,
 ) -> Result<bool, Starved> {
     let mut files = copy_files(files, desk);
-    let mut schedule = Seq::new(desk.alloc);
-    desk.put(schedule_of(done.written), &mut schedule);
-    desk.put_file(PRINTED.as_bytes(), schedule, &mut files);
+    let mut bytes = Seq::new(desk.alloc);
+    desk.put(extra.bytes, &mut bytes);
+    desk.put_file(extra.name.as_bytes(), bytes, &mut files);
     let mut shelf = memory_shelf(files, Seq::new(desk.alloc));
     let mut room = Roomy::new(desk.alloc);
-    room.reserve(done.written.len() as u64)?;
+    room.reserve(wanted.written.len() as u64)?;
     let mut sink = memory_sink(room, 1_000_000, Seq::new(desk.alloc));
     let status = make(rt, desk.alloc, words, &mut shelf, &mut sink)?;
-    Ok(code(&status) == done.status && sink.written() == done.written)
+    Ok(code(&status) == wanted.status && sink.written() == wanted.written)
 }
 
 /// Whether a run along the schedule that the report prints writes the report again, and ends as the run did; if not, why, in `reason`.
@@ -250,14 +261,82 @@ fn is_again<R: Threads + Wait + Sync>(
     let Some(words) = replay_words(words, desk) else {
         return Ok(true);
     };
-    let again = replayed(rt, words.as_slice(), files, done, desk)?;
+    let printed = Extra {
+        name: PRINTED,
+        bytes: schedule_of(done.written),
+    };
+    let again = writes(rt, words.as_slice(), files, printed, done, desk)?;
     if !again {
         desk.put(b"its replay differs", reason);
     }
     Ok(again)
 }
 
-/// Whether the call of these words does what the case wants, and so does the replay of its schedule.
+/// The report as version 1 has it, with this as its last line.
+fn old_report(report: &[u8], last: &[u8], desk: &mut Desk) -> Text {
+    let mut out = Seq::new(desk.alloc);
+    desk.put(b"jasonrun 1\n", &mut out);
+    let mut held: Option<&[u8]> = None;
+    for line in report.split_inclusive(is_feed).skip(1) {
+        if let Some(before) = held {
+            desk.put(before, &mut out);
+        }
+        held = Some(line);
+    }
+    desk.put(last, &mut out);
+    out
+}
+
+/// The words that renew the report of version 1 of a run.
+fn renew_words(words: &[String], desk: &mut Desk) -> Option<Vec<String>> {
+    let [command, project, ..] = words else {
+        return None;
+    };
+    if command.as_str() != "run" {
+        return None;
+    }
+    let mut all = Vec::new(desk.alloc);
+    desk.put_word("renew", &mut all);
+    desk.put_word(project.as_str(), &mut all);
+    desk.put_word(OLD, &mut all);
+    Some(all)
+}
+
+/// Whether the report of version 1 that has this as its last line is renewed to the report; if not, why, in `reason`.
+fn is_renewed<R: Threads + Wait + Sync>(
+    rt: &R,
+    words: &[String],
+    files: &Files,
+    last: &[u8],
+    report: &[u8],
+    reason: &mut Text,
+    desk: &mut Desk,
+) -> Result<bool, Starved> {
+    if last.is_empty() {
+        return Ok(true);
+    }
+    let Some(words) = renew_words(words, desk) else {
+        desk.put(b"it is no run", reason);
+        return Ok(false);
+    };
+    let old = old_report(report, last, desk);
+    let extra = Extra {
+        name: OLD,
+        bytes: old.as_slice(),
+    };
+    let wanted = Done {
+        status: 0,
+        written: report,
+    };
+    let renewed = writes(rt, words.as_slice(), files, extra, &wanted, desk)?;
+    if !renewed {
+        desk.put(b"its report of version 1 is not renewed to it", reason);
+    }
+    Ok(renewed)
+}
+
+/// Whether the call of these words does what the case wants, and so do the replay of its schedule and the renewal of its report
+/// of version 1.
 fn run_once<R: Threads + Wait + Sync>(
     rt: &R,
     plain: &Plain,
@@ -282,7 +361,18 @@ fn run_once<R: Threads + Wait + Sync>(
         status: code(&status),
         written,
     };
-    is_again(rt, words, files, &done, reason, desk)
+    if !is_again(rt, words, files, &done, reason, desk)? {
+        return Ok(false);
+    }
+    is_renewed(
+        rt,
+        words,
+        files,
+        given.old.as_slice(),
+        written,
+        reason,
+        desk,
+    )
 }
 
 /// Calls the words once, or once for each proper prefix of the file that is cut.

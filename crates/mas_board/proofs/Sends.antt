@@ -11,10 +11,24 @@ use Rattle.mas_world.proofs.Sends.{post_send, world_send}
 use Rattle.mas_world.specs.declared.artifact.Artifact.{Ghosts}
 use Rattle.mas_board.proofs.seats.Place.TheSendSync.{the_send as place_send}
 use Rattle.mas_board.specs.contracts.board.Board as board
+use Rattle.mas_board.specs.contracts.seats.Seats as seats
+use Rattle.mas_board.specs.contracts.seats.Seats.TheInside as seats_inside
 use Rattle.mas_board.specs.contracts.board.Board.TheInside as inside
 
 number_send : IsSend (UInt w64)
 number_send = search sendable
+
+seats_send : IsSend seats.the_row
+seats_send = view_send seats_inside.the_row _ _ _ _ (declared_send seats_inside.the_type (
+  seq_send _ place_send,
+  (
+    search (sendable, as_row_send),
+    (
+      search (sendable, as_row_send),
+      tt,
+    ),
+  ),
+))
 
 module _ (A : RattleType) (g : Ghosts A.Denot) where
   -- field by field
@@ -34,7 +48,7 @@ module _ (A : RattleType) (g : Ghosts A.Denot) where
               (
                 search (sendable, as_row_send),
                 (
-                  seq_send _ place_send,
+                  seats_send,
                   (
                     roomy_send _ number_send,
                     (

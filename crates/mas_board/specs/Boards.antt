@@ -85,11 +85,15 @@ abbrev pub is_empty : List Message → Bool
 is_empty [] = true
 is_empty (m ∷ more) = false
 
+-- an agent has left, or has this version as its mark and an empty box
+abbrev pub rests : ℕ → Place → List Message → Bool
+rests version seat box = is_gone seat.phase || (is_mark seat.mark version && is_empty box)
+
 -- every agent that has not left has this version as its mark and an empty box
 abbrev pub are_quiet : ℕ → List Place → List (List Message) → Bool
 are_quiet version [] boxes = true
 are_quiet version (seat ∷ seats) [] = true
-are_quiet version (seat ∷ seats) (box ∷ boxes) = (is_gone seat.phase || (is_mark seat.mark version && is_empty box)) && are_quiet version seats boxes
+are_quiet version (seat ∷ seats) (box ∷ boxes) = rests version seat box && are_quiet version seats boxes
 
 abbrev pub all_quiet : State → Bool
 all_quiet s = are_quiet s.version s.seats s.boxes

@@ -8,8 +8,10 @@ ghost use Rattle.mas_board.specs.Boards as spec;
 ghost use Rattle.mas_board.specs.Seating as kept;
 ghost use Rattle.mas_board.specs.declared.seats.Phase.TheVariants.{Idle, Busy};
 
-use crate::mail::{look_round, make_room, put_all};
-use crate::seats::{Phase, Place, Sensed, open_seats, seat_of, set_seat};
+use crate::mail::{make_room, put_all};
+use crate::seats::{
+    Phase, Place, Seats, Sensed, all_rest, count, held_by, open_seats, seat_of, set_seat,
+};
 use asl_term::names::Names;
 use asl_term::room::Roomy;
 use asl_term::sequence::{Seq, Starved};
@@ -34,7 +36,7 @@ pub struct Board<A: Artifact> {
     stop: bool,
     cycles: u64,
     lead: u64,
-    seats: Seq<Place>,
+    seats: Seats,
     schedule: Roomy<u64>,
     halted: bool,
 }
@@ -233,7 +235,7 @@ impl<A: Artifact> Board<A> {
             unreachable!()
         };
         let percepts = self.world.percepts(alloc, name)?;
-        self.schedule.reserve(self.seats.len() + 1)?;
+        self.schedule.reserve(count(&self.seats) + 1)?;
         note(&mut self.schedule, a);
         let message = self.mail.take(a);
         let seat = seat_of(&self.seats, a);
@@ -269,15 +271,14 @@ impl<A: Artifact> Board<A> {
             self.go(a, End::Stopped);
             return Ok(Sensed::Left(End::Stopped));
         }
-        let seen = look_round(seat.cycle, self.version, self.seats.as_slice(), &self.mail);
-        if seen.quiet {
+        if all_rest(&mut self.seats, self.version, &self.mail) {
             self.go(a, End::Quiet);
             return Ok(Sensed::Left(End::Quiet));
         }
-        if self.lead + seen.least <= seat.cycle {
+        if let Some(least) = held_by(&mut self.seats, seat.cycle, self.lead) {
             return Ok(Sensed::Ahead {
                 cycle: seat.cycle,
-                least: seen.least,
+                least,
             });
         }
         let input = self.give(alloc, a)?;
@@ -303,7 +304,7 @@ impl<A: Artifact> Board<A> {
             unreachable!()
         };
         make_room(&mut self.mail, outs.messages.as_slice())?;
-        self.schedule.reserve(self.seats.len() + 1)?;
+        self.schedule.reserve(count(&self.seats) + 1)?;
         let feedback = act_once(alloc, &mut self.world, name, &outs.action)?;
         note(&mut self.schedule, a);
         let turns = self.schedule.len();

@@ -1,12 +1,16 @@
 //! Where the agents stand.
 
-ghost use Rattle.std.specs.Prelude.{◌≡◌, ◌-◌, length, replicate, slice_set, IfOk};
+ghost use Rattle.std.specs.Prelude.{◌≡◌, ◌<◌, ◌≤◌, ◌-◌, ◌&&◌, ◌||◌, nat_eq, length, replicate, slice_set, IfOk};
 ghost use Rattle.mas_mind.specs.Minds.{IsAgent};
 ghost use Rattle.mas_board.specs.Boards as spec;
+ghost use Rattle.mas_board.specs.Boxes.{lists};
+ghost use Rattle.mas_board.specs.Surveys as survey;
 
 use asl_term::sequence::{Seq, Starved};
 use mas_mind::mind::{End, Input};
+use mas_world::post::Post;
 use std::alloc::Global;
+use std::marker::Model;
 
 /// Where an agent is: between two cycles, in one, or gone.
 #[derive(Clone, Copy, Debug, PartialEq, Eq, Drop)]
@@ -48,34 +52,180 @@ fn no_seat() -> Place
     }
 }
 
-/// So many seats at which nothing has happened.
-pub fn open_seats(alloc: Global, agents: u32) -> Result<Seq<Place>, Starved>
+/// Where all agents are, in the order of their numbers. Contracts see the list of their places. Beside it stand a cycle number
+/// that no agent which has not left is below, and where an agent that did not rest was seen last: so a look at all of them is
+/// seldom a look at each.
+#[derive(Drop)]
+pub struct Seats {
+    places: Seq<Place>,
+    low: u64,
+    awake: u64,
+}
+
+impl Model for Seats {
+    ghost use Rattle.std.specs.Prelude.{List, All};
+    ghost use Rattle.std.specs.Coded.{codes};
+    ghost use Rattle.mas_board.specs.declared.seats.Place.{Place};
+    ghost use Rattle.mas_board.specs.Boards.{NotBelow};
+
+    ghost Value = { List Place };
+
+    ghost coded = { Prim.hlevel codes };
+
+    ghost view = { λ s. s.places };
+
+    ghost invariant = { λ s. All (NotBelow s.low) s.places };
+}
+
+/// So many places at which nothing has happened.
+fn open_places(alloc: Global, agents: u32) -> Result<Seq<Place>, Starved>
     ensures { IfOk result (λ s. s ≡ replicate agents spec.no_seat) }
 {
-    let mut seats = Seq::new(alloc);
+    let mut places = Seq::new(alloc);
     for i in 0..agents {
         prove!(i < agents);
-        seats.push(no_seat())?;
+        places.push(no_seat())?;
     }
-    Ok(seats)
+    Ok(places)
+}
+
+/// So many agents, to whom nothing has happened.
+pub fn open_seats(alloc: Global, agents: u32) -> Result<Seats, Starved>
+    ensures { IfOk result (λ s. s ≡ replicate agents spec.no_seat) }
+{
+    let places = open_places(alloc, agents)?;
+    Ok(Seats {
+        places,
+        low: 0,
+        awake: 0,
+    })
+}
+
+/// How many agents there are.
+pub fn count(seats: &Seats) -> u64
+    ensures { result ≡ length seats.now }
+{
+    seats.places.len()
 }
 
 /// The seat of an agent.
 #[tactic(auto, using(crate::proofs::Places::has_seat))]
-pub fn seat_of(seats: &Seq<Place>, a: u32) -> Place
+pub fn seat_of(seats: &Seats, a: u32) -> Place
     requires { IsAgent (length seats.now) a }
     ensures { result ≡ spec.seat_of seats.now a }
 {
-    match seats.at((a - 1) as u64) {
+    match seats.places.at((a - 1) as u64) {
         Some(seat) => *seat,
         None => unreachable!(),
     }
 }
 
+/// The cycle number of an agent, or `lowest` where it has left or that is less.
+fn lower(lowest: u64, seat: &Place) -> u64
+    ensures value { result ≡ spec.lower lowest seat.now }
+    ensures most { result ≤ lowest }
+{
+    match seat.phase {
+        Phase::Left(_) => lowest,
+        Phase::Idle | Phase::Busy => lowest.min(seat.cycle),
+    }
+}
+
 /// Gives an agent this seat.
-pub fn set_seat(seats: &mut Seq<Place>, a: u32, seat: Place)
+pub fn set_seat(seats: &mut Seats, a: u32, seat: Place)
     requires { IsAgent (length seats.old) a }
     ensures { seats.new ≡ slice_set seats.old (a - 1) seat }
 {
-    *seats.at_mut((a - 1) as u64) = seat;
+    seats.low = lower(seats.low, &seat);
+    *seats.places.at_mut((a - 1) as u64) = seat;
+}
+
+/// Whether an agent has left, or is quiet at the version and has no unread message.
+fn rests(version: u64, seat: &Place, unread: u64) -> bool
+    ensures { result ≡ (spec.is_gone seat.now.phase || (spec.is_mark seat.now.mark version && nat_eq unread 0)) }
+{
+    if let Phase::Left(_) = seat.phase {
+        return true;
+    }
+    match seat.mark {
+        None => false,
+        Some(mark) => mark == version && unread == 0,
+    }
+}
+
+/// The first place from this one on, before another, whose agent does not rest.
+fn awake_in(version: u64, places: &[Place], mail: &Post, from: u64, to: u64) -> Option<u64>
+    requires few { length places.now < 65536 }
+    requires boxes { length mail.now ≡ length places.now }
+    requires within { to ≤ length places.now }
+    ensures { survey.Woken version places.now (lists mail.now) from to result }
+{
+    for i in from..to {
+        let unread = mail.count(i as u32 + 1);
+        if !rests(version, &places[i as usize], unread) {
+            return Some(i);
+        }
+    }
+    None
+}
+
+/// Where an agent does not rest: the first place from this one on, else the first before it.
+fn awake_from(version: u64, places: &[Place], mail: &Post, from: u64) -> Option<u64>
+    requires few { length places.now < 65536 }
+    requires boxes { length mail.now ≡ length places.now }
+    requires within { from ≤ length places.now }
+    ensures { survey.Watched version places.now (lists mail.now) result }
+{
+    match awake_in(version, places, mail, from, places.len() as u64) {
+        Some(i) => Some(i),
+        None => awake_in(version, places, mail, 0, from),
+    }
+}
+
+/// Whether every agent that has not left is quiet at the version, with an empty box. It looks first where an agent did not rest when
+/// this was asked last.
+pub fn all_rest(seats: &mut Seats, version: u64, mail: &Post) -> bool
+    requires few { length seats.old < 65536 }
+    requires boxes { length mail.now ≡ length seats.old }
+    ensures value { result ≡ spec.are_quiet version seats.old (lists mail.now) }
+    ensures stays { seats.new ≡ seats.old }
+{
+    let places = seats.places.as_slice();
+    let from = seats.awake.min(places.len() as u64);
+    match awake_from(version, places, mail, from) {
+        Some(i) => {
+            seats.awake = i;
+            false
+        }
+        None => true,
+    }
+}
+
+/// The least of this cycle number and those of the agents that have not left.
+fn least(own: u64, places: &[Place]) -> u64
+    ensures { result ≡ spec.least own places.now }
+{
+    let mut lowest = own;
+    for seat in places {
+        lowest = lower(lowest, seat);
+    }
+    lowest
+}
+
+/// The least cycle number of the agents that have not left, one of which has the cycle number `own`, where that one has to wait for it.
+pub fn held_by(seats: &mut Seats, own: u64, lead: u64) -> Option<u64>
+    requires { 1 ≤ lead }
+    ensures value { result ≡ survey.held_by lead own seats.old }
+    ensures stays { seats.new ≡ seats.old }
+{
+    if own < lead || own - lead < seats.low {
+        return None;
+    }
+    let lowest = least(own, seats.places.as_slice());
+    seats.low = lowest;
+    if lowest <= own - lead {
+        Some(lowest)
+    } else {
+        None
+    }
 }

@@ -33,12 +33,13 @@ pub record Start {V : Type 0} (k : Kind V) (b : Noted) (minds : List V) : Type 0
 
 -- ---- minds and thoughts during a run
 
--- the thought of an agent in this phase: a busy one has thought, and awaits feedback where its outs have an action
+-- the thought of an agent in this phase: a busy one has thought, and awaits feedback where its outs have an action; no other
+-- has a thought
 abbrev pub ThoughtFits : {V : Type 0} → Kind V → ℕ → ℕ → Phase → V → Option Thought → Type 0
-ThoughtFits k agents a Idle m t = k.awaits m ≡ false
+ThoughtFits k agents a Idle m t = (k.awaits m ≡ false) × (t ≡ None)
 ThoughtFits k agents a Busy m None = ⊥
 ThoughtFits k agents a Busy m (Some t) = (k.awaits m ≡ asks_feedback t) × AreLawful a agents t
-ThoughtFits k agents a (Gone end) m t = Unit {0}
+ThoughtFits k agents a (Gone end) m t = t ≡ None
 
 pub record MindFits {V : Type 0} (k : Kind V) (agents a : ℕ) (seat : Place) (m : V) (t : Option Thought) : Type 0 where
   pub me : k.me m ≡ a

@@ -10,8 +10,8 @@ use asl_term::sequence::Starved;
 use asl_term::syntax::Text;
 use std::alloc::Global;
 
-/// The mind of an agent. It makes at most 1,000,000 cycles. After `Starved` of `think` it is only asked for its
-/// lines, which are those of before, or dropped.
+/// The mind of an agent, whose number and that of all agents no call changes. It makes at most 1,000,000 cycles. After
+/// `Starved` of `think` it is only asked for its lines, which are those of before, or dropped.
 pub trait Mind: Drop {
     /// What the calls make of a mind.
     ghost kind: { Kind Self };
@@ -25,7 +25,9 @@ pub trait Mind: Drop {
         requires sent { IfSome input.message (IsFor (kind.me self.old) (kind.agents self.old)) }
         ensures made { IfOk result (λ thought. kind.cycle self.old input ≡ record { mind = self.new; thought = thought }) }
         ensures lawful { IfOk result (AreLawful (kind.me self.old) (kind.agents self.old)) }
-        ensures kept { OnErr result (kind.lines self.new ≡ kind.lines self.old) };
+        ensures kept { OnErr result (kind.lines self.new ≡ kind.lines self.old) }
+        ensures me { OnErr result (kind.me self.new ≡ kind.me self.old) }
+        ensures agents { OnErr result (kind.agents self.new ≡ kind.agents self.old) };
 
     /// Tells the mind what became of its action. Its next cycle begins with that.
     fn took(&mut self, feedback: Feedback)

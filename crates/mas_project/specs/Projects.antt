@@ -53,7 +53,7 @@ pub record SayProject (ps : List (List Tok)) (p : ProjectText) : Type 0 where
 -- ---- the tests of the agents
 
 abbrev pub most_agents : ℕ
-most_agents = 256
+most_agents = 1024
 
 -- a number above 18446744073709551615 is answered as that number
 abbrev pub saturated : ℕ → ℕ

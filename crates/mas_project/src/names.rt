@@ -15,7 +15,7 @@ use asl_term::syntax::Text;
 use std::alloc::Global;
 
 /// How many agents a project may have.
-pub const MOST_AGENTS: u64 = 256;
+pub const MOST_AGENTS: u64 = 1024;
 
 fn numbered_name(alloc: Global, name: &Text, k: u64) -> Result<Text, Starved>
     ensures { IfOk result (λ text. text ≡ spec.numbered_name name.now k) }

@@ -6,7 +6,7 @@ use Rattle.asl_term.specs.declared.syntax.Filed.{Filed}
 use Rattle.mas_project.specs.declared.syntax.AgentLine.{AgentLine}
 use Rattle.mas_project.specs.declared.syntax.ProjectText.{ProjectText}
 use Rattle.mas_project.specs.Names.{names_in, names_of, agents_of}
-use Rattle.mas_project.specs.Projects.{IsWithin}
+use Rattle.mas_project.specs.Projects.{most_agents, IsWithin}
 use Rattle.mas_project.proofs.Agents as projects
 use Rattle.mas_reading.specs.Projects.{folder, line_in, is_agent_file, solo}
 use Rattle.mas_reading.specs.Sources.{ProjectBy, HasProject}
@@ -15,7 +15,7 @@ names_placed : (directory : List ℕ) (lines : List AgentLine) → names_of (map
 names_placed directory [] = refl
 names_placed directory (line ∷ lines) = ap (λ x. names_in line ++ x) (names_placed directory lines)
 
-one_few : 1 ≤ 256
+one_few : 1 ≤ most_agents
 one_few = omega arith
 
 one_distinct : (name : List ℕ) → IsDistinct bytes_eq (name ∷ [])
@@ -28,7 +28,7 @@ within_by false held word p h =
     let e = names_placed (folder word) h.are.written.agents in
     let w = h.are.is.within in
     subst (λ q. IsWithin q.agents) (sym h.are.placed) (record {
-      few = subst (λ ns. length ns ≤ 256) (sym e) w.few;
+      few = subst (λ ns. length ns ≤ most_agents) (sym e) w.few;
       distinct = subst (λ ns. IsDistinct bytes_eq ns) (sym e) w.distinct;
     })
 

@@ -2,6 +2,7 @@
 
 ghost use Rattle.std.specs.Prelude.{◌≡◌, ◌≤◌, length, IfOk, MatchResult, option_copied};
 ghost use Rattle.mas_project.specs.Names.{names_in, names_of};
+ghost use Rattle.mas_project.specs.Projects.{most_agents};
 ghost use Rattle.mas_reading.specs.Files as files;
 ghost use Rattle.mas_reading.specs.Projects.{all_cycles, most_cycles};
 ghost use Rattle.mas_reading.specs.Sources as spec;
@@ -141,7 +142,7 @@ fn described<S: Shelf>(
 /// The status of a project with so many agents, where they may make too many cycles together.
 fn too_many(p: &ProjectText, agents: u32, cycles: u64) -> Option<Status>
     requires agents { agents ≡ length (names_of p.now.agents) }
-    requires few { agents ≤ 256 }
+    requires few { agents ≤ most_agents }
     requires cycles { cycles ≤ 1000000 }
     ensures { spec.CyclesTold p.now cycles result }
 {

@@ -8,10 +8,12 @@ use Rattle.mas_board.specs.Boards.{State, box_of}
 use Rattle.mas_core.specs.Platform.{Platform}
 use Rattle.mas_report.specs.declared.options.Options.{Options}
 use Rattle.mas_report.specs.Limits.{IsWithin}
-use Rattle.mas_report.specs.Report.{options_line, agents_text, world_text, route_text, content_text, message_line, box_text, boxes_text, mail_text, first_line, report_text, IsReport}
+use Rattle.mas_report.specs.Report.{options_line, agents_text, world_text, route_text, content_text, message_line, box_text, boxes_text, mail_text, first_line, front_text, report_text, IsReport}
+use Rattle.mas_report.specs.declared.reading.Told.{Told}
 use Rattle.mas_report.specs.Reading.{AreWords, Shows}
-use Rattle.mas_schedule.specs.Schedule.{line_feed, schedule_text, printed, AllFromOne}
+use Rattle.mas_schedule.specs.Schedule.{IsVersion, line_feed, schedule_text, printed, AllFromOne}
 use Rattle.mas_schedule.specs.Reading.{IsCount, AreLines}
+use Rattle.mas_schedule.proofs.RunLemmas.{is_schedule, printed_last}
 
 -- ---- lines
 
@@ -54,36 +56,39 @@ mail_ends s = ends_before (codes "mail\n") (boxes_text s 1 (length s.seats)) (co
 
 -- ---- the whole
 
-regroup : (a b c d e : List ℕ) → ((a ++ b) ++ (c ++ d)) ++ e ≡ a ++ (b ++ (c ++ (d ++ e)))
-regroup a b c d e = simp append_assoc
-
-whole : {V : Type 0} (lines : V → List ℕ) (o : Options) (board : State) (minds : List V) (names : List ℕ) →
-    report_text lines o board minds names ≡
-    codes "jasonrun 1" ++ (line_feed ++ (options_line o ++ ((agents_text lines board minds 1 (length board.seats) ++ (world_text board.world ++ mail_text board)) ++ schedule_text names)))
-unfolding first_line
-whole lines o board minds names =
-    regroup (codes "jasonrun 1") line_feed (options_line o) (agents_text lines board minds 1 (length board.seats) ++ (world_text board.world ++ mail_text board)) (schedule_text names)
+regroup : (first o agents world mail lines : List ℕ) → (first ++ (o ++ (agents ++ (world ++ mail)))) ++ lines ≡ first ++ (o ++ ((agents ++ (world ++ mail)) ++ lines))
+regroup first o agents world mail lines = simp append_assoc
 
 pub words_within : (o : Options) → IsWithin o → AreWords o
 words_within o h = record { cycles = omega (arith, h.cycles.1); lead = omega (arith, h.lead.1); depth = omega (arith, h.depth.1); tries = omega (arith, h.tries.1) }
 
-pub shown : {V : Type 0} (k : Kind V) (o : Options) (p : Platform V) (spent : Bool) (w : List ℕ) (r : IsReport k o p spent w) → AreWords o →
-    IsCount (length (printed w)) → AllFromOne 65535 (printed w) → Shows w o (printed w)
-shown k o p spent w r a c h =
+abbrev pub told : ℕ → Options → List ℕ → Told
+told version o turns = record { version = version; options = o; turns = turns }
+
+pub shown : {V : Type 0} (k : Kind V) (version : ℕ) (o : Options) (p : Platform V) (spent : Bool) (w : List ℕ) (r : IsReport k version o p spent w) → IsVersion version → AreWords o →
+    IsCount (length (printed w)) → AllFromOne 65535 (printed w) → Shows w (told version o (printed w))
+shown k version o p spent w r known a c h =
     let board = r.done.board in
-    let front = agents_text k.lines board r.done.minds 1 (length board.seats) ++ (world_text board.world ++ mail_text board) in
+    let agents = agents_text k.lines board r.done.minds 1 (length board.seats) in
+    let front = agents ++ (world_text board.world ++ mail_text board) in
+    let lines = schedule_text version (printed w) in
     record {
-      first = codes "jasonrun 1";
-      one = refl;
-      behind = options_line o ++ (front ++ schedule_text (printed w));
-      is = r.is ∙ whole k.lines o board r.done.minds (printed w);
-      rest = front ++ schedule_text (printed w);
-      options = record { words = a; is = refl };
-      schedule = record {
-        front = front;
-        lines = inr (ends_behind _ _ (ends_behind (world_text board.world) (mail_text board) (mail_ends board)));
-        last = schedule_text (printed w);
-        schedule = record { count = c; each = h; is = refl };
-        is = refl;
+      behind = options_line o ++ (front ++ lines);
+      first = record { known = known; is = r.is ∙ regroup (first_line version) (options_line o) agents (world_text board.world) (mail_text board) lines };
+      tells = record {
+        rest = front ++ lines;
+        options = record { words = a; is = refl };
+        schedule = record {
+          front = front;
+          lines = inr (ends_behind _ _ (ends_behind (world_text board.world) (mail_text board) (mail_ends board)));
+          last = lines;
+          schedule = is_schedule version (printed w) c h;
+          is = refl;
+        };
       };
     }
+
+-- what is printed of a report is its schedule
+pub schedule_printed : {V : Type 0} (lines : V → List ℕ) (version : ℕ) (o : Options) (board : State) (minds : List V) (schedule t : List ℕ) →
+    t ≡ report_text lines version o board minds schedule → length schedule < 2 ^ 64 → AllFromOne 65535 schedule → printed t ≡ schedule
+schedule_printed lines version o board minds schedule t e l h = ap printed e ∙ printed_last version (front_text lines version o board minds) schedule h l

@@ -1,21 +1,21 @@
 -- What bytes show of a run is read, and nothing else is.
-use Rattle.std.proofs.Common.{ℕ, zero, suc, ◌≡◌, ◌<◌, ◌≤◌, ◌+◌, ◌*◌, ◌-◌, ◌/◌, ◌%◌, ◌^◌, arith, Bool, true, false, ◌&&◌, ◌||◌, nat_eq, nat_le, List, [], ◌∷◌, ◌++◌, length, Option, None, Some, refl, ap, ap₂, sym, subst, ◌∙◌, append_assoc, append-nil, codes, decimal, if◌then◌else◌, slice_get}
-use Rattle.std.specs.Prelude.{MatchOption}
-use Rattle.std.specs.List.{list_any}
+use Rattle.std.proofs.Common.{ℕ, zero, suc, ◌≡◌, ◌<◌, ◌≤◌, ◌+◌, ◌*◌, ◌-◌, ◌/◌, ◌%◌, ◌^◌, arith, Bool, true, false, ◌&&◌, ◌||◌, nat_eq, nat_le, List, [], ◌∷◌, ◌++◌, length, Option, None, Some, refl, ap, ap₂, sym, subst, inl, inr, ◌⊎◌, ⊎_elim, IfSome, ◌∙◌, append_assoc, append-nil, codes, decimal, if◌then◌else◌, slice_get}
+use Rattle.std.specs.Prelude.{MatchOption, Result, Ok, Err, IfOk}
 use Rattle.std.proofs.lemmas.Grind.{common_steps}
 use Rattle.std.proofs.lemmas.List.{append_cancel_left}
-use Rattle.std.proofs.lemmas.Fmt.{decimal_by_steps}
+use Rattle.std.proofs.lemmas.Fmt.{decimal_by_steps, decimal_digit}
 use Rattle.mas_mind.specs.declared.mind.Level.{Level}
 use Rattle.mas_mind.specs.declared.mind.Level.TheVariants.{Say, Acts, Rules}
 use Rattle.mas_report.specs.declared.options.Options.{Options}
 use Rattle.mas_report.specs.declared.reading.Optioned.{Optioned}
-use Rattle.mas_report.specs.Report.{level_word, field, limits_text, options_line}
-use Rattle.mas_report.specs.Reading.{HasNoFeed, AreWords, BeginsWith, NoOptions, Shows, ShowsNothing, OneShown}
-use Rattle.mas_report.specs.inner.Likely.{is_digit, from_digit, with_digit, number_on, number_at, next_number, level_by, likely_with, likely, behind_line}
-use Rattle.mas_schedule.specs.Schedule.{line_feed, schedule_text, printed}
+use Rattle.mas_report.specs.declared.reading.Told.{Told}
+use Rattle.mas_report.specs.Report.{level_word, field, limits_text, options_line, first_line}
+use Rattle.mas_report.specs.Reading.{BeginsVersioned, NoVersion, AreWords, BeginsWith, NoOptions, Tells, TellsNothing, Shows, ShowsNothing, OneShown, ShownPrinted}
+use Rattle.mas_report.specs.inner.Likely.{is_digit, from_digit, with_digit, number_on, number_at, next_number, level_by, likely_with, likely}
+use Rattle.mas_schedule.specs.Schedule.{IsVersion, line_feed, lines_text, printed}
 use Rattle.mas_schedule.specs.Reading.{EndsIn, EndsInNone}
-use Rattle.mas_schedule.proofs.Ends.{one_end}
-use Rattle.mas_schedule.proofs.Scanned.{printed-schedule}
+use Rattle.mas_schedule.proofs.Ends.{are_short, one_end}
+use Rattle.mas_schedule.proofs.Told.{printed-lines}
 
 -- ---- a number
 
@@ -125,93 +125,129 @@ one_line bytes o p rest others h g =
 
 -- ---- the first line
 
--- this is behind the first line of the bytes
-record Lined (bytes behind : List ℕ) : Type 0 where
-  first : List ℕ
-  one : HasNoFeed first
-  is : bytes ≡ first ++ (line_feed ++ behind)
-
-no_feed_more : (b : ℕ) (first : List ℕ) → nat_eq b 10 ≡ false → HasNoFeed first → HasNoFeed (b ∷ first)
-no_feed_more b first e h = ap (λ x. x || list_any (λ b. nat_eq b 10) first) e ∙ h
-
-fed : (b : ℕ) → nat_eq b 10 ≡ true → b ≡ 10
-fed b e = grind (arith, common_steps)
-
 some_same : {A : Type 0} {x y : A} → Some x ≡ Some y → x ≡ y
 some_same e = cc
 
-line_on : (b : ℕ) (bytes behind : List ℕ) → (behind_line bytes ≡ Some behind → Lined bytes behind) → (x : Bool) → nat_eq b 10 ≡ x
-    → (if x then Some bytes else behind_line bytes) ≡ Some behind → Lined (b ∷ bytes) behind
-line_on b bytes behind more true t e = record { first = []; one = refl; is = ap (λ x. x ∷ bytes) (fed b t) ∙ ap (λ x. 10 ∷ x) (some_same e) }
-line_on b bytes behind more false t e =
-    let h = more e in
-    record { first = b ∷ h.first; one = no_feed_more b h.first t h.one; is = ap (λ x. b ∷ x) h.is }
+first_one : first_line 1 ≡ codes "jasonrun 1\n"
+unfolding first_line
+first_one = ap (λ d. codes "jasonrun " ++ (d ++ line_feed)) (decimal_digit 1 (omega arith))
 
-lined : (bytes behind : List ℕ) → behind_line bytes ≡ Some behind → Lined bytes behind
-lined [] behind e = cc
-lined (b ∷ bytes) behind e = line_on b bytes behind (λ f. lined bytes behind f) (nat_eq b 10) refl e
+first_two : first_line 2 ≡ codes "jasonrun 2\n"
+unfolding first_line
+first_two = ap (λ d. codes "jasonrun " ++ (d ++ line_feed)) (decimal_digit 2 (omega arith))
 
-no_feed_first : (x y : Bool) → (x || y) ≡ false → (x ≡ false) × (y ≡ false)
-no_feed_first false y e = (refl, e)
-no_feed_first true y e = absurd cc
+pub version_one : (bytes rest : List ℕ) → bytes ≡ codes "jasonrun 1\n" ++ rest → BeginsVersioned bytes 1 rest
+version_one bytes rest e = record { known = inl refl; is = e ∙ ap (λ x. x ++ rest) (sym first_one) }
 
-line_read : (first behind : List ℕ) → HasNoFeed first → behind_line (first ++ (line_feed ++ behind)) ≡ Some behind
-line_read [] behind h = refl
-line_read (b ∷ first) behind h =
-    let p = no_feed_first (nat_eq b 10) (list_any (λ b. nat_eq b 10) first) h in
-    ap (λ c. if c then Some (first ++ (line_feed ++ behind)) else behind_line (first ++ (line_feed ++ behind))) p.0 ∙ line_read first behind p.1
+pub version_two : (bytes rest : List ℕ) → bytes ≡ codes "jasonrun 2\n" ++ rest → BeginsVersioned bytes 2 rest
+version_two bytes rest e = record { known = inr refl; is = e ∙ ap (λ x. x ++ rest) (sym first_two) }
+
+-- the bytes begin with one of the two lines
+first_is : (bytes : List ℕ) (version : ℕ) (rest : List ℕ) → BeginsVersioned bytes version rest →
+    ((version ≡ 1) × (bytes ≡ codes "jasonrun 1\n" ++ rest)) ⊎ ((version ≡ 2) × (bytes ≡ codes "jasonrun 2\n" ++ rest))
+first_is bytes version rest h = go h.known
+  where
+    go : IsVersion version → ((version ≡ 1) × (bytes ≡ codes "jasonrun 1\n" ++ rest)) ⊎ ((version ≡ 2) × (bytes ≡ codes "jasonrun 2\n" ++ rest))
+    go (inl e) = inl (e, h.is ∙ ap (λ v. first_line v ++ rest) e ∙ ap (λ x. x ++ rest) first_one)
+    go (inr e) = inr (e, h.is ∙ ap (λ v. first_line v ++ rest) e ∙ ap (λ x. x ++ rest) first_two)
+
+pub no_version : (bytes : List ℕ) → ((rest : List ℕ) → bytes ≡ codes "jasonrun 1\n" ++ rest → ⊥) → ((rest : List ℕ) → bytes ≡ codes "jasonrun 2\n" ++ rest → ⊥) → NoVersion bytes
+no_version bytes one two version rest h = ⊎_elim (λ (v, e). one rest e) (λ (v, e). two rest e) (first_is bytes version rest h)
+
+apart : (rest others : List ℕ) → codes "jasonrun 1\n" ++ rest ≡ codes "jasonrun 2\n" ++ others → ⊥
+apart rest others e = absurd (digits (some_same (ap (λ (x : List ℕ). slice_get x 9) e)))
+  where
+    digits : ◌≡◌ {A = ℕ} 49 50 → ⊥
+    digits f = omega arith
+
+same_one : (rest others : List ℕ) → codes "jasonrun 1\n" ++ rest ≡ codes "jasonrun 1\n" ++ others → rest ≡ others
+same_one rest others e = cc
+
+same_two : (rest others : List ℕ) → codes "jasonrun 2\n" ++ rest ≡ codes "jasonrun 2\n" ++ others → rest ≡ others
+same_two rest others e = cc
+
+-- they begin with the first line of one version
+one_version : (bytes : List ℕ) (v w : ℕ) (rest others : List ℕ) → BeginsVersioned bytes v rest → BeginsVersioned bytes w others → (v ≡ w) × (rest ≡ others)
+one_version bytes v w rest others h g = go (first_is bytes v rest h) (first_is bytes w others g)
+  where
+    go : ((v ≡ 1) × (bytes ≡ codes "jasonrun 1\n" ++ rest)) ⊎ ((v ≡ 2) × (bytes ≡ codes "jasonrun 2\n" ++ rest)) →
+        ((w ≡ 1) × (bytes ≡ codes "jasonrun 1\n" ++ others)) ⊎ ((w ≡ 2) × (bytes ≡ codes "jasonrun 2\n" ++ others)) → (v ≡ w) × (rest ≡ others)
+    go (inl (a, e)) (inl (b, f)) = (a ∙ sym b, same_one rest others (sym e ∙ f))
+    go (inl (a, e)) (inr (b, f)) = absurd (apart rest others (sym e ∙ f))
+    go (inr (a, e)) (inl (b, f)) = absurd (apart others rest (sym f ∙ e))
+    go (inr (a, e)) (inr (b, f)) = (a ∙ sym b, same_two rest others (sym e ∙ f))
+
+-- ---- what is behind it
+
+pub tells_both : (behind : List ℕ) (o : Options) (rest turns : List ℕ) → BeginsWith behind o rest → EndsIn rest turns → Tells behind o turns
+tells_both behind o rest turns b h = record { rest = rest; options = b; schedule = h }
+
+pub not_optioned : (behind : List ℕ) → NoOptions behind → TellsNothing behind
+not_optioned behind none o turns h = none o h.rest h.options
+
+pub not_scheduled : (behind : List ℕ) (o : Options) (rest : List ℕ) → BeginsWith behind o rest → EndsInNone rest → TellsNothing behind
+not_scheduled behind o rest b none p turns h =
+    let l = one_line behind o p rest h.rest b h.options in
+    none turns (subst (λ x. EndsIn x turns) (sym l.1) h.schedule)
+
+-- the same by what a call answered
+pub not_optioned_by : (behind : List ℕ) (r : Option Optioned) → r ≡ None → MatchOption r (NoOptions behind) (λ f. BeginsWith behind f.options f.behind.now) → TellsNothing behind
+not_optioned_by behind r e h =
+    not_optioned behind (subst (λ (x : Option Optioned). MatchOption x (NoOptions behind) (λ f. BeginsWith behind f.options f.behind.now)) e h)
+
+pub not_scheduled_by : (behind : List ℕ) (o : Options) (rest : List ℕ) (r : Option (List ℕ)) → BeginsWith behind o rest → r ≡ None →
+    MatchOption r (EndsInNone rest) (EndsIn rest) → TellsNothing behind
+not_scheduled_by behind o rest r b e h = not_scheduled behind o rest b (subst (λ x. MatchOption x (EndsInNone rest) (EndsIn rest)) e h)
+
+one_told : (behind : List ℕ) (o p : Options) (turns others : List ℕ) → Tells behind o turns → Tells behind p others → (o ≡ p) × (turns ≡ others)
+one_told behind o p turns others h g =
+    let l = one_line behind o p h.rest g.rest h.options g.options in
+    (l.0, one_end g.rest turns others (subst (λ x. EndsIn x turns) l.1 h.schedule) g.schedule)
 
 -- ---- the whole
 
-behind_is : (bytes : List ℕ) (o : Options) (names : List ℕ) (h : Shows bytes o names) → behind_line bytes ≡ Some h.behind
-behind_is bytes o names h = ap behind_line h.is ∙ line_read h.first h.behind h.one
+pub no_first : (bytes : List ℕ) → NoVersion bytes → ShowsNothing bytes
+no_first bytes none t h = none t.version h.behind h.first
 
-pub no_line : (bytes : List ℕ) → None ≡ behind_line bytes → ShowsNothing bytes
-no_line bytes e o names h = let f = e ∙ behind_is bytes o names h in cc
+nothing_behind : (bytes : List ℕ) (version : ℕ) (behind : List ℕ) → BeginsVersioned bytes version behind → TellsNothing behind → ShowsNothing bytes
+nothing_behind bytes version behind b none t h =
+    let l = one_version bytes version t.version behind h.behind b h.first in
+    none t.options t.turns (subst (λ x. Tells x t.options t.turns) (sym l.1) h.tells)
 
-same_behind : (bytes behind : List ℕ) (o : Options) (names : List ℕ) (h : Shows bytes o names) → Some behind ≡ behind_line bytes → behind ≡ h.behind
-same_behind bytes behind o names h e = some_same (e ∙ behind_is bytes o names h)
+shows : (bytes : List ℕ) (version : ℕ) (behind : List ℕ) (t : Told) → BeginsVersioned bytes version behind → t.version ≡ version → Tells behind t.options t.turns → Shows bytes t
+shows bytes version behind t b v h = record { behind = behind; first = subst (λ x. BeginsVersioned bytes x behind) (sym v) b; tells = h }
 
-pub not_optioned : (bytes behind : List ℕ) → Some behind ≡ behind_line bytes → NoOptions behind → ShowsNothing bytes
-not_optioned bytes behind e none o names h =
-    none o h.rest (subst (λ x. BeginsWith x o h.rest) (sym (same_behind bytes behind o names h e)) h.options)
+-- what is told behind the first line is told by the bytes
+pub told_of : (bytes : List ℕ) (version : ℕ) (behind : List ℕ) (r : Option Told) → BeginsVersioned bytes version behind → IfSome r (λ t. t.version ≡ version) →
+    MatchOption r (TellsNothing behind) (λ t. Tells behind t.options t.turns) → MatchOption r (ShowsNothing bytes) (Shows bytes)
+told_of bytes version behind None b v h = nothing_behind bytes version behind b h
+told_of bytes version behind (Some t) b v h = shows bytes version behind t b v h
 
-pub not_scheduled : (bytes behind : List ℕ) (o : Options) (rest : List ℕ) → Some behind ≡ behind_line bytes → BeginsWith behind o rest → EndsInNone rest → ShowsNothing bytes
-not_scheduled bytes behind o rest e b none p names h =
-    let g = subst (λ x. BeginsWith x p h.rest) (sym (same_behind bytes behind p names h e)) h.options in
-    let l = one_line behind o p rest h.rest b g in
-    none names (subst (λ x. EndsIn x names) (sym l.1) h.schedule)
+-- the same of what a call answered
+pub told_from : {E : Type 0} (bytes : List ℕ) (version : ℕ) (behind : List ℕ) (r : Result (Option Told) E) → BeginsVersioned bytes version behind →
+    IfOk r (λ o. IfSome o (λ t. t.version ≡ version)) → IfOk r (λ o. MatchOption o (TellsNothing behind) (λ t. Tells behind t.options t.turns)) →
+    IfOk r (λ o. MatchOption o (ShowsNothing bytes) (Shows bytes))
+told_from bytes version behind (Ok o) b v h = told_of bytes version behind o b v h
+told_from bytes version behind (Err why) b v h = tt
 
-pub shows_both : (bytes behind : List ℕ) (o : Options) (rest names : List ℕ) → Some behind ≡ behind_line bytes → BeginsWith behind o rest → EndsIn rest names → Shows bytes o names
-shows_both bytes behind o rest names e b h =
-    let l = lined bytes behind (sym e) in
-    record { first = l.first; one = l.one; behind = behind; is = l.is; rest = rest; options = b; schedule = h }
-
--- the same by what a call answered
-pub not_optioned_by : (bytes behind : List ℕ) (r : Option Optioned) → Some behind ≡ behind_line bytes → r ≡ None →
-    MatchOption r (NoOptions behind) (λ f. BeginsWith behind f.options f.behind.now) → ShowsNothing bytes
-not_optioned_by bytes behind r e f h =
-    not_optioned bytes behind e (subst (λ (x : Option Optioned). MatchOption x (NoOptions behind) (λ f. BeginsWith behind f.options f.behind.now)) f h)
-
-pub not_scheduled_by : (bytes behind : List ℕ) (o : Options) (rest : List ℕ) (r : Option (List ℕ)) → Some behind ≡ behind_line bytes → BeginsWith behind o rest → r ≡ None →
-    MatchOption r (EndsInNone rest) (EndsIn rest) → ShowsNothing bytes
-not_scheduled_by bytes behind o rest r e b f h =
-    not_scheduled bytes behind o rest e b (subst (λ x. MatchOption x (EndsInNone rest) (EndsIn rest)) f h)
+abbrev made : ℕ → Options → List ℕ → Told
+made version o turns = record { version = version; options = o; turns = turns }
 
 pub one_shown : OneShown
-one_shown bytes o p names others h g =
-    let same : h.behind ≡ g.behind = some_same (sym (behind_is bytes o names h) ∙ behind_is bytes p others g) in
-    let l = one_line g.behind o p h.rest g.rest (subst (λ x. BeginsWith x o h.rest) same h.options) g.options in
-    (l.0, one_end g.rest names others (subst (λ x. EndsIn x names) l.1 h.schedule) g.schedule)
+one_shown bytes t u h g =
+    let v = one_version bytes t.version u.version h.behind g.behind h.first g.first in
+    let l = one_told g.behind t.options u.options t.turns u.turns (subst (λ x. Tells x t.options t.turns) v.1 h.tells) g.tells in
+    ap (λ x. made x t.options t.turns) v.0 ∙ ap (λ x. made u.version x t.turns) l.0 ∙ ap (λ x. made u.version u.options x) l.1
 
-gather : (a b c d e : List ℕ) → a ++ (b ++ (c ++ (d ++ e))) ≡ (a ++ (b ++ (c ++ d))) ++ e
-gather a b c d e = simp append_assoc
+gather : (a b c d : List ℕ) → a ++ (b ++ (c ++ d)) ≡ (a ++ (b ++ c)) ++ d
+gather a b c d = simp append_assoc
 
--- the numbers that bytes show are those in their last line
-pub printed_shown : (bytes : List ℕ) (o : Options) (names : List ℕ) → Shows bytes o names → printed bytes ≡ names
-printed_shown bytes o names h =
-    let s = h.schedule in
-    let e : bytes ≡ h.first ++ (line_feed ++ (options_line o ++ (s.front ++ schedule_text names))) =
-    h.is ∙ ap (λ x. h.first ++ (line_feed ++ x)) (h.options.is ∙ ap (λ x. options_line o ++ x) (s.is ∙ ap (λ x. s.front ++ x) s.schedule.is)) in
-    ap printed (e ∙ gather h.first line_feed (options_line o) s.front (schedule_text names))
-    ∙ printed-schedule (h.first ++ (line_feed ++ (options_line o ++ s.front))) names s.schedule.each
+pub shown_printed : ShownPrinted
+shown_printed bytes t h =
+    let s = h.tells.schedule in
+    let first = first_line t.version in
+    let line = options_line t.options in
+    let lines = lines_text (length t.turns) s.schedule.entries in
+    let e : bytes ≡ (first ++ (line ++ s.front)) ++ lines =
+    h.first.is ∙ ap (λ x. first ++ x) (h.tells.options.is ∙ ap (λ x. line ++ x) (s.is ∙ ap (λ x. s.front ++ x) s.schedule.is)) ∙ gather first line s.front lines in
+    ap printed e ∙ printed-lines (first ++ (line ++ s.front)) (length t.turns) s.schedule.entries (are_short s.schedule.entries s.schedule.each) ∙ s.schedule.stand

@@ -1,5 +1,6 @@
 -- The text of a run's report. Every line ends in a line feed.
-use Rattle.std.specs.Prelude.{ℕ, zero, suc, ◌≡◌, ◌+◌, ◌-◌, Bool, true, false, List, [], ◌∷◌, ◌++◌, Option, None, Some, MatchBool, codes, decimal, length, slice_get}
+use Rattle.std.specs.Prelude.{ℕ, zero, suc, ◌≡◌, ◌+◌, ◌-◌, Bool, true, false, List, [], ◌∷◌, ◌++◌, Option, None, Some, MatchBool}
+use Rattle.std.specs.Prelude.{codes, decimal, length, slice_get}
 use Rattle.std.specs.List.{flat_map, list_any}
 use Rattle.asl_term.specs.declared.syntax.LiteralOf.{LiteralOf}
 use Rattle.asl_term.specs.declared.syntax.Term.{Term}
@@ -16,8 +17,9 @@ use Rattle.mas_world.specs.Worlds.{World, facts}
 use Rattle.mas_board.specs.declared.seats.Phase.{Phase}
 use Rattle.mas_board.specs.declared.seats.Phase.TheVariants.{Idle, Busy, Left as Gone}
 use Rattle.mas_board.specs.declared.seats.Place.{Place}
-use Rattle.mas_board.specs.Boards.{State, seat_at, box_of, name_of, name_or_none}
+use Rattle.mas_board.specs.Boards.{State, Noted, seat_at, box_of, name_of, name_or_none}
 use Rattle.mas_core.specs.Platform.{Platform, run, ended}
+use Rattle.mas_core.specs.Replay.{RanAlong}
 use Rattle.mas_report.specs.declared.options.Options.{Options}
 use Rattle.mas_schedule.specs.Schedule.{schedule_text, line_feed, printed}
 
@@ -106,17 +108,22 @@ mail_text s = codes "mail\n" ++ boxes_text s 1 (length s.seats)
 
 -- ---- the whole
 
-unfoldable pub first_line : List ℕ
-first_line = codes "jasonrun 1\n"
+-- the version of the reports that are written
+abbrev pub latest : ℕ
+latest = 2
+
+-- `jasonrun V`
+unfoldable pub first_line : ℕ → List ℕ
+first_line version = codes "jasonrun " ++ (decimal version ++ line_feed)
 
 -- what stands before the schedule
-abbrev pub front_text : {V : Type 0} → (V → List ℕ) → Options → State → List V → List ℕ
-front_text lines_of o board minds =
-    first_line ++ (options_line o ++ (agents_text lines_of board minds 1 (length board.seats) ++ (world_text board.world ++ mail_text board)))
+abbrev pub front_text : {V : Type 0} → (V → List ℕ) → ℕ → Options → State → List V → List ℕ
+front_text lines_of version o board minds =
+    first_line version ++ (options_line o ++ (agents_text lines_of board minds 1 (length board.seats) ++ (world_text board.world ++ mail_text board)))
 
--- the report of the state to which the schedule has led
-abbrev pub report_text : {V : Type 0} → (V → List ℕ) → Options → State → List V → List ℕ → List ℕ
-report_text lines_of o board minds schedule = front_text lines_of o board minds ++ schedule_text schedule
+-- the report, of this version, of the state to which the schedule has led
+abbrev pub report_text : {V : Type 0} → (V → List ℕ) → ℕ → Options → State → List V → List ℕ → List ℕ
+report_text lines_of version o board minds schedule = front_text lines_of version o board minds ++ schedule_text version schedule
 
 -- the end `budget`
 abbrev pub is_budget : Phase → Bool
@@ -127,19 +134,30 @@ is_budget other = false
 abbrev pub is_spent : List Place → Bool
 is_spent seats = list_any (λ s. is_budget s.phase) seats
 
--- the text is the report of the run from p along the numbers in its own last line: every turn of these is legal,
--- and every agent has left at the end, some of them by `budget` or none
-pub record IsReport {V : Type 0} (k : Kind V) (o : Options) (p : Platform V) (spent : Bool) (w : List ℕ) : Type 0 where
+-- the text is the report, of this version, of the run from p along the numbers for which its own last line stands: every turn
+-- of these is legal, and every agent has left at the end, some of them by `budget` or none
+pub record IsReport {V : Type 0} (k : Kind V) (version : ℕ) (o : Options) (p : Platform V) (spent : Bool) (w : List ℕ) : Type 0 where
   pub done : Platform V
   pub ran : run k p (printed w) ≡ Some done
   pub ended : ended done.board.seats ≡ true
   pub spent_is : is_spent done.board.seats ≡ spent
-  pub is : w ≡ report_text k.lines o done.board done.minds (printed w)
+  pub is : w ≡ report_text k.lines version o done.board done.minds (printed w)
 
 -- it is so, whatever the ends are
-pub record IsAnyReport {V : Type 0} (k : Kind V) (o : Options) (p : Platform V) (w : List ℕ) : Type 0 where
+pub record IsAnyReport {V : Type 0} (k : Kind V) (version : ℕ) (o : Options) (p : Platform V) (w : List ℕ) : Type 0 where
   pub spent : Bool
-  pub report : IsReport k o p spent w
+  pub report : IsReport k version o p spent w
+
+-- the run from p along these numbers came to this, and its report, of this version, is these bytes
+pub record IsOwnRun {V : Type 0} (k : Kind V) (version : ℕ) (o : Options) (p : Platform V)
+    (names bytes : List ℕ) (board : Noted) (minds : List V) : Type 0 where
+  pub ran : RanAlong k p names board minds
+  pub is : report_text k.lines version o board.state minds board.schedule ≡ bytes
+
+-- the text is the report, of the version that is written, of the run from p along these numbers
+pub record IsRenewal {V : Type 0} (k : Kind V) (o : Options) (p : Platform V) (names w : List ℕ) : Type 0 where
+  pub report : IsAnyReport k latest o p w
+  pub along : printed w ≡ names
 
 -- this is so, or it is not so
 abbrev pub Decided : Type 0 → Bool → Type 0

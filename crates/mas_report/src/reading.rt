@@ -1,7 +1,7 @@
 //! What a report tells of its run, read from its bytes.
 
-ghost use Rattle.std.specs.Prelude.{◌≡◌, option_map, slice_get, IfOk, MatchOption};
-ghost use Rattle.mas_report.specs.Reading.{BeginsWith, NoOptions, OneShown, Shows, ShowsNothing};
+ghost use Rattle.std.specs.Prelude.{◌≡◌, slice_get, IfOk, IfSome, MatchOption};
+ghost use Rattle.mas_report.specs.Reading.{BeginsVersioned, BeginsWith, NoOptions, NoVersion, OneShown, ShownPrinted, Shows, ShowsNothing, Tells, TellsNothing};
 ghost use Rattle.mas_report.specs.inner.Likely as spec;
 
 use crate::options::Options;
@@ -12,6 +12,14 @@ use mas_mind::mind::Level;
 use mas_schedule::last::last_schedule;
 use mas_schedule::reading::Number;
 use std::alloc::Global;
+
+/// What a report tells of its run: the version, the options, and the agents' numbers in the order of their turns.
+#[derive(Drop)]
+pub struct Told {
+    pub version: u32,
+    pub options: Options,
+    pub turns: Numbers,
+}
 
 fn is_digit(byte: u8) -> bool
     ensures { result ≡ spec.is_digit byte }
@@ -121,41 +129,62 @@ fn options_before<'a>(alloc: Global, bytes: &'a [u8]) -> Result<Option<Optioned<
     }
 }
 
-/// What is behind the first line.
-fn behind_line(bytes: &[u8]) -> Option<&[u8]>
-    ensures { option_map (λ t. t.now) result ≡ spec.behind_line bytes.now }
-{
-    let mut rest = bytes;
-    'line: while let Some((byte, behind)) = rest.split_first() {
-        if *byte == b'\n' {
-            return Some(behind);
-        }
-        rest = behind;
-    }
-    None
+/// A version, and what is behind its first line.
+#[derive(Clone, Copy)]
+struct Versioned<'a> {
+    version: u32,
+    behind: &'a [u8],
 }
 
-/// The options in the second line of a report and the schedule in its last two lines; None exactly where these lines are not
-/// of the form.
-#[tactic(auto, using(crate::proofs::Shown::no_line, crate::proofs::Shown::not_optioned, crate::proofs::Shown::not_scheduled, crate::proofs::Shown::shows_both))]
-pub fn read_report(alloc: Global, bytes: &[u8]) -> Result<Option<(Options, Numbers)>, Starved>
-    ensures { IfOk result (λ r. MatchOption r (ShowsNothing bytes.now) (λ t. Shows bytes.now t.0 t.1)) }
+/// The version whose first line is at the front.
+#[tactic(auto, using(crate::proofs::Shown::version_one, crate::proofs::Shown::version_two, crate::proofs::Shown::no_version))]
+fn version_before(bytes: &[u8]) -> Option<Versioned<'_>>
+    ensures { MatchOption result (NoVersion bytes.now) (λ f. BeginsVersioned bytes.now f.version f.behind.now) }
 {
-    let Some(behind) = behind_line(bytes) else {
-        return Ok(None);
-    };
-    match options_before(alloc, behind) {
+    match bytes.strip_prefix(b"jasonrun 1\n") {
+        Some(behind) => Some(Versioned { version: 1, behind }),
+        None => match bytes.strip_prefix(b"jasonrun 2\n") {
+            Some(behind) => Some(Versioned { version: 2, behind }),
+            None => None,
+        },
+    }
+}
+
+/// What is told behind the first line of this version.
+#[tactic(auto, using(crate::proofs::Shown::tells_both))]
+fn told_behind(alloc: Global, version: u32, bytes: &[u8]) -> Result<Option<Told>, Starved>
+    ensures version { IfOk result (λ r. IfSome r (λ t. t.version ≡ version)) }
+    ensures rest { IfOk result (λ r. MatchOption r (TellsNothing bytes.now) (λ t. Tells bytes.now t.options t.turns)) }
+{
+    match options_before(alloc, bytes) {
         Err(starved) => Err(starved),
         Ok(None) => Ok(None),
         Ok(Some(front)) => match last_schedule(alloc, front.behind) {
             Err(starved) => Err(starved),
             Ok(None) => Ok(None),
-            Ok(Some(names)) => Ok(Some((front.options, names))),
+            Ok(Some(turns)) => Ok(Some(Told {
+                version,
+                options: front.options,
+                turns,
+            })),
         },
     }
 }
 
-/// Bytes show the options and the schedule of one run at most.
+/// What a report tells of its run; None exactly where its first line is that of no version, its second that of no options, or
+/// its last two lines are no schedule.
+#[tactic(auto, using(crate::proofs::Shown::no_first))]
+pub fn read_report(alloc: Global, bytes: &[u8]) -> Result<Option<Told>, Starved>
+    ensures { IfOk result (λ r. MatchOption r (ShowsNothing bytes.now) (Shows bytes.now)) }
+{
+    match version_before(bytes) {
+        Some(first) => told_behind(alloc, first.version, first.behind),
+        None => Ok(None),
+    }
+}
+
+/// Bytes tell of one run at most, and its turns are the numbers for which their last line stands.
 pub fn one_shown()
-    ensures { OneShown }
+    ensures one { OneShown }
+    ensures printed { ShownPrinted }
 {}

@@ -7,6 +7,7 @@ ghost use Rattle.asl_term.specs.Names.{name_at};
 ghost use Rattle.mas_board.specs.Boards as board;
 ghost use Rattle.mas_board.specs.Seating.{IsSound};
 ghost use Rattle.mas_report.specs.Report as spec;
+ghost use Rattle.mas_schedule.specs.Schedule.{AllFromOne, IsVersion, printed};
 
 use crate::options::Options;
 use asl_term::names::Names;
@@ -23,6 +24,9 @@ use mas_schedule::schedule::put_schedule;
 use mas_world::artifact::Artifact;
 use mas_world::world::World;
 use std::alloc::Global;
+
+/// The version of the reports that are written.
+pub const LATEST: u32 = 2;
 
 fn level_word(level: Level) -> &'static [u8]
     ensures { result.now ≡ spec.level_word level }
@@ -268,40 +272,46 @@ fn put_mail<A: Artifact>(out: &mut Text, b: &Board<A>) -> Result<(), Starved>
 }
 
 #[tactic(auto, unfolding(crate::specs::Report::first_line))]
-fn put_first_line(out: &mut Text) -> Result<(), Starved>
-    ensures { OnOk result (out.new ≡ out.old ++ spec.first_line) }
+fn put_first_line(alloc: Global, version: u32, out: &mut Text) -> Result<(), Starved>
+    ensures { OnOk result (out.new ≡ out.old ++ spec.first_line version) }
 {
-    out.append(b"jasonrun 1\n")
+    put_field(alloc, out, b"jasonrun ", version as u64)?;
+    out.append(b"\n")
 }
 
 /// Appends what stands before the schedule.
 fn put_front<M: Mind, A: Artifact>(
     alloc: Global,
+    version: u32,
     out: &mut Text,
     o: &Options,
     d: &Done<M, A>,
 ) -> Result<(), Starved>
-    ensures { OnOk result (out.new ≡ out.old ++ spec.front_text M.kind.lines o.now d.now.board.state d.now.minds) }
+    ensures { OnOk result (out.new ≡ out.old ++ spec.front_text M.kind.lines version o.now d.now.board.state d.now.minds) }
 {
     d.board.holds();
-    put_first_line(out)?;
+    put_first_line(alloc, version, out)?;
     put_options(alloc, out, o)?;
     put_agents(alloc, out, &d.board, &d.minds)?;
     put_world(alloc, out, d.board.world())?;
     put_mail(out, &d.board)
 }
 
-/// The report of a run: its options, each agent's lines and end, the facts, the unread mail and the schedule.
+/// The report of a run, in this version: its options, each agent's lines and end, the facts, the unread mail and the schedule.
+#[tactic(auto, using(crate::proofs::Backs::schedule_printed))]
 pub fn report<M: Mind, A: Artifact>(
     alloc: Global,
+    version: u32,
     o: &Options,
     d: &Done<M, A>,
 ) -> Result<Text, Starved>
-    ensures { IfOk result (λ t. t ≡ spec.report_text M.kind.lines o.now d.now.board.state d.now.minds d.now.board.schedule) }
+    requires { IsVersion version }
+    ensures text { IfOk result (λ t. t ≡ spec.report_text M.kind.lines version o.now d.now.board.state d.now.minds d.now.board.schedule) }
+    ensures printed { AllFromOne 65535 d.now.board.schedule → IfOk result (λ t. printed t ≡ d.now.board.schedule) }
 {
     let mut out = Seq::new(alloc);
-    put_front(alloc, &mut out, o, d)?;
-    put_schedule(alloc, &mut out, d.board.schedule())?;
+    put_front(alloc, version, &mut out, o, d)?;
+    put_schedule(alloc, version, &mut out, d.board.schedule())?;
     Ok(out)
 }
 

@@ -1,71 +1,59 @@
 -- What bytes are: a schedule, or no schedule because of one line.
-use Rattle.std.proofs.Common.{ℕ, ◌≡◌, ◌⊎◌, arith, Bool, true, false, List, [], ◌∷◌, ◌++◌, length, take, drop, Option, None, Some, Result, Ok, Err, refl, ap, sym, subst, inl, inr, ⊎_elim, ◌∙◌, append_assoc, append-nil, codes, decimal, eqb}
+use Rattle.std.proofs.Common.{ℕ, zero, suc, ◌≡◌, ◌⊎◌, ◌-◌, ◌≤◌, ◌<◌, arith, Bool, true, false, List, [], ◌∷◌, ◌++◌, length, take, drop, Option, None, Some, Result, Ok, Err, refl, ap, sym, subst, inl, inr, ⊎_elim, ◌∙◌, append_assoc, append-nil, codes, decimal, eqb}
 use Rattle.std.specs.Cmp.Lexicographic.{pointwise}
 use Rattle.std.proofs.lemmas.Bool.Decides.{Decides-eqb}
 use Rattle.std.proofs.lemmas.Slice.Eq.{starts_is}
 use Rattle.std.proofs.lemmas.Option.{some_pair_parts}
+use Rattle.mas_schedule.specs.declared.entry.Entry.{Entry}
 use Rattle.mas_schedule.specs.declared.reading.LineFault.{LineFault}
 use Rattle.mas_schedule.specs.declared.reading.LineFault.TheVariants.{Memory, BadLine}
-use Rattle.mas_schedule.specs.Schedule.{line_feed, numbers_text, count_line, schedule_text, AllFromOne}
-use Rattle.mas_schedule.specs.Reading.{IsCount, IsSchedule, BeginsCounted, BeginsNumbered, IsBadLine, first, second, third, IsFaultAt, Answers, OneAnswer, SomeAnswer, ReadAgain}
-use Rattle.mas_schedule.specs.inner.Scanning.{number_from, numbers_from, alone, Tells}
-use Rattle.mas_schedule.proofs.Numerals.{number_is}
-use Rattle.mas_schedule.proofs.Lines.{counted_is, count_read, numbered_is, numbered_read}
+use Rattle.mas_schedule.specs.Schedule.{line_feed, spread, entries_text, count_line, lines_text}
+use Rattle.mas_schedule.specs.Reading.{IsCount, IsSchedule, BeginsCounted, BeginsEntered, BeginsUnentered, IsBadLine, first, second, third, IsFaultAt, Answers, OneAnswer, SomeAnswer}
+use Rattle.mas_schedule.specs.inner.Scanning.{count_from, entry_from, IsLine, IsNoLine, lacking, exceeding, IsNoLineBy}
+use Rattle.mas_schedule.proofs.Fronts.{IsFront, front_is, front_read}
+use Rattle.mas_schedule.proofs.Lines.{counted_by, count_read, lined, AreFronts, no_front, spread_more, front_more, Parted, parted, entered_is, entered_read}
 
 -- ---- where the first line is good
 
 module _ (bytes : List ℕ) (n : ℕ) (rest : List ℕ) (h : BeginsCounted bytes n rest) where
-  -- the bytes of both lines
-  both_lines : (names more : List ℕ) → BeginsNumbered rest n names more → bytes ≡ schedule_text names ++ more
-  both_lines names more b =
-      h.is ∙ ap (λ x. count_line x ++ rest) (sym b.numbers.as_many) ∙ ap (λ x. count_line (length names) ++ x) (b.is ∙ sym (append_assoc (numbers_text names) line_feed more))
-      ∙ sym (append_assoc (count_line (length names)) (numbers_text names ++ line_feed) more)
+  alone_is : (entries : List Entry) → BeginsEntered rest n entries [] → IsSchedule bytes (spread entries)
+  alone_is entries b = record {
+    count = subst IsCount (sym b.as_many) h.count;
+    entries = entries;
+    each = b.each;
+    stand = refl;
+    is = h.is ∙ ap (λ x. count_line n ++ x) b.is ∙ ap (λ x. count_line x ++ (entries_text entries ++ line_feed)) (sym b.as_many);
+  }
 
-  few : (names more : List ℕ) → BeginsNumbered rest n names more → IsCount (length names)
-  few names more b = subst IsCount (sym b.numbers.as_many) h.count
+  pub line_is : (names : List ℕ) → IsLine n rest names → IsSchedule bytes names
+  line_is names l = subst (IsSchedule bytes) l.stand (alone_is l.entries l.begins)
 
-  told : (names more : List ℕ) → BeginsNumbered rest n names more → Answers bytes (alone (Some (names, more)))
-  told names [] b = record { count = few names [] b; each = b.numbers.each; is = both_lines names [] b ∙ append-nil (schedule_text names) }
-  told names (b ∷ more) w = third names b more (few names (b ∷ more) w) w.numbers.each (both_lines names (b ∷ more) w)
+  bad_line : (k : ℕ) → IsNoLine n rest k → IsBadLine bytes k
+  bad_line k (lacking u) = second n rest h u
+  bad_line k (exceeding entries b behind w) = third n rest entries b behind h w
 
-  -- what is read of the second line is what the bytes are
-  answer_told : (o : Option (List ℕ × List ℕ)) → numbers_from n [] rest ≡ o → Answers bytes (alone o)
-  answer_told None e = second n rest h (λ names more b. let r = numbered_read n rest names more h.count.0 b in cc)
-  answer_told (Some (names, more)) e = told names more (numbered_is n rest names more h.count.0 e)
-
-pub answered : (bytes : List ℕ) (n : ℕ) (rest : List ℕ) → BeginsCounted bytes n rest → Answers bytes (alone (numbers_from n [] rest))
-answered bytes n rest h = answer_told bytes n rest h (numbers_from n [] rest) refl
-
-pub read_is : (bytes : List ℕ) (n : ℕ) (rest names : List ℕ) → BeginsCounted bytes n rest → alone (numbers_from n [] rest) ≡ Ok names → IsSchedule bytes names
-read_is bytes n rest names h e = subst (Answers bytes) e (answered bytes n rest h)
-
-pub fault_is : (bytes : List ℕ) (n : ℕ) (rest : List ℕ) (fault : LineFault) → BeginsCounted bytes n rest → Tells (alone (numbers_from n [] rest)) fault
-    → IsFaultAt bytes fault
-fault_is bytes n rest Memory h e = tt
-fault_is bytes n rest (BadLine k) h e = subst (Answers bytes) e (answered bytes n rest h)
+  pub fault_is : (fault : LineFault) → IsNoLineBy n rest fault → IsFaultAt bytes fault
+  fault_is Memory l = tt
+  fault_is (BadLine k) l = bad_line k l
 
 -- ---- the first line of any bytes
 
-numbers_behind : (bytes digits : List ℕ) → bytes ≡ codes "schedule " ++ digits → (o : Option (ℕ × List ℕ)) → number_from 5000000 10 0 digits ≡ o
-    → ((n : ℕ) × (rest : List ℕ) × BeginsCounted bytes n rest) ⊎ ((n : ℕ) (rest : List ℕ) → BeginsCounted bytes n rest → ⊥)
-numbers_behind bytes digits e None f = inr (λ n rest h. let r = count_read bytes digits n rest e h in cc)
-numbers_behind bytes digits e (Some (n, rest)) f = inl (n, rest, counted_is bytes digits n rest e (number_is 5000000 10 0 digits n rest (omega arith) (omega arith) f))
+-- the line is there, or it is not
+abbrev CountedOrNot : List ℕ → Type 0
+CountedOrNot bytes = ((n : ℕ) × (rest : List ℕ) × BeginsCounted bytes n rest) ⊎ ((n : ℕ) (rest : List ℕ) → BeginsCounted bytes n rest → ⊥)
 
--- bytes begin with a line `schedule N`, or with none
-counted_or_not : (bytes : List ℕ) → ((n : ℕ) × (rest : List ℕ) × BeginsCounted bytes n rest) ⊎ ((n : ℕ) (rest : List ℕ) → BeginsCounted bytes n rest → ⊥)
+numbers_behind : (bytes digits : List ℕ) → bytes ≡ codes "schedule " ++ digits → (o : Option (ℕ × List ℕ)) → count_from digits ≡ o → CountedOrNot bytes
+numbers_behind bytes digits e None f = inr (λ n rest h. let r = count_read bytes digits n rest e h in cc)
+numbers_behind bytes digits e (Some (n, rest)) f = inl (n, rest, counted_by bytes digits n rest e f)
+
+counted_or_not : (bytes : List ℕ) → CountedOrNot bytes
 counted_or_not bytes = go (pointwise eqb (codes "schedule ") (take 9 bytes)) refl
   where
-    go : (b : Bool) → b ≡ pointwise eqb (codes "schedule ") (take 9 bytes)
-        → ((n : ℕ) × (rest : List ℕ) × BeginsCounted bytes n rest) ⊎ ((n : ℕ) (rest : List ℕ) → BeginsCounted bytes n rest → ⊥)
+    go : (b : Bool) → b ≡ pointwise eqb (codes "schedule ") (take 9 bytes) → CountedOrNot bytes
     go true t = let s = starts_is Decides-eqb bytes (codes "schedule ") true t in numbers_behind bytes (drop 9 bytes) (s.0 refl) _ refl
     go false t = inr (λ n rest h.
         let s = starts_is Decides-eqb bytes (codes "schedule ") false t in
         let f = s.1 _ (h.is ∙ append_assoc (codes "schedule ") (decimal n ++ line_feed) rest) in cc)
-
--- ---- laws
-
-pub some_answer : SomeAnswer
-some_answer bytes = ⊎_elim (λ (n, rest, h). (alone (numbers_from n [] rest), answered bytes n rest h)) (λ h. (Err 1, first h)) (counted_or_not bytes)
 
 -- the first line is one alone
 one_count : (bytes : List ℕ) (n m : ℕ) (rest others : List ℕ) → BeginsCounted bytes n rest → BeginsCounted bytes m others → (n ≡ m) × (rest ≡ others)
@@ -74,49 +62,141 @@ one_count bytes n m rest others h i = some_pair_parts n m rest others (sym (coun
     split : (n : ℕ) (rest : List ℕ) → BeginsCounted bytes n rest → bytes ≡ codes "schedule " ++ ((decimal n ++ line_feed) ++ rest)
     split n rest h = h.is ∙ append_assoc (codes "schedule ") (decimal n ++ line_feed) rest
 
-module _ (bytes : List ℕ) (n : ℕ) (rest : List ℕ) (h : BeginsCounted bytes n rest) where
-  -- two lines of numbers, and what is behind them
-  both_read : (names more : List ℕ) → IsCount (length names) → AllFromOne 65535 names → bytes ≡ schedule_text names ++ more → numbers_from n [] rest ≡ Some (names, more)
-  both_read names more c a e =
-      let i : BeginsCounted bytes (length names) ((numbers_text names ++ line_feed) ++ more) =
-      record { count = c; is = e ∙ append_assoc (count_line (length names)) (numbers_text names ++ line_feed) more } in
-      let s = one_count bytes n (length names) rest ((numbers_text names ++ line_feed) ++ more) h i in
-      numbered_read n rest names more h.count.0
-      (record { numbers = record { as_many = sym s.0; each = a }; is = s.1 ∙ append_assoc (numbers_text names) line_feed more })
+-- ---- the second line of any bytes
 
-  none_read : (m : ℕ) (others : List ℕ) → BeginsCounted bytes m others → ((names more : List ℕ) → BeginsNumbered others m names more → ⊥)
-      → (o : Option (List ℕ × List ℕ)) → numbers_from n [] rest ≡ o → Err 2 ≡ alone o
-  none_read m others i none None e = refl
-  none_read m others i none (Some (names, more)) e =
-      let s = one_count bytes n m rest others h i in
-      let b = numbered_is n rest names more h.count.0 e in
-      absurd (none names more (record { numbers = record { as_many = b.numbers.as_many ∙ s.0; each = b.numbers.each }; is = sym s.1 ∙ b.is }))
+-- entries are at the front, or none are
+abbrev FrontsOrNot : ℕ → List ℕ → Type 0
+FrontsOrNot left bytes = ((entries : List Entry) × (more : List ℕ) × AreFronts left bytes entries more) ⊎ ((entries : List Entry) (more : List ℕ) → AreFronts left bytes entries more → ⊥)
 
-  bad_settled : (k : ℕ) → IsBadLine bytes k → Err k ≡ alone (numbers_from n [] rest)
-  bad_settled k (first none) = absurd (none n rest h)
-  bad_settled k (second m others i none) = none_read m others i none _ refl
-  bad_settled k (third names b more c a e) = sym (ap alone (both_read names (b ∷ more) c a e))
+module _ (left : ℕ) (bytes : List ℕ) (some : 0 < left) where
+  none_there : entry_from left bytes ≡ None → (entries : List Entry) (more : List ℕ) → Parted left bytes entries more → ⊥
+  none_there r entries more p = let f = sym (front_read left bytes p.entry p.behind p.front) ∙ r in cc
 
-  settled : (r : Result (List ℕ) ℕ) → Answers bytes r → r ≡ alone (numbers_from n [] rest)
-  settled (Ok names) i = sym (ap alone (both_read names [] i.count i.each (i.is ∙ sym (append-nil (schedule_text names)))))
-  settled (Err k) i = bad_settled k i
+  -- by what is behind the first
+  behind_first : (e : Entry) (behind : List ℕ) → entry_from left bytes ≡ Some (e, behind) → FrontsOrNot (left - e.times) behind → FrontsOrNot left bytes
+  behind_first e behind r (inl (entries, more, h)) = inl (e ∷ entries, more, front_more left bytes e behind entries more (front_is left bytes e behind r) h)
+  behind_first e behind r (inr not) = inr (λ entries more h. go entries more (parted left bytes entries more some h))
+    where
+      go : (entries : List Entry) (more : List ℕ) → Parted left bytes entries more → ⊥
+      go entries more p =
+          let same = some_pair_parts p.entry e p.behind behind (sym (front_read left bytes p.entry p.behind p.front) ∙ r) in
+          not p.rest more (subst (λ x. AreFronts (left - x.times) behind p.rest more) same.0 (subst (λ x. AreFronts (left - p.entry.times) x p.rest more) same.1 p.fronts))
 
-module _ (bytes : List ℕ) (none : (n : ℕ) (rest : List ℕ) → BeginsCounted bytes n rest → ⊥) where
-  bad_unsettled : (k : ℕ) → IsBadLine bytes k → k ≡ 1
-  bad_unsettled k (first _) = refl
-  bad_unsettled k (second m others i _) = absurd (none m others i)
-  bad_unsettled k (third names b more c a e) =
-      absurd (none (length names) _ (record { count = c; is = e ∙ append_assoc (count_line (length names)) (numbers_text names ++ line_feed) (b ∷ more) }))
+  by_first : ((e : Entry) (behind : List ℕ) → 0 < e.times → FrontsOrNot (left - e.times) behind) → (o : Option (Entry × List ℕ)) → entry_from left bytes ≡ o → FrontsOrNot left bytes
+  by_first again None r = inr (λ entries more h. none_there r entries more (parted left bytes entries more some h))
+  by_first again (Some (e, behind)) r = behind_first e behind r (again e behind (front_is left bytes e behind r).times.0)
 
-  unsettled : (r : Result (List ℕ) ℕ) → Answers bytes r → r ≡ Err 1
-  unsettled (Ok names) i = absurd (none (length names) _ (record { count = i.count; is = i.is }))
-  unsettled (Err k) i = ap Err (bad_unsettled k i)
+fronts_or_not : (fuel left : ℕ) (bytes : List ℕ) → left ≤ fuel → FrontsOrNot left bytes
+fronts_or_not fuel zero bytes l = inl ([], bytes, no_front bytes)
+fronts_or_not zero (suc left) bytes l = absurd (omega arith)
+fronts_or_not (suc fuel) (suc left) bytes l =
+    by_first (suc left) bytes (omega arith) (λ e behind s. fronts_or_not fuel (suc left - e.times) behind (omega arith)) (entry_from (suc left) bytes) refl
+
+-- one line of entries alone is at the front
+abbrev OneLine : List Entry → List ℕ → List Entry → List ℕ → Type 0
+OneLine entries more others rest = (entries ≡ others) × (more ≡ rest)
+
+no_entries : (entries : List Entry) (bytes more : List ℕ) → AreFronts 0 bytes entries more → (entries ≡ []) × (more ≡ bytes)
+no_entries [] bytes more h = (refl, sym h.is)
+no_entries (e ∷ es) bytes more h = absurd (let n = sym (spread_more e es) ∙ h.as_many in let s = h.each.0.1.0 in omega arith)
+
+one_line_first : (left : ℕ) (bytes : List ℕ) (entries : List Entry) (more : List ℕ) (others : List Entry) (rest : List ℕ) →
+    ((l : ℕ) (b : List ℕ) (es : List Entry) (fs : List Entry) → l < left → AreFronts l b es more → AreFronts l b fs rest → OneLine es more fs rest) →
+    Parted left bytes entries more → Parted left bytes others rest → OneLine entries more others rest
+one_line_first left bytes entries more others rest again p q =
+    let same = some_pair_parts p.entry q.entry p.behind q.behind (sym (front_read left bytes p.entry p.behind p.front) ∙ front_read left bytes q.entry q.behind q.front) in
+    let fronts : AreFronts (left - q.entry.times) q.behind p.rest more =
+    subst (λ x. AreFronts (left - x.times) q.behind p.rest more) same.0 (subst (λ x. AreFronts (left - p.entry.times) x p.rest more) same.1 p.fronts) in
+    let some = q.front.times.0 in
+    let few = q.front.few in
+    let less : left - q.entry.times < left = omega arith in
+    let r = again (left - q.entry.times) q.behind p.rest q.rest less fronts q.fronts in
+    (p.are ∙ ap (λ x. x ∷ p.rest) same.0 ∙ ap (λ x. q.entry ∷ x) r.0 ∙ sym q.are, r.1)
+
+one_line_at : (fuel left : ℕ) (bytes : List ℕ) (entries : List Entry) (more : List ℕ) (others : List Entry) (rest : List ℕ) → left ≤ fuel →
+    AreFronts left bytes entries more → AreFronts left bytes others rest → OneLine entries more others rest
+one_line_at fuel zero bytes entries more others rest l h g =
+    let a = no_entries entries bytes more h in
+    let b = no_entries others bytes rest g in
+    (a.0 ∙ sym b.0, a.1 ∙ sym b.1)
+one_line_at zero (suc left) bytes entries more others rest l h g = absurd (omega arith)
+one_line_at (suc fuel) (suc left) bytes entries more others rest l h g =
+    one_line_first (suc left) bytes entries more others rest (λ m b es fs k i j. one_line_at fuel m b es more fs rest (omega arith) i j)
+    (parted (suc left) bytes entries more (omega arith) h) (parted (suc left) bytes others rest (omega arith) g)
+
+one_line : (n : ℕ) (bytes : List ℕ) (entries : List Entry) (more : List ℕ) (others : List Entry) (rest : List ℕ) → 0 < n →
+    BeginsEntered bytes n entries more → BeginsEntered bytes n others rest → OneLine entries more others rest
+one_line n bytes entries more others rest s h g =
+    one_line_at n n bytes entries more others rest (omega arith) (entered_read n bytes entries more s h) (entered_read n bytes others rest s g)
+
+-- ---- some answer
+
+behind_line : (entries : List Entry) (more : List ℕ) (bytes : List ℕ) (n : ℕ) (rest : List ℕ) → BeginsCounted bytes n rest → BeginsEntered rest n entries more →
+    (r : Result (List ℕ) ℕ) × Answers bytes r
+behind_line entries [] bytes n rest h b = (Ok (spread entries), alone_is bytes n rest h entries b)
+behind_line entries (c ∷ more) bytes n rest h b = (Err 3, third n rest entries c more h b)
+
+by_second : (bytes : List ℕ) (n : ℕ) (rest : List ℕ) → BeginsCounted bytes n rest → FrontsOrNot n rest → (r : Result (List ℕ) ℕ) × Answers bytes r
+by_second bytes n rest h (inl (entries, more, f)) = behind_line entries more bytes n rest h (entered_is n rest entries more h.count.0 f)
+by_second bytes n rest h (inr not) = (Err 2, second n rest h (λ entries more b. not entries more (entered_read n rest entries more h.count.0 b)))
+
+pub some_answer : SomeAnswer
+some_answer bytes = ⊎_elim (λ (n, rest, h). by_second bytes n rest h (fronts_or_not n n rest (omega arith))) (λ h. (Err 1, first h)) (counted_or_not bytes)
+
+-- ---- one answer
+
+told : List Entry → List ℕ → Result (List ℕ) ℕ
+told entries [] = Ok (spread entries)
+told entries (b ∷ more) = Err 3
+
+-- what an answer tells of the bytes
+data Found (bytes : List ℕ) (r : Result (List ℕ) ℕ) : Type 0 where
+  no_count : ((n : ℕ) (rest : List ℕ) → BeginsCounted bytes n rest → ⊥) → r ≡ Err 1 → Found bytes r
+  no_line : (n : ℕ) (rest : List ℕ) → BeginsCounted bytes n rest → BeginsUnentered rest n → r ≡ Err 2 → Found bytes r
+  line : (n : ℕ) (rest : List ℕ) (entries : List Entry) (behind : List ℕ) → BeginsCounted bytes n rest → BeginsEntered rest n entries behind → r ≡ told entries behind → Found bytes r
+
+found_bad : (bytes : List ℕ) (k : ℕ) → IsBadLine bytes k → Found bytes (Err k)
+unfolding told
+found_bad bytes k (first not) = no_count not refl
+found_bad bytes k (second n rest h not) = no_line n rest h not refl
+found_bad bytes k (third n rest entries b behind h w) = line n rest entries (b ∷ behind) h w refl
+
+found : (bytes : List ℕ) (r : Result (List ℕ) ℕ) → Answers bytes r → Found bytes r
+unfolding told
+found bytes (Ok names) i =
+    line (length names) (entries_text i.entries ++ line_feed) i.entries [] (record { count = i.count; is = i.is })
+    (record { each = i.each; as_many = ap length i.stand; is = refl }) (ap Ok (sym i.stand))
+found bytes (Err k) i = found_bad bytes k i
+
+module _ (bytes : List ℕ) (r s : Result (List ℕ) ℕ) where
+  line_told : (n : ℕ) (rest : List ℕ) (entries : List Entry) (behind : List ℕ) → BeginsCounted bytes n rest → BeginsEntered rest n entries behind → r ≡ told entries behind →
+      Found bytes s → r ≡ s
+  line_told n rest entries behind h b e (no_count not f) = absurd (not n rest h)
+  line_told n rest entries behind h b e (no_line m others i not f) =
+      let c = one_count bytes n m rest others h i in
+      absurd (not entries behind (subst (λ x. BeginsEntered x m entries behind) c.1 (subst (λ x. BeginsEntered rest x entries behind) c.0 b)))
+  line_told n rest entries behind h b e (line m others fs more i w f) =
+      let c = one_count bytes n m rest others h i in
+      let v = subst (λ x. BeginsEntered x m entries behind) c.1 (subst (λ x. BeginsEntered rest x entries behind) c.0 b) in
+      let l = one_line m others entries behind fs more i.count.0 v w in
+      e ∙ ap (λ x. told x behind) l.0 ∙ ap (told fs) l.1 ∙ sym f
+
+  none_told : (n : ℕ) (rest : List ℕ) → BeginsCounted bytes n rest → BeginsUnentered rest n → r ≡ Err 2 → Found bytes s → r ≡ s
+  none_told n rest h not e (no_count none f) = absurd (none n rest h)
+  none_told n rest h not e (no_line m others i none f) = e ∙ sym f
+  none_told n rest h not e (line m others fs more i w f) =
+      let c = one_count bytes m n others rest i h in
+      absurd (not fs more (subst (λ x. BeginsEntered x n fs more) c.1 (subst (λ x. BeginsEntered others x fs more) c.0 w)))
+
+  nothing_told : ((n : ℕ) (rest : List ℕ) → BeginsCounted bytes n rest → ⊥) → r ≡ Err 1 → Found bytes s → r ≡ s
+  nothing_told not e (no_count none f) = e ∙ sym f
+  nothing_told not e (no_line m others i none f) = absurd (not m others i)
+  nothing_told not e (line m others fs more i w f) = absurd (not m others i)
+
+  same_found : Found bytes r → Found bytes s → r ≡ s
+  same_found (no_count not e) g = nothing_told not e g
+  same_found (no_line n rest h not e) g = none_told n rest h not e g
+  same_found (line n rest entries behind h b e) g = line_told n rest entries behind h b e g
 
 pub one_answer : OneAnswer
-one_answer bytes r s a b = ⊎_elim
-    (λ (n, rest, h). settled bytes n rest h r a ∙ sym (settled bytes n rest h s b))
-    (λ none. unsettled bytes none r a ∙ sym (unsettled bytes none s b))
-    (counted_or_not bytes)
-
-pub read_again : ReadAgain
-read_again names c a r i = one_answer (schedule_text names) r (Ok names) i (record { count = c; each = a; is = refl })
+one_answer bytes r s a b = same_found bytes r s (found bytes r a) (found bytes s b)

@@ -3,10 +3,11 @@ use Rattle.std.proofs.Common.{ℕ, ◌≡◌, ◌≤◌, ◌⊎◌, arith, Bool,
 use Rattle.std.proofs.lemmas.Grind.{common_steps}
 use Rattle.mas_schedule.specs.declared.reading.LineFault.{LineFault}
 use Rattle.mas_schedule.specs.declared.reading.LineFault.TheVariants.{BadLine}
-use Rattle.mas_schedule.specs.Schedule.{line_feed, numbers_text, count_line, schedule_text, AllFromOne}
-use Rattle.mas_schedule.specs.Reading.{IsSchedule, IsBadLine, IsFaultAt, AreLines, EndsIn, EndsInNone, OneEnd}
+use Rattle.mas_schedule.specs.declared.entry.Entry.{Entry}
+use Rattle.mas_schedule.specs.Schedule.{line_feed, spread, entries_text, lines_text, printed}
+use Rattle.mas_schedule.specs.Reading.{AreEntries, IsSchedule, IsBadLine, IsFaultAt, AreLines, EndsIn, EndsInNone, OneEnd, EndPrinted}
 use Rattle.mas_schedule.specs.inner.Scanning.{last_two}
-use Rattle.mas_schedule.proofs.Scanned.{NoFeed, feed-append, feed-decimal, feed-numbers}
+use Rattle.mas_schedule.proofs.Told.{Lacks, lacks-append, lacks-decimal, feed_none, entries_lack, AreShort, printed-lines}
 use Rattle.mas_schedule.proofs.Answered.{one_answer}
 
 -- ---- whole lines stand before what is found
@@ -55,13 +56,13 @@ last_is text names last e h =
 
 -- ---- a schedule behind whole lines is found
 
-skip : (two one line words bytes : List ℕ) → NoFeed words → last_two two one line (words ++ bytes) ≡ last_two two one line bytes
+skip : (two one line words bytes : List ℕ) → Lacks 10 words → last_two two one line (words ++ bytes) ≡ last_two two one line bytes
 skip two one line [] bytes h = refl
 skip two one line (b ∷ words) bytes h =
     ap (λ c. if c then last_two one line (words ++ bytes) (words ++ bytes) else last_two two one line (words ++ bytes)) h.0 ∙ skip two one line words bytes h.1
 
 -- two whole lines
-two_lines : (two one : List ℕ) (first second : List ℕ) → NoFeed first → NoFeed second →
+two_lines : (two one : List ℕ) (first second : List ℕ) → Lacks 10 first → Lacks 10 second →
     last_two two one (first ++ 10 ∷ (second ++ line_feed)) (first ++ 10 ∷ (second ++ line_feed)) ≡ first ++ 10 ∷ (second ++ line_feed)
 two_lines two one first second h i =
     let both = first ++ 10 ∷ (second ++ line_feed) in
@@ -89,24 +90,32 @@ through two one line (b ∷ front) rest =
 regroup : (a b c d : List ℕ) → (a ++ (b ++ c)) ++ d ≡ (a ++ b) ++ (c ++ d)
 regroup a b c d = simp append_assoc
 
-schedule_lines : (names : List ℕ) → schedule_text names ≡ (codes "schedule " ++ decimal (length names)) ++ 10 ∷ (numbers_text names ++ line_feed)
-schedule_lines names = regroup (codes "schedule ") (decimal (length names)) line_feed (numbers_text names ++ line_feed)
+two_line_texts : (n : ℕ) (entries : List Entry) → lines_text n entries ≡ (codes "schedule " ++ decimal n) ++ 10 ∷ (entries_text entries ++ line_feed)
+two_line_texts n entries = regroup (codes "schedule ") (decimal n) line_feed (entries_text entries ++ line_feed)
 
-last_lines : (two one names : List ℕ) → length names ≤ 5000000 → AllFromOne 65535 names → last_two two one (schedule_text names) (schedule_text names) ≡ schedule_text names
-last_lines two one names l h =
-    let words : NoFeed (codes "schedule ") = (refl, (refl, (refl, (refl, (refl, (refl, (refl, (refl, (refl, tt))))))))) in
-    let first = feed-append (codes "schedule ") (decimal (length names)) words (feed-decimal (length names) (omega arith)) in
-    subst (λ x. last_two two one x x ≡ x) (sym (schedule_lines names))
-    (two_lines two one (codes "schedule " ++ decimal (length names)) (numbers_text names) first (feed-numbers 65535 names (omega arith) h))
+pub are_short : (entries : List Entry) → AreEntries entries → AreShort entries
+are_short [] h = tt
+are_short (e ∷ es) h =
+    let a = h.0.0.1 in
+    let t = h.0.1.1 in
+    (record { agent = omega arith; times = omega arith }, are_short es h.1)
+
+last_lines : (two one : List ℕ) (n : ℕ) (entries : List Entry) → n ≤ 5000000 → AreEntries entries → last_two two one (lines_text n entries) (lines_text n entries) ≡ lines_text n entries
+last_lines two one n entries l h =
+    let words : Lacks 10 (codes "schedule ") = (refl, (refl, (refl, (refl, (refl, (refl, (refl, (refl, (refl, tt))))))))) in
+    let first = lacks-append 10 (codes "schedule ") (decimal n) words (lacks-decimal 10 n feed_none (omega arith)) in
+    subst (λ x. last_two two one x x ≡ x) (sym (two_line_texts n entries))
+    (two_lines two one (codes "schedule " ++ decimal n) (entries_text entries) first (entries_lack 10 entries feed_none refl refl (are_short entries h)))
 
 behind : (front last names text : List ℕ) → AreLines front → IsSchedule last names → text ≡ front ++ last → last_two text text text text ≡ last
 behind front last names text (inl e) h is =
-    let same : text ≡ schedule_text names = is ∙ ap (λ x. x ++ last) e ∙ h.is in
-    subst (λ x. last_two x x x x ≡ x) (sym same) (last_lines (schedule_text names) (schedule_text names) names h.count.1 h.each) ∙ same ∙ sym h.is
+    let both = lines_text (length names) h.entries in
+    let same : text ≡ both = is ∙ ap (λ x. x ++ last) e ∙ h.is in
+    subst (λ x. last_two x x x x ≡ x) (sym same) (last_lines both both (length names) h.entries h.count.1 h.each) ∙ same ∙ sym h.is
 behind front last names text (inr (before, e)) h is =
     let same : text ≡ before ++ 10 ∷ last = is ∙ ap (λ x. x ++ last) e ∙ append_assoc before line_feed last in
     let p = through text text text before last in
-    ap (last_two text text text) same ∙ p.is ∙ ap (λ x. last_two p.more p.less x x) h.is ∙ last_lines p.more p.less names h.count.1 h.each ∙ sym h.is
+    ap (last_two text text text) same ∙ p.is ∙ ap (λ x. last_two p.more p.less x x) h.is ∙ last_lines p.more p.less (length names) h.entries h.count.1 h.each ∙ sym h.is
 
 pub end_found : (text names : List ℕ) → EndsIn text names → IsSchedule (last_two text text text text) names
 end_found text names h = subst (λ x. IsSchedule x names) (sym (behind h.front h.last names text h.lines h.schedule h.is)) h.schedule
@@ -125,3 +134,8 @@ same_names a names others e f = cc
 pub one_end : OneEnd
 one_end bytes names others h i =
     same_names (Ok names) names others refl (one_answer (last_two bytes bytes bytes bytes) (Ok names) (Ok others) (end_found bytes names h) (end_found bytes others i))
+
+pub end_printed : EndPrinted
+end_printed bytes names h =
+    let s = h.schedule in
+    ap printed (h.is ∙ ap (λ x. h.front ++ x) s.is) ∙ printed-lines h.front (length names) s.entries (are_short s.entries s.each) ∙ s.stand

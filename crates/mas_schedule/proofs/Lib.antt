@@ -1,5 +1,10 @@
-pub mod Scanned
 pub mod Numerals
+pub mod Fronts
 pub mod Lines
+pub mod Passing
 pub mod Answered
+pub mod Told
+pub mod RunLemmas
+pub mod Written
+pub mod Sizes
 pub mod Ends

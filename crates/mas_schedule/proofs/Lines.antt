@@ -1,17 +1,21 @@
 -- The two lines: what is read of them is what is written, and that is read.
-use Rattle.std.proofs.Common.{ℕ, zero, suc, ◌≡◌, ◌<◌, arith, List, [], ◌∷◌, ◌++◌, length, Option, None, Some, MatchOption, refl, ap, sym, subst, ◌∙◌, append_assoc, append-nil, decimal, codes}
-use Rattle.std.specs.Option.{option_and_then}
+use Rattle.std.proofs.Common.{ℕ, zero, suc, ◌≡◌, ◌⊎◌, ◌+◌, ◌-◌, ◌<◌, ◌≤◌, arith, List, [], ◌∷◌, ◌++◌, length, replicate, map, Option, None, Some, MatchOption, refl, ap, sym, subst, inl, inr, ◌∙◌, append_assoc, append-nil, decimal, codes}
+use Rattle.std.specs.List.{flat_map, join_with_byte}
+use Rattle.std.specs.Option.{option_map, option_and_then}
+use Rattle.std.proofs.lemmas.List.{length-append, length-replicate}
 use Rattle.std.proofs.lemmas.Option.{some_pair_parts}
+use Rattle.mas_schedule.specs.declared.entry.Entry.{Entry}
 use Rattle.mas_schedule.specs.declared.reading.Number.{Number}
-use Rattle.mas_schedule.specs.Schedule.{line_feed, numbers_text, AllFromOne}
-use Rattle.mas_schedule.specs.Reading.{AreNumbers, BeginsCounted, BeginsNumbered}
-use Rattle.mas_schedule.specs.inner.Scanning.{number_from, stop_of, numbers_from, view_number}
+use Rattle.mas_schedule.specs.Schedule.{line_feed, spread, entry_text, entries_text}
+use Rattle.mas_schedule.specs.Reading.{AreEntries, BeginsCounted, BeginsEntered, BeginsUnentered}
+use Rattle.mas_schedule.specs.inner.Scanning.{number_from, behind_byte, count_from, stop_of, entry_from, view_number}
 use Rattle.mas_schedule.proofs.Numerals.{IsNumber, number_is, number_read}
+use Rattle.mas_schedule.proofs.Fronts.{behind_is, behind_read, IsFront, front_is, front_read}
 
 -- ---- the first line
 
--- a number that a line feed ends is behind the word
-pub counted_is : (bytes digits : List ℕ) (n : ℕ) (rest : List ℕ) → bytes ≡ codes "schedule " ++ digits → IsNumber 5000000 10 digits n rest → BeginsCounted bytes n rest
+-- a number is behind the word, and a line feed ends it
+counted_is : (bytes digits : List ℕ) (n : ℕ) (rest : List ℕ) → bytes ≡ codes "schedule " ++ digits → IsNumber 5000000 digits n (10 ∷ rest) → BeginsCounted bytes n rest
 counted_is bytes digits n rest e h = record {
   count = (h.some, h.within);
   is = e ∙ ap (λ x. codes "schedule " ++ x) (h.is ∙ sym (append_assoc (decimal n) line_feed rest));
@@ -21,95 +25,126 @@ counted_is bytes digits n rest e h = record {
 behind_word : (digits others : List ℕ) → codes "schedule " ++ digits ≡ codes "schedule " ++ others → digits ≡ others
 behind_word digits others e = cc
 
-is_counted : (bytes digits : List ℕ) (n : ℕ) (rest : List ℕ) → bytes ≡ codes "schedule " ++ digits → BeginsCounted bytes n rest → IsNumber 5000000 10 digits n rest
+is_counted : (bytes digits : List ℕ) (n : ℕ) (rest : List ℕ) → bytes ≡ codes "schedule " ++ digits → BeginsCounted bytes n rest → IsNumber 5000000 digits n (10 ∷ rest)
 is_counted bytes digits n rest e h = record {
   some = h.count.0;
   within = h.count.1;
   is = behind_word _ _ (sym e ∙ h.is) ∙ append_assoc (decimal n) line_feed rest;
+  ends = refl;
 }
 
-pub count_read : (bytes digits : List ℕ) (n : ℕ) (rest : List ℕ) → bytes ≡ codes "schedule " ++ digits → BeginsCounted bytes n rest
-    → number_from 5000000 10 0 digits ≡ Some (n, rest)
-count_read bytes digits n rest e h = number_read 5000000 10 n digits rest (omega arith) (omega arith) (is_counted bytes digits n rest e h)
+abbrev numbered : ℕ → List ℕ → ℕ × List ℕ
+numbered n rest = (n, rest)
 
-pub counted : (bytes digits : List ℕ) (r : Option Number) → bytes ≡ codes "schedule " ++ digits → view_number r ≡ number_from 5000000 10 0 digits
+abbrev fed_after : ℕ × List ℕ → Option (ℕ × List ℕ)
+fed_after f = option_map (numbered f.0) (behind_byte 10 f.1)
+
+count_is : (digits : List ℕ) (n : ℕ) (rest : List ℕ) → count_from digits ≡ Some (n, rest) → IsNumber 5000000 digits n (10 ∷ rest)
+count_is digits n rest e = number (number_from 5000000 0 digits) refl e
+  where
+    fed : (k : ℕ) (behind : List ℕ) → IsNumber 5000000 digits k behind → (o : Option (List ℕ)) → behind_byte 10 behind ≡ o → option_map (numbered k) o ≡ Some (n, rest)
+        → IsNumber 5000000 digits n (10 ∷ rest)
+    fed k behind h None b f = absurd cc
+    fed k behind h (Some last) b f =
+        let p = some_pair_parts k n last rest f in
+        let g = subst (IsNumber 5000000 digits k) (behind_is 10 behind last b ∙ ap (λ x. 10 ∷ x) p.1) h in
+        subst (λ x. IsNumber 5000000 digits x (10 ∷ rest)) p.0 g
+
+    number : (o : Option (ℕ × List ℕ)) → number_from 5000000 0 digits ≡ o → option_and_then fed_after o ≡ Some (n, rest)
+        → IsNumber 5000000 digits n (10 ∷ rest)
+    number None u f = absurd cc
+    number (Some (k, behind)) u f = fed k behind (number_is 5000000 digits k behind (omega arith) u) (behind_byte 10 behind) refl f
+
+pub count_read : (bytes digits : List ℕ) (n : ℕ) (rest : List ℕ) → bytes ≡ codes "schedule " ++ digits → BeginsCounted bytes n rest → count_from digits ≡ Some (n, rest)
+count_read bytes digits n rest e h =
+    ap (option_and_then fed_after) (number_read 5000000 n digits (10 ∷ rest) (omega arith) (is_counted bytes digits n rest e h))
+
+pub counted : (bytes digits : List ℕ) (r : Option Number) → bytes ≡ codes "schedule " ++ digits → view_number r ≡ count_from digits
     → MatchOption r ((n : ℕ) (rest : List ℕ) → BeginsCounted bytes n rest → ⊥) (λ f. BeginsCounted bytes f.value f.behind.now)
 counted bytes digits None e v = λ n rest h. let r = count_read bytes digits n rest e h in cc
-counted bytes digits (Some f) e v = counted_is bytes digits f.value f.behind.now e (number_is 5000000 10 0 digits f.value f.behind.now (omega arith) (omega arith) (sym v))
+counted bytes digits (Some f) e v = counted_is bytes digits f.value f.behind.now e (count_is digits f.value f.behind.now (sym v))
+
+-- the first line that is there
+pub counted_by : (bytes digits : List ℕ) (n : ℕ) (rest : List ℕ) → bytes ≡ codes "schedule " ++ digits → count_from digits ≡ Some (n, rest) → BeginsCounted bytes n rest
+counted_by bytes digits n rest e f = counted_is bytes digits n rest e (count_is digits n rest f)
 
 -- ---- the second line
 
--- numbers, each with the byte that ends it
-abbrev lined : List ℕ → List ℕ → List ℕ
+-- entries, each with the byte that ends it
+abbrev pub lined : List Entry → List ℕ → List ℕ
 lined [] more = more
-lined (n ∷ ns) more = decimal n ++ stop_of (length ns) ∷ lined ns more
+lined (e ∷ es) more = entry_text e ++ stop_of (length (spread es)) ∷ lined es more
 
-lined_is : (n : ℕ) (ns more : List ℕ) → lined (n ∷ ns) more ≡ numbers_text (n ∷ ns) ++ (line_feed ++ more)
-lined_is n [] more = ap (λ x. x ++ 10 ∷ more) (sym (append-nil (decimal n)))
-lined_is n (m ∷ ns) more =
-    ap (λ x. decimal n ++ 32 ∷ x) (lined_is m ns more)
-    ∙ sym (append_assoc (decimal n) (32 ∷ numbers_text (m ∷ ns)) (10 ∷ more))
+-- entries that stand for so many numbers are at the front of the bytes, each ended, and this is behind them
+pub record AreFronts (left : ℕ) (bytes : List ℕ) (entries : List Entry) (more : List ℕ) : Type 0 where
+  pub each : AreEntries entries
+  pub as_many : length (spread entries) ≡ left
+  pub is : bytes ≡ lined entries more
 
-stop_low : (left : ℕ) → stop_of left < 48
-stop_low zero = omega arith
-stop_low (suc left) = omega arith
+-- an entry stands for as many numbers as it tells
+pub spread_more : (e : Entry) (es : List Entry) → length (spread (e ∷ es)) ≡ e.times + length (spread es)
+spread_more e es = length-append (replicate e.times e.agent) (spread es) ∙ ap (λ n. n + length (spread es)) (length-replicate e.times e.agent)
 
--- such numbers are at the front of the bytes, and these are all
-record AreRead (left : ℕ) (names bytes all more : List ℕ) : Type 0 where
-  news : List ℕ
-  numbers : AreNumbers left news
-  is : bytes ≡ lined news more
-  all_are : all ≡ names ++ news
+-- none are left
+pub no_front : (bytes : List ℕ) → AreFronts 0 bytes [] bytes
+no_front bytes = record { each = tt; as_many = refl; is = refl }
 
-one_more : (left n : ℕ) (names bytes behind all more : List ℕ) → IsNumber 65535 (stop_of left) bytes n behind → AreRead left (names ++ n ∷ []) behind all more
-    → AreRead (suc left) names bytes all more
-one_more left n names bytes behind all more h r = record {
-  news = n ∷ r.news;
-  numbers = record { as_many = ap suc r.numbers.as_many; each = ((h.some, h.within), r.numbers.each) };
-  is = h.is ∙ ap (λ x. decimal n ++ stop_of x ∷ behind) (sym r.numbers.as_many) ∙ ap (λ x. decimal n ++ stop_of (length r.news) ∷ x) r.is;
-  all_are = r.all_are ∙ append_assoc names (n ∷ []) r.news;
-}
-
-are_read : (left : ℕ) (names bytes all more : List ℕ) → numbers_from left names bytes ≡ Some (all, more) → AreRead left names bytes all more
-are_read zero names bytes all more e =
-    let p = some_pair_parts names all bytes more e in
-    record { news = []; numbers = record { as_many = refl; each = tt }; is = p.1; all_are = sym p.0 ∙ sym (append-nil names) }
-are_read (suc left) names bytes all more e = go (number_from 65535 (stop_of left) 0 bytes) refl e (λ m j f. are_read left m j all more f)
-  where
-    go : (o : Option (ℕ × List ℕ)) → number_from 65535 (stop_of left) 0 bytes ≡ o
-        → option_and_then (λ f. numbers_from left (names ++ f.0 ∷ []) f.1) o ≡ Some (all, more)
-        → ((m j : List ℕ) → numbers_from left m j ≡ Some (all, more) → AreRead left m j all more) → AreRead (suc left) names bytes all more
-    go None t e again = cc
-    go (Some (n, behind)) t e again =
-        one_more left n names bytes behind all more (number_is 65535 (stop_of left) 0 bytes n behind (omega arith) (omega arith) t)
-        (again (names ++ n ∷ []) behind e)
-
-numbers_read : (ns names bytes more : List ℕ) → AllFromOne 65535 ns → bytes ≡ lined ns more → numbers_from (length ns) names bytes ≡ Some (names ++ ns, more)
-numbers_read [] names bytes more h e = ap (λ x. Some (names, x)) e ∙ ap (λ x. Some (x, more)) (sym (append-nil names))
-numbers_read (n ∷ ns) names bytes more h e =
-    let r = number_read 65535 (stop_of (length ns)) n bytes (lined ns more) (stop_low (length ns)) (omega arith) (record { some = h.0.0; within = h.0.1; is = e }) in
-    ap (option_and_then (λ f. numbers_from (length ns) (names ++ f.0 ∷ []) f.1)) r
-    ∙ numbers_read ns (names ++ n ∷ []) (lined ns more) more h.1 refl
-    ∙ ap (λ x. Some (x, more)) (append_assoc names (n ∷ []) ns)
-
--- what is read is a line of so many numbers
-pub numbered_is : (n : ℕ) (bytes names more : List ℕ) → 0 < n → numbers_from n [] bytes ≡ Some (names, more) → BeginsNumbered bytes n names more
-numbered_is n bytes names more s e = of (are_read n [] bytes names more e)
-  where
-    ends : (ns : List ℕ) → length ns ≡ n → lined ns more ≡ numbers_text ns ++ (line_feed ++ more)
-    ends [] l = absurd (omega arith)
-    ends (m ∷ ns) l = lined_is m ns more
-
-    of : AreRead n [] bytes names more → BeginsNumbered bytes n names more
-    of r = record {
-      numbers = record { as_many = ap length r.all_are ∙ r.numbers.as_many; each = subst (AllFromOne 65535) (sym r.all_are) r.numbers.each };
-      is = r.is ∙ ends r.news r.numbers.as_many ∙ ap (λ x. numbers_text x ++ (line_feed ++ more)) (sym r.all_are);
+-- one more at the front
+pub front_more : (left : ℕ) (bytes : List ℕ) (e : Entry) (behind : List ℕ) (es : List Entry) (more : List ℕ) →
+    IsFront left bytes e behind → AreFronts (left - e.times) behind es more → AreFronts left bytes (e ∷ es) more
+front_more left bytes e behind es more h r =
+    let t = h.few in
+    let n = r.as_many in
+    record {
+      each = ((h.agent, h.times), r.each);
+      as_many = spread_more e es ∙ (omega arith);
+      is = h.is ∙ ap (λ x. entry_text e ++ stop_of x ∷ behind) (sym r.as_many) ∙ ap (λ x. entry_text e ++ stop_of (length (spread es)) ∷ x) r.is;
     }
 
--- and such a line is read
-pub numbered_read : (n : ℕ) (bytes names more : List ℕ) → 0 < n → BeginsNumbered bytes n names more → numbers_from n [] bytes ≡ Some (names, more)
-numbered_read n bytes names more s h = ap (λ x. numbers_from x [] bytes) (sym h.numbers.as_many) ∙ at names (omega (arith, h.numbers.as_many)) h.numbers.each h.is
+-- the first of them, where numbers are left
+pub record Parted (left : ℕ) (bytes : List ℕ) (entries : List Entry) (more : List ℕ) : Type 0 where
+  pub entry : Entry
+  pub rest : List Entry
+  pub behind : List ℕ
+  pub are : entries ≡ entry ∷ rest
+  pub front : IsFront left bytes entry behind
+  pub fronts : AreFronts (left - entry.times) behind rest more
+
+pub parted : (left : ℕ) (bytes : List ℕ) (entries : List Entry) (more : List ℕ) → 0 < left → AreFronts left bytes entries more → Parted left bytes entries more
+parted left bytes [] more l r = absurd (let n = r.as_many in omega arith)
+parted left bytes (e ∷ es) more l r =
+    let n = sym (spread_more e es) ∙ r.as_many in
+    let few : e.times ≤ left = omega arith in
+    let rest : length (spread es) ≡ left - e.times = omega arith in
+    record {
+      entry = e;
+      rest = es;
+      behind = lined es more;
+      are = refl;
+      front = record { agent = r.each.0.0; times = r.each.0.1; few = few; is = r.is ∙ ap (λ x. entry_text e ++ stop_of x ∷ lined es more) rest };
+      fronts = record { each = r.each.1; as_many = rest; is = refl };
+    }
+
+-- such entries are those of a line, if they stand for any number
+some_more : (e : Entry) (es : List Entry) → AreEntries (e ∷ es) → (n : ℕ) × (length (spread (e ∷ es)) ≡ suc n)
+some_more e es h = some (length (spread (e ∷ es))) (let s = h.0.1.0 in let m = spread_more e es in omega arith)
   where
-    at : (ns : List ℕ) → 0 < length ns → AllFromOne 65535 ns → bytes ≡ numbers_text ns ++ (line_feed ++ more) → numbers_from (length ns) [] bytes ≡ Some (ns, more)
-    at [] l a e = absurd (omega arith)
-    at (m ∷ ns) l a e = numbers_read (m ∷ ns) [] bytes more a (e ∙ sym (lined_is m ns more))
+    some : (n : ℕ) → 0 < n → (m : ℕ) × (n ≡ suc m)
+    some zero l = absurd (omega arith)
+    some (suc m) l = (m, refl)
+
+pub lined_is : (e : Entry) (es : List Entry) (more : List ℕ) → AreEntries (e ∷ es) → lined (e ∷ es) more ≡ entries_text (e ∷ es) ++ (line_feed ++ more)
+lined_is e [] more h = refl
+lined_is e (f ∷ es) more h =
+    let s = some_more f es h.1 in
+    ap (λ n. entry_text e ++ stop_of n ∷ lined (f ∷ es) more) s.1
+    ∙ ap (λ x. entry_text e ++ 32 ∷ x) (lined_is f es more h.1)
+    ∙ sym (append_assoc (entry_text e) (32 ∷ entries_text (f ∷ es)) (line_feed ++ more))
+
+pub entered_is : (n : ℕ) (bytes : List ℕ) (entries : List Entry) (more : List ℕ) → 0 < n → AreFronts n bytes entries more → BeginsEntered bytes n entries more
+entered_is n bytes [] more l r = absurd (let m = r.as_many in omega arith)
+entered_is n bytes (e ∷ es) more l r = record { each = r.each; as_many = r.as_many; is = r.is ∙ lined_is e es more r.each }
+
+pub entered_read : (n : ℕ) (bytes : List ℕ) (entries : List Entry) (more : List ℕ) → 0 < n → BeginsEntered bytes n entries more → AreFronts n bytes entries more
+entered_read n bytes [] more l r = absurd (let m = r.as_many in omega arith)
+entered_read n bytes (e ∷ es) more l r = record { each = r.each; as_many = r.as_many; is = r.is ∙ sym (lined_is e es more r.each) }

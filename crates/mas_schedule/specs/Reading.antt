@@ -1,43 +1,56 @@
 -- Which bytes are a schedule, and which line of other bytes is the first that is not as it has to be.
-use Rattle.std.specs.Prelude.{ℕ, ◌≡◌, ◌⊎◌, ◌<◌, ◌≤◌, List, [], ◌∷◌, ◌++◌, length, Result, Ok, Err}
+use Rattle.std.specs.Prelude.{ℕ, ◌≡◌, ◌≢◌, ◌⊎◌, ◌<◌, ◌≤◌, ◌^◌, List, [], ◌∷◌, ◌++◌, length, Result, Ok, Err}
+use Rattle.mas_schedule.specs.declared.entry.Entry.{Entry}
 use Rattle.mas_schedule.specs.declared.reading.LineFault.{LineFault}
 use Rattle.mas_schedule.specs.declared.reading.LineFault.TheVariants.{Memory, BadLine}
-use Rattle.mas_schedule.specs.Schedule.{line_feed, numbers_text, count_line, schedule_text, AllFromOne, printed}
+use Rattle.mas_schedule.specs.Schedule.{IsVersion, spread, entries_text, entries_of, runs, line_feed, count_line}
+use Rattle.mas_schedule.specs.Schedule.{lines_text, schedule_text, printed, AllFromOne}
 
--- how many numbers a schedule may have
+-- how many numbers a schedule may have, and one entry
 abbrev pub IsCount : ℕ → Type 0
 IsCount n = (0 < n) × (n ≤ 5000000)
 
--- so many numbers, each of an agent
-pub record AreNumbers (n : ℕ) (names : List ℕ) : Type 0 where
-  pub as_many : length names ≡ n
-  pub each : AllFromOne 65535 names
+-- the number of an agent
+abbrev pub IsAgent : ℕ → Type 0
+IsAgent n = (0 < n) × (n ≤ 65535)
 
--- the bytes are the two lines of these numbers, and nothing else
+-- each of an agent, once or more often
+abbrev pub AreEntries : List Entry → Type 0
+AreEntries [] = Unit {0}
+AreEntries (e ∷ es) = (IsAgent e.agent × IsCount e.times) × AreEntries es
+
+-- the bytes are the line of how many numbers these are and a line of entries that stand for them, and nothing else
 pub record IsSchedule (bytes names : List ℕ) : Type 0 where
   pub count : IsCount (length names)
-  pub each : AllFromOne 65535 names
-  pub is : bytes ≡ schedule_text names
+  pub entries : List Entry
+  pub each : AreEntries entries
+  pub stand : spread entries ≡ names
+  pub is : bytes ≡ lines_text (length names) entries
 
 -- the bytes begin with the line `schedule N`, and this is behind it
 pub record BeginsCounted (bytes : List ℕ) (n : ℕ) (rest : List ℕ) : Type 0 where
   pub count : IsCount n
   pub is : bytes ≡ count_line n ++ rest
 
--- the bytes begin with the line of so many numbers, and this is behind it
-pub record BeginsNumbered (bytes : List ℕ) (n : ℕ) (names more : List ℕ) : Type 0 where
-  pub numbers : AreNumbers n names
-  pub is : bytes ≡ numbers_text names ++ (line_feed ++ more)
+-- the bytes begin with a line of entries that stand for so many numbers, and this is behind it
+pub record BeginsEntered (bytes : List ℕ) (n : ℕ) (entries : List Entry) (more : List ℕ) : Type 0 where
+  pub each : AreEntries entries
+  pub as_many : length (spread entries) ≡ n
+  pub is : bytes ≡ entries_text entries ++ (line_feed ++ more)
+
+-- no such line is at the front
+abbrev pub BeginsUnentered : List ℕ → ℕ → Type 0
+BeginsUnentered bytes n = (entries : List Entry) (more : List ℕ) → BeginsEntered bytes n entries more → ⊥
 
 -- The number of the first line that is not as it has to be.
 pub data IsBadLine (bytes : List ℕ) : ℕ → Type 0 where
   -- no line `schedule N` is at the front
   first : ((n : ℕ) (rest : List ℕ) → BeginsCounted bytes n rest → ⊥) → IsBadLine bytes 1
-  -- such a line is, but no line of N numbers is behind it
-  second : (n : ℕ) (rest : List ℕ) → BeginsCounted bytes n rest → ((names more : List ℕ) → BeginsNumbered rest n names more → ⊥) → IsBadLine bytes 2
+  -- such a line is, but no line of entries that stand for N numbers is behind it
+  second : (n : ℕ) (rest : List ℕ) → BeginsCounted bytes n rest → BeginsUnentered rest n → IsBadLine bytes 2
   -- something is behind the two lines
-  third : (names : List ℕ) (b : ℕ) (more : List ℕ) → IsCount (length names) → AllFromOne 65535 names → bytes ≡ schedule_text names ++ b ∷ more
-      → IsBadLine bytes 3
+  third : (n : ℕ) (rest : List ℕ) (entries : List Entry) (b : ℕ) (more : List ℕ)
+      → BeginsCounted bytes n rest → BeginsEntered rest n entries (b ∷ more) → IsBadLine bytes 3
 
 -- why bytes gave no schedule; memory may lack anywhere
 abbrev pub IsFaultAt : List ℕ → LineFault → Type 0
@@ -77,14 +90,39 @@ OneAnswer = (bytes : List ℕ) (r s : Result (List ℕ) ℕ) → Answers bytes r
 abbrev pub SomeAnswer : Type 0
 SomeAnswer = (bytes : List ℕ) → (r : Result (List ℕ) ℕ) × Answers bytes r
 
--- the text of numbers is a schedule, of these numbers alone
-abbrev pub ReadAgain : Type 0
-ReadAgain = (names : List ℕ) → IsCount (length names) → AllFromOne 65535 names → (r : Result (List ℕ) ℕ) → Answers (schedule_text names) r → r ≡ Ok names
-
--- they are the numbers in the last line of each text that ends in it
-abbrev pub PrintedLast : Type 0
-PrintedLast = (before names : List ℕ) → AllFromOne 65535 names → printed (before ++ schedule_text names) ≡ names
-
 -- what the last two lines of a text tell is one list of numbers
 abbrev pub OneEnd : Type 0
 OneEnd = (bytes names others : List ℕ) → EndsIn bytes names → EndsIn bytes others → names ≡ others
+
+-- those are the numbers for which the entries in its last line stand
+abbrev pub EndPrinted : Type 0
+EndPrinted = (bytes names : List ℕ) → EndsIn bytes names → printed bytes ≡ names
+
+-- the text of numbers is a schedule, of these numbers alone, in both versions
+abbrev pub ReadAgain : Type 0
+ReadAgain = (version : ℕ) (names : List ℕ) → IsCount (length names) → AllFromOne 65535 names → (r : Result (List ℕ) ℕ) →
+    Answers (schedule_text version names) r → r ≡ Ok names
+
+-- they are the numbers in the last line of each text that ends in it
+abbrev pub PrintedLast : Type 0
+PrintedLast = (version : ℕ) (before names : List ℕ) → AllFromOne 65535 names → length names < 2 ^ 64 → printed (before ++ schedule_text version names) ≡ names
+
+-- ---- the entries of numbers
+
+-- the entries that numbers have stand for these numbers
+abbrev pub EntriesStand : Type 0
+EntriesStand = (version : ℕ) (names : List ℕ) → spread (entries_of version names) ≡ names
+
+-- each stands for a number, and no two neighbours for the same
+abbrev pub AreMaximal : List Entry → Type 0
+AreMaximal [] = Unit {0}
+AreMaximal (e ∷ []) = 0 < e.times
+AreMaximal (e ∷ f ∷ es) = (0 < e.times) × (e.agent ≢ f.agent) × AreMaximal (f ∷ es)
+
+-- runs are maximal
+abbrev pub RunsMaximal : Type 0
+RunsMaximal = (names : List ℕ) → AreMaximal (runs names)
+
+-- and the only entries for their numbers that are
+abbrev pub RunsAlone : Type 0
+RunsAlone = (entries : List Entry) → AreMaximal entries → runs (spread entries) ≡ entries

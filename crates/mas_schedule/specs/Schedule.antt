@@ -1,49 +1,101 @@
--- The two lines of a schedule, and how the numbers of a text's last line are read.
-use Rattle.std.specs.Prelude.{ℕ, ◌<◌, ◌≤◌, ◌+◌, ◌*◌, ◌-◌, nat_eq, nat_le, ◌&&◌, if◌then◌else◌, Option, None, Some}
-use Rattle.std.specs.Prelude.{List, [], ◌∷◌, ◌++◌, length, codes, decimal}
+-- The two lines of a schedule, in each version, and the numbers for which the last line of a text stands.
+use Rattle.std.specs.Prelude.{ℕ, ◌≡◌, ◌<◌, ◌≤◌, ◌≢◌, ◌+◌, ◌⊎◌, nat_eq, Bool, if◌then◌else◌, List, [], ◌∷◌, ◌++◌, length, map, replicate, codes, decimal}
+use Rattle.std.specs.List.{flat_map, join_with_byte, list_any, slice_split, before_first, after_first}
+use Rattle.std.specs.Str.Parse.{digits_value}
+use Rattle.mas_schedule.specs.declared.entry.Entry.{Entry}
+
+-- ---- entries
+
+-- an agent's number so many times, one after the other
+abbrev pub entry : ℕ → ℕ → Entry
+entry agent times = record { agent = agent; times = times }
+
+abbrev pub once : ℕ → Entry
+once agent = entry agent 1
+
+-- the numbers for which entries stand
+abbrev pub spread : List Entry → List ℕ
+spread entries = flat_map (λ e. replicate e.times e.agent) entries
+
+-- how often, where it is not once
+abbrev pub times_text : ℕ → List ℕ
+times_text times = if nat_eq times 1 then [] else codes "x" ++ decimal times
+
+-- `A`, or `AxK`
+abbrev pub entry_text : Entry → List ℕ
+entry_text e = decimal e.agent ++ times_text e.times
+
+-- entries separated by one space (32)
+abbrev pub entries_text : List Entry → List ℕ
+entries_text entries = join_with_byte 32 (map entry_text entries)
+
+-- ---- the entries of numbers
+
+-- one for each number
+abbrev pub singles : List ℕ → List Entry
+singles names = map once names
+
+-- one for each maximal run of equal numbers, the first of which has begun as told
+abbrev pub runs_on : Entry → List ℕ → List Entry
+runs_on run [] = run ∷ []
+runs_on run (n ∷ ns) = if nat_eq n run.agent then runs_on (entry run.agent (run.times + 1)) ns else run ∷ runs_on (once n) ns
+
+abbrev pub runs : List ℕ → List Entry
+runs [] = []
+runs (n ∷ ns) = runs_on (once n) ns
+
+-- what is written has one of these versions
+abbrev pub IsVersion : ℕ → Type 0
+IsVersion version = (version ≡ 1) ⊎ (version ≡ 2)
+
+abbrev pub entries_of : ℕ → List ℕ → List Entry
+entries_of version names = if nat_eq version 1 then singles names else runs names
+
+-- ---- the two lines
 
 abbrev pub line_feed : List ℕ
 line_feed = 10 ∷ []
 
-abbrev pub more_numbers : List ℕ → List ℕ
-more_numbers [] = []
-more_numbers (n ∷ ns) = 32 ∷ (decimal n ++ more_numbers ns)
-
--- numbers separated by one space
-abbrev pub numbers_text : List ℕ → List ℕ
-numbers_text [] = []
-numbers_text (n ∷ ns) = decimal n ++ more_numbers ns
-
 abbrev pub count_line : ℕ → List ℕ
 count_line n = codes "schedule " ++ (decimal n ++ line_feed)
 
--- `schedule N`, and then N numbers
-abbrev pub schedule_text : List ℕ → List ℕ
-schedule_text names = count_line (length names) ++ (numbers_text names ++ line_feed)
+-- `schedule N`, and then entries
+abbrev pub lines_text : ℕ → List Entry → List ℕ
+lines_text n entries = count_line n ++ (entries_text entries ++ line_feed)
 
--- the numbers of a line, each decimal without leading zeros, from 1 to the most, separated by one space:
--- given are the numbers that are read, and what is read of the next
-abbrev pub scan : ℕ → List ℕ → Option ℕ → List ℕ → Option (List ℕ)
-scan most names None [] = None
-scan most names (Some n) [] = Some (names ++ n ∷ [])
-scan most names None (b ∷ bs) = if nat_le 49 b && (nat_le b 57 && nat_le (b - 48) most) then scan most names (Some (b - 48)) bs else None
-scan most names (Some n) (b ∷ bs) =
-    if nat_eq b 32 then scan most (names ++ n ∷ []) None bs
-    else if nat_le 48 b && (nat_le b 57 && nat_le (n * 10 + (b - 48)) most) then scan most names (Some (n * 10 + (b - 48))) bs
-    else None
+-- the two lines of these numbers
+abbrev pub schedule_text : ℕ → List ℕ → List ℕ
+schedule_text version names = lines_text (length names) (entries_of version names)
+
+-- ---- the numbers of a text
 
 -- the last line that ends in a line feed: the last one so far, and the bytes since
 abbrev pub last_line : List ℕ → List ℕ → List ℕ → List ℕ
 last_line last line [] = last
 last_line last line (b ∷ bs) = if nat_eq b 10 then last_line line [] bs else last_line last (line ++ b ∷ []) bs
 
-abbrev pub names_or_none : Option (List ℕ) → List ℕ
-names_or_none None = []
-names_or_none (Some names) = names
+abbrev pub is_space : ℕ → Bool
+is_space b = nat_eq b 32
 
--- the numbers in the last line of a text
+abbrev pub is_times : ℕ → Bool
+is_times b = nat_eq b 120
+
+-- the entry of a word `A` or `AxK`
+abbrev pub entry_told : List ℕ → Entry
+entry_told word =
+    if list_any is_times word then entry (digits_value 10 (before_first is_times word)) (digits_value 10 (after_first is_times word))
+    else once (digits_value 10 word)
+
+-- the entries of a line, which has none where it is empty
+abbrev pub entries_told : List ℕ → List Entry
+entries_told [] = []
+entries_told (b ∷ bs) = map entry_told (slice_split is_space (b ∷ bs))
+
+-- the numbers for which the entries in the last line of a text stand
 abbrev pub printed : List ℕ → List ℕ
-printed text = names_or_none (scan 65535 [] None (last_line [] [] text))
+printed text = spread (entries_told (last_line [] [] text))
+
+-- ---- numbers of agents
 
 -- all of them are from 1 to the most
 abbrev pub AllFromOne : ℕ → List ℕ → Type 0

@@ -1,14 +1,15 @@
 //! A schedule read from the bytes of its two lines.
 
-ghost use Rattle.std.specs.Prelude.{◌≡◌, ◌≤◌, ℕ, List, [], MatchOption, IfOk, IfErr};
+ghost use Rattle.std.specs.Prelude.{◌≡◌, ◌<◌, ◌≤◌, ◌-◌, ℕ, List, [], true, option_map, MatchOption, IfOk, IfErr};
 ghost use Rattle.mas_schedule.specs.Reading.{IsSchedule, IsFaultAt, BeginsCounted};
 ghost use Rattle.mas_schedule.specs.inner.Scanning as spec;
 
+use crate::entry::{Entry, spread};
 use asl_term::sequence::{Seq, Starved};
 use asl_term::syntax::Numbers;
 use std::alloc::Global;
 
-/// How many numbers a schedule may have.
+/// How many numbers a schedule may have, and one entry.
 const MOST_NUMBERS: u64 = 5_000_000;
 
 /// The greatest number of an agent.
@@ -31,23 +32,34 @@ impl From<Starved> for LineFault {
     }
 }
 
-/// A number, and what is behind the byte that ends it.
+/// A number, and what is behind it.
 #[derive(Clone, Copy)]
 pub struct Number<'a> {
     pub value: u64,
     pub behind: &'a [u8],
 }
 
-/// A number with one more digit.
-fn with_digit(most: u64, number: u64, byte: u8) -> Option<u64>
+/// An entry, and what is behind the byte that ends it.
+#[derive(Clone, Copy)]
+struct Front<'a> {
+    entry: Entry,
+    behind: &'a [u8],
+}
+
+fn is_digit(byte: u8) -> bool
+    ensures { result ≡ spec.is_digit byte }
+{
+    byte >= b'0' && byte <= b'9'
+}
+
+/// A number with one digit more.
+fn with_digit(most: u64, number: u64, digit: u8) -> Option<u64>
     requires most { most ≤ 5000000 }
     requires number { number ≤ most }
-    ensures { result ≡ spec.with_digit most number byte }
+    requires digit { spec.is_digit digit ≡ true }
+    ensures { result ≡ spec.with_digit most number digit }
 {
-    if byte < b'0' || byte > b'9' {
-        return None;
-    }
-    let value = number * 10 + (byte - b'0') as u64;
+    let value = number * 10 + (digit - b'0') as u64;
     if value >= 1 && value <= most {
         Some(value)
     } else {
@@ -64,21 +76,41 @@ fn ended(value: u64, behind: &[u8]) -> Option<Number<'_>>
     Some(Number { value, behind })
 }
 
-/// The number from 1 to `most` at the front that this byte ends.
-fn number_before(most: u64, stop: u8, bytes: &[u8]) -> Option<Number<'_>>
+/// The number from 1 to `most` whose digits are at the front.
+fn number_before(most: u64, bytes: &[u8]) -> Option<Number<'_>>
     requires { most ≤ 5000000 }
-    ensures { spec.view_number result ≡ spec.number_from most stop 0 bytes.now }
+    ensures { spec.view_number result ≡ spec.number_from most 0 bytes.now }
 {
     let mut number = 0;
     let mut rest = bytes;
     'digits: while let Some((byte, behind)) = rest.split_first() {
-        if *byte == stop {
-            return ended(number, behind);
+        if !is_digit(*byte) {
+            return ended(number, rest);
         }
         number = with_digit(most, number, *byte)?;
         rest = behind;
     }
-    None
+    ended(number, rest)
+}
+
+/// What is behind this byte at the front.
+fn behind_byte(byte: u8, bytes: &[u8]) -> Option<&[u8]>
+    ensures { option_map (λ t. t.now) result ≡ spec.behind_byte byte bytes.now }
+{
+    let (first, behind) = bytes.split_first()?;
+    if *first == byte { Some(behind) } else { None }
+}
+
+/// The number that a line feed ends.
+fn count_before(digits: &[u8]) -> Option<Number<'_>>
+    ensures { spec.view_number result ≡ spec.count_from digits.now }
+{
+    let number = number_before(MOST_NUMBERS, digits)?;
+    let behind = behind_byte(b'\n', number.behind)?;
+    Some(Number {
+        value: number.value,
+        behind,
+    })
 }
 
 /// The first line.
@@ -86,30 +118,66 @@ fn count(bytes: &[u8]) -> Option<Number<'_>>
     ensures { MatchOption result ((n : ℕ) (rest : List ℕ) → BeginsCounted bytes.now n rest → ⊥) (λ f. BeginsCounted bytes.now f.value f.behind.now) }
 {
     let digits = bytes.strip_prefix(b"schedule ")?;
-    number_before(MOST_NUMBERS, b'\n', digits)
+    count_before(digits)
 }
 
+/// How often, at the front of what is behind the number of an agent: once, or as an `x` and a number tell.
+fn times_before(bytes: &[u8]) -> Option<Number<'_>>
+    ensures { spec.view_number result ≡ spec.times_from bytes.now }
+{
+    let Some(digits) = behind_byte(b'x', bytes) else {
+        return Some(Number {
+            value: 1,
+            behind: bytes,
+        });
+    };
+    let times = number_before(MOST_NUMBERS, digits)?;
+    if times.value == 1 {
+        return None;
+    }
+    Some(times)
+}
+
+/// What ends an entry, by how many numbers have to be behind it.
 fn stop_of(left: u64) -> u8
     ensures { result ≡ spec.stop_of left }
 {
     if left == 0 { b'\n' } else { b' ' }
 }
 
-/// The line of so many numbers, which has to be the last.
+/// The entry at the front of a line of so many numbers.
+fn entry_before(left: u64, bytes: &[u8]) -> Option<Front<'_>>
+    ensures { spec.view_front result ≡ spec.entry_from left bytes.now }
+{
+    let agent = number_before(MOST_AGENT, bytes)?;
+    let times = times_before(agent.behind)?;
+    if left < times.value {
+        return None;
+    }
+    let behind = behind_byte(stop_of(left - times.value), times.behind)?;
+    let entry = Entry {
+        agent: agent.value,
+        times: times.value,
+    };
+    Some(Front { entry, behind })
+}
+
+/// The line of entries that stand for so many numbers, which has to be the last.
 fn numbers(alloc: Global, count: u64, bytes: &[u8]) -> Result<Numbers, LineFault>
-    ensures ok { IfOk result (λ names. spec.alone (spec.numbers_from count [] bytes.now) ≡ Ok names) }
-    ensures err { IfErr result (spec.Tells (spec.alone (spec.numbers_from count [] bytes.now))) }
+    requires { 0 < count }
+    ensures ok { IfOk result (spec.IsLine count bytes.now) }
+    ensures err { IfErr result (spec.IsNoLineBy count bytes.now) }
 {
     let mut names = Seq::new(alloc);
     let mut rest = bytes;
     let mut left = count;
-    'numbers: while left > 0 {
-        left -= 1;
-        let Some(number) = number_before(MOST_AGENT, stop_of(left), rest) else {
+    'entries: while left > 0 {
+        let Some(front) = entry_before(left, rest) else {
             return Err(LineFault::BadLine(2));
         };
-        names.push(number.value)?;
-        rest = number.behind;
+        spread(&mut names, front.entry)?;
+        left -= front.entry.times;
+        rest = front.behind;
     }
     if rest.is_empty() {
         Ok(names)
@@ -119,7 +187,6 @@ fn numbers(alloc: Global, count: u64, bytes: &[u8]) -> Result<Numbers, LineFault
 }
 
 /// The numbers of a schedule, or the first line that is not as it has to be.
-#[tactic(auto, using(crate::proofs::Answered::fault_is))]
 pub fn read_schedule(alloc: Global, bytes: &[u8]) -> Result<Numbers, LineFault>
     ensures ok { IfOk result (IsSchedule bytes.now) }
     ensures err { IfErr result (IsFaultAt bytes.now) }

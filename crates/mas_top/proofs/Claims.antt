@@ -1,8 +1,7 @@
--- The cause of a status of `check`, and what follows of it.
-use Rattle.std.proofs.Common.{ℕ, ◌≡◌, inl, inr, Bool, true, false, List, Option, Some, refl, ap, sym, ◌∙◌, subst}
+-- The cause of a status of `check` and of `renew`, and what follows of it.
+use Rattle.std.proofs.Common.{ℕ, ◌≡◌, inl, inr, Bool, true, List, Option, None, Some, is_some, refl, ap, sym, ◌∙◌, subst}
 use Rattle.asl_term.specs.declared.syntax.Filed.{Filed}
 use Rattle.mas_world.specs.Worlds.{Used}
-use Rattle.mas_report.specs.Report.{Decided}
 use Rattle.mas_io.specs.Causes.{Rose}
 use Rattle.mas_io.specs.Sink.{grown}
 use Rattle.mas_io.specs.Told.{Told, IsUnwritten}
@@ -16,7 +15,7 @@ use Rattle.mas_reading.specs.Laws.{Surely}
 use Rattle.mas_reading.specs.Sources.{UnlessMemory}
 use Rattle.mas_reading.specs.Statuses.{verdict}
 use Rattle.mas_reading.proofs.Single.{with_file, one_source}
-use Rattle.mas_top.specs.Checking.{IsOwn, verdict_text, Claim, HasClaimed, IsDecided, reports, ClaimRefused, IsVerdict, ClaimCaused, Judges, IsClaimComplete}
+use Rattle.mas_top.specs.Checking.{IsJudged, answer_text, Claim, HasClaimed, IsDecided, reports, ClaimRefused, IsYes, IsNo, ClaimCaused, Judges, IsClaimComplete}
 use Rattle.mas_top.specs.Runs.{most_bytes}
 use Rattle.mas_top.proofs.Caused.{refuses, no_report, first_by}
 
@@ -62,43 +61,40 @@ refused_claim objects c before after Memory r n = n
 
 -- ---- what is written
 
-written_by : (objects : List Used) (c : Claim) (before after : Told) (told : Bool) → IsDecided objects before.held c told →
-    after.written ≡ grown before.written (verdict_text told) → ClaimCaused objects c before after (verdict told)
-written_by objects c before after true d e = record { text = verdict_text true; is = record { decided = d; is = refl }; written = e }
-written_by objects c before after false d e = record { text = verdict_text false; is = record { decided = d; is = refl }; written = e }
+answered_by : (objects : List Used) (c : Claim) (before after : Told) (answer : Option (List ℕ)) → IsDecided objects before.held c answer →
+    after.written ≡ grown before.written (answer_text answer) → ClaimCaused objects c before after (verdict (is_some answer))
+answered_by objects c before after None d e = record { text = answer_text None; is = record { decided = d; is = refl }; written = e }
+answered_by objects c before after (Some w) d e = record { text = w; is = d; written = e }
 
-pub written_verdict : (objects : List Used) (c : Claim) (before after : Told) (status : Status) (told : Bool) (w : List ℕ) → status ≡ verdict told →
-    IsDecided objects before.held c told → w ≡ verdict_text told → after.written ≡ grown before.written w → ClaimCaused objects c before after status
-written_verdict objects c before after status told w s d t e =
-    subst (ClaimCaused objects c before after) (sym s) (written_by objects c before after told d (e ∙ ap (grown before.written) t))
+pub written_answer : (objects : List Used) (c : Claim) (before after : Told) (status : Status) (answer : Option (List ℕ)) (told : Bool) (w : List ℕ) → status ≡ verdict told →
+    told ≡ is_some answer → IsDecided objects before.held c answer → w ≡ answer_text answer → after.written ≡ grown before.written w → ClaimCaused objects c before after status
+written_answer objects c before after status answer told w s t d e g =
+    subst (ClaimCaused objects c before after) (sym (s ∙ ap verdict t)) (answered_by objects c before after answer d (g ∙ ap (grown before.written) e))
 
-pub cut_verdict : (objects : List Used) (c : Claim) (before after : Told) (told : Bool) (w : List ℕ) → IsDecided objects before.held c told → w ≡ verdict_text told →
-    Rose before.sink_faults after.sink_faults → IsCut before.written after.written w → ClaimCaused objects c before after WriteFault
-cut_verdict objects c before after told w d t r k = record { rose = r; text = w; is = record { own = told; is = record { decided = d; is = t } }; cut = k }
+pub cut_answer : (objects : List Used) (c : Claim) (before after : Told) (answer : Option (List ℕ)) (w : List ℕ) → IsDecided objects before.held c answer →
+    w ≡ answer_text answer → Rose before.sink_faults after.sink_faults → IsCut before.written after.written w → ClaimCaused objects c before after WriteFault
+cut_answer objects c before after answer w d t r k = record { rose = r; text = w; is = record { answer = answer; decided = d; is = t }; cut = k }
 
 -- ---- what follows
 
 -- what is decided is so of the source and the bytes that the files are
-so : (objects : List Used) (held : Option (List Filed)) (c : Claim) (told : Bool) (files : List Filed) (source : Source) (bytes : List ℕ) → IsDecided objects held c told →
-    held ≡ Some files → HasClaimed objects (Some files) c source → HasFile most_bytes (Some files) c.report (λ x. x ≡ bytes) → Decided (IsOwn objects source bytes) told
-so objects held c told files source bytes d e h f =
-    let k = subst (λ x. IsDecided objects x c told) e d in
+so : (objects : List Used) (held : Option (List Filed)) (c : Claim) (answer : Option (List ℕ)) (files : List Filed) (source : Source) (bytes : List ℕ) →
+    IsDecided objects held c answer → held ≡ Some files → HasClaimed objects (Some files) c source → HasFile most_bytes (Some files) c.report (λ x. x ≡ bytes) →
+    IsJudged c.asks objects source bytes answer
+so objects held c answer files source bytes d e h f =
+    let k = subst (λ x. IsDecided objects x c answer) e d in
     let s = one_source (known objects) 1000 files c.project k.source source k.has h in
-    let b = with_file most_bytes files c.report (λ x. Decided (IsOwn objects k.source x) told) (λ x. x ≡ bytes) k.file f in
-    subst (λ x. Decided (IsOwn objects source x) told) b (subst (λ x. Decided (IsOwn objects x k.file.bytes) told) s k.file.are)
-
-written_as : (objects : List Used) (c : Claim) (before after : Told) (told : Bool) (w : Wrote (IsVerdict objects before.held c told) before after) →
-    after.written ≡ grown before.written (verdict_text told)
-written_as objects c before after told w = w.written ∙ ap (grown before.written) w.is.is
+    let b = with_file most_bytes files c.report (λ x. IsJudged c.asks objects k.source x answer) (λ x. x ≡ bytes) k.file f in
+    subst (λ x. IsJudged c.asks objects source x answer) b (subst (λ x. IsJudged c.asks objects x k.file.bytes answer) s k.file.are)
 
 pub judged_claim : (objects : List Used) (c : Claim) (before after : Told) (status : Status) → ClaimCaused objects c before after status → Judges objects c before after status
 judged_claim objects c before after status k = record {
   on_ok = λ files source bytes e h f s.
-      let w : Wrote (IsVerdict objects before.held c true) before after = subst (ClaimCaused objects c before after) s k in
-      record { own = so objects before.held c true files source bytes w.is.decided e h f; written = written_as objects c before after true w };
+      let w : Wrote (IsYes objects before.held c) before after = subst (ClaimCaused objects c before after) s k in
+      record { text = w.text; affirms = so objects before.held c (Some w.text) files source bytes w.is e h f; written = w.written };
   on_no = λ files source bytes e h f s.
-      let w : Wrote (IsVerdict objects before.held c false) before after = subst (ClaimCaused objects c before after) s k in
-      record { foreign = so objects before.held c false files source bytes w.is.decided e h f; written = written_as objects c before after false w };
+      let w : Wrote (IsNo objects before.held c) before after = subst (ClaimCaused objects c before after) s k in
+      record { foreign = so objects before.held c None files source bytes w.is.decided e h f; written = w.written ∙ ap (grown before.written) w.is.is };
 }
 
 not_here : (objects : List Used) (c : Claim) (before after : Told) (status : Status) (files : List Filed) → before.held ≡ Some files →

@@ -15,6 +15,7 @@ use Rattle.mas_core.specs.declared.replay.PlayFault.TheVariants as play
 use Rattle.mas_io.specs.declared.shelf.Fetched.TheVariants.{Bytes}
 use Rattle.mas_project.specs.declared.syntax.AgentLine.{AgentLine}
 use Rattle.mas_project.specs.Names.{names_in, names_of}
+use Rattle.mas_project.specs.Projects.{most_agents}
 use Rattle.mas_schedule.specs.Reading.{IsSchedule, IsFaultAt}
 use Rattle.mas_schedule.specs.declared.reading.LineFault.{LineFault}
 use Rattle.mas_schedule.specs.declared.reading.LineFault.TheVariants as line
@@ -162,7 +163,7 @@ can_run objects cycles held word source h =
     record {
       named = e ∙ roles_named held h.project.agents source.roles d.roles;
       some = subst (λ n. 1 ≤ n) (sym e) s;
-      few = subst (λ n. n ≤ 256) (sym e) w.few;
+      few = subst (λ n. n ≤ most_agents) (sym e) w.few;
       ground = roles_ground held h.project.agents source.roles d.roles;
       world = world_open objects held h.project.world source.world d.world;
     }

@@ -1,8 +1,8 @@
 -- A report can be repeated, and its run keeps the laws of the platform.
-use Rattle.std.proofs.Common.{ℕ, zero, suc, ◌≡◌, ◌+◌, ◌*◌, ◌<◌, ◌≤◌, Bool, true, false, List, [], ◌∷◌, ◌++◌, length, replicate, decimal, Some, refl, ap, sym, ◌∙◌, subst, arith}
+use Rattle.std.proofs.Common.{ℕ, zero, suc, ◌≡◌, ◌+◌, ◌*◌, ◌<◌, ◌≤◌, Bool, true, false, List, [], ◌∷◌, length, replicate, Some, refl, ap, sym, ◌∙◌, subst, arith}
 use Rattle.std.proofs.Math.Nat.{suc-mul}
-use Rattle.std.proofs.lemmas.Fmt.{length-decimal-le}
-use Rattle.std.proofs.lemmas.List.{length-append, length-replicate}
+use Rattle.std.proofs.lemmas.List.{length-replicate}
+use Rattle.asl_term.specs.declared.syntax.Filed.{Filed}
 use Rattle.asl_cycle.specs.Agent.{Mindset, agent_kind}
 use Rattle.mas_mind.specs.Minds.{Kind}
 use Rattle.mas_board.specs.Boards.{no_seat}
@@ -11,55 +11,26 @@ use Rattle.mas_laws.specs.Ends.{RunsEnd}
 use Rattle.mas_laws.specs.Lead.{NeverFarAhead}
 use Rattle.mas_laws.specs.Mail.{MailFromOpening}
 use Rattle.mas_laws.specs.Quiet.{QuietLasts}
-use Rattle.mas_schedule.specs.Schedule.{more_numbers, numbers_text, count_line, schedule_text, printed, AllFromOne}
-use Rattle.mas_report.specs.Report.{front_text, report_text, is_spent}
-use Rattle.mas_report.proofs.Backs.{shown, words_within}
+use Rattle.mas_schedule.specs.Reading.{IsCount}
+use Rattle.mas_schedule.specs.Schedule.{printed, AllFromOne}
+use Rattle.mas_schedule.proofs.RunLemmas.{is_schedule}
+use Rattle.mas_schedule.proofs.Sizes.{schedule_short}
+use Rattle.mas_report.specs.Report.{latest, front_text, report_text, is_spent, IsReport}
+use Rattle.mas_report.proofs.Backs.{told, shown, words_within}
 use Rattle.mas_report.proofs.Numbered.{run_numbers}
 use Rattle.mas_reading.specs.declared.sources.Source.{Source}
 use Rattle.mas_reading.specs.Projects.{most_cycles}
 use Rattle.mas_top.specs.Opening.{Setup, opening, opening_minds, opening_world}
-use Rattle.mas_top.specs.Runs.{most_bytes, given}
+use Rattle.mas_top.specs.Runs.{Wanted, Given, given, HasGiven}
 use Rattle.mas_top.specs.Ways.{along}
 use Rattle.mas_top.specs.Headline.{IsReportOf, IsRunReportOf}
-use Rattle.mas_top.specs.Laws.{CanRepeat, CanCheck, ReportsKeepLaws}
+use Rattle.mas_top.specs.Laws.{CanRepeat, CanCheck, CanRenew, ReportsKeepLaws}
 use Rattle.mas_top.proofs.Played.{can_run}
 
 some_same : {A : Type 0} {x y : A} → Some x ≡ Some y → x ≡ y
 some_same e = cc
 
--- ---- how long a schedule is
-
-more_short : (names : List ℕ) → AllFromOne 65535 names → length (more_numbers names) ≤ 6 * length names
-more_short [] h = omega arith
-more_short (n ∷ ns) h =
-    let l = h.0.1 in
-    let d = length-decimal-le 5 n (omega arith) (omega arith) (omega arith) in
-    let e = length-append (decimal n) (more_numbers ns) in
-    let r = more_short ns h.1 in
-    omega arith
-
-numbers_short : (names : List ℕ) → AllFromOne 65535 names → length (numbers_text names) ≤ 6 * length names
-numbers_short [] h = omega arith
-numbers_short (n ∷ ns) h =
-    let l = h.0.1 in
-    let d = length-decimal-le 5 n (omega arith) (omega arith) (omega arith) in
-    let e = length-append (decimal n) (more_numbers ns) in
-    let r = more_short ns h.1 in
-    omega arith
-
-count_short : (n : ℕ) → n ≤ 5000000 → length (count_line n) ≤ 17
-count_short n l =
-    let d = length-decimal-le 7 n (omega arith) (omega arith) (omega arith) in
-    let e = length-append (decimal n) (10 ∷ []) in
-    omega arith
-
-schedule_short : (names : List ℕ) → AllFromOne 65535 names → length names ≤ 5000000 → length (schedule_text names) ≤ most_bytes
-schedule_short names h l =
-    let c = count_short (length names) l in
-    let n = numbers_short names h in
-    let e = length-append (numbers_text names) (10 ∷ []) in
-    let f = length-append (count_line (length names)) (numbers_text names ++ 10 ∷ []) in
-    omega arith
+-- ---- how many turns there are
 
 -- two turns for each cycle, and one
 turns_of : (n c : ℕ) → n * (2 * c + 1) ≡ 2 * (n * c) + n
@@ -87,50 +58,77 @@ again u source spent w r other v q =
     let p = opening u source in
     let o = u.options in
     let done = some_same (sym q.report.ran ∙ ap (run agent_kind p) q.scheduled ∙ r.ran) in (
-      q.report.is ∙ ap (λ (x : Platform Mindset). report_text agent_kind.lines o x.board x.minds (printed v)) done
-          ∙ ap (report_text agent_kind.lines o r.done.board r.done.minds) q.scheduled ∙ sym r.is,
+      q.report.is ∙ ap (λ (x : Platform Mindset). report_text agent_kind.lines latest o x.board x.minds (printed v)) done
+          ∙ ap (report_text agent_kind.lines latest o r.done.board r.done.minds) q.scheduled ∙ sym r.is,
       sym q.report.spent_is ∙ ap (λ (x : Platform Mindset). is_spent x.board.seats) done ∙ r.spent_is,
     )
 
-pub can_repeat : RunsEnd agent_kind → CanRepeat
-can_repeat ends u files wanted g spent w h r =
+-- the numbers that a report prints are those of a schedule
+record AreTurns (names : List ℕ) : Type 0 where
+  count : IsCount (length names)
+  each : AllFromOne 65535 names
+
+-- the cycles of all agents are few
+named_few : (u : Setup) (files : List Filed) (wanted : Wanted) (g : Given) → HasGiven u (Some files) wanted g → length g.source.names * u.options.cycles ≤ most_cycles
+named_few u files wanted g h = subst (λ n. length n * u.options.cycles ≤ most_cycles) (sym h.source.describe.names) h.source.asked.few
+
+are_turns : RunsEnd agent_kind → (u : Setup) (files : List Filed) (wanted : Wanted) (g : Given) (version : ℕ) (spent : Bool) (w : List ℕ) → HasGiven u (Some files) wanted g →
+    IsReport agent_kind version u.options (opening u g.source) spent w → AreTurns (printed w)
+are_turns ends u files wanted g version spent w h r =
     let source = g.source in
     let names = printed w in
     let c = can_run u.objects u.options.cycles (Some files) wanted.project source h.source in
     let seats = length-replicate (length source.names) no_seat in
     let few = c.few in
-    let project = h.source.project in
-    let cycles = h.source.asked.few in
-    let named : length source.names * u.options.cycles ≤ most_cycles = subst (λ n. length n * u.options.cycles ≤ most_cycles) (sym h.source.describe.names) cycles in
+    let named = named_few u files wanted g h in
     let most = ends source.names (opening_world u.objects source.world) u.options.cycles u.options.lead (opening_minds u.options source) r.done names r.ran in
     let same = ap (λ n. n * (2 * u.options.cycles + 1)) seats in
     let turns = turns_of (length source.names) u.options.cycles in
-    let count : length names ≤ 5000000 = omega arith in
-    let some : 0 < length names = some_turn agent_kind (opening u source) r.done (length source.names) names c.some refl r.ran r.ended in
-    let each : AllFromOne 65535 names = run_numbers agent_kind (opening u source) r.done names (omega arith) r.ran in
     record {
-      front = front_text agent_kind.lines u.options r.done.board r.done.minds;
+      count = (some_turn agent_kind (opening u source) r.done (length source.names) names c.some refl r.ran r.ended, omega arith);
+      each = run_numbers agent_kind (opening u source) r.done names (omega arith) r.ran;
+    }
+
+pub can_repeat : RunsEnd agent_kind → CanRepeat
+can_repeat ends u files wanted g spent w h r =
+    let source = g.source in
+    let names = printed w in
+    let t = are_turns ends u files wanted g latest spent w h r in
+    let few = t.count.1 in
+    let s = schedule_short latest names t.count t.each in
+    record {
+      front = front_text agent_kind.lines latest u.options r.done.board r.done.minds;
       ends = r.is;
-      short = schedule_short names each count;
-      followed = record { is = record { count = (some, count); each = each; is = refl }; leads = record { done = r.done; ran = r.ran; ended = r.ended } };
+      short = omega arith;
+      followed = record { is = is_schedule latest names t.count t.each; leads = record { done = r.done; ran = r.ran; ended = r.ended } };
       again = again u source spent w r;
     }
 
 -- ---- a report is its own
 
 pub can_check : RunsEnd agent_kind → CanCheck
-can_check ends u files wanted g spent w l h r =
-    let source = g.source in
-    let again = can_repeat ends u files wanted g spent w h r in
-    let s = again.followed.is in
-    let few : length source.names * u.options.cycles ≤ most_cycles =
-    subst (λ n. length n * u.options.cycles ≤ most_cycles) (sym h.source.describe.names) h.source.asked.few in
+can_check ends u files wanted g version spent w l h known r =
+    let t = are_turns ends u files wanted g version spent w h r in
     record {
-      options = u.options;
-      shows = shown agent_kind u.options (opening u source) spent w r (words_within u.options l) s.count s.each;
-      allowed = record { within = l; few = few };
+      told = told version u.options (printed w);
+      shows = shown agent_kind version u.options (opening u g.source) spent w r known (words_within u.options l) t.count t.each;
+      allowed = record { within = l; few = named_few u files wanted g h };
       report = record { spent = spent; report = r };
     }
+
+-- ---- the report anew
+
+pub can_renew : CanRenew
+can_renew u source version spent other w v x r q same n =
+    let p = opening u source in
+    let o = u.options in
+    let a = n.report.report in
+    let done = some_same (sym a.ran ∙ ap (run agent_kind p) (n.along ∙ sym same) ∙ q.ran) in
+    let first = some_same (sym q.ran ∙ ap (run agent_kind p) same ∙ r.ran) in (
+      a.is ∙ ap (λ (y : Platform Mindset). report_text agent_kind.lines latest o y.board y.minds (printed x)) done
+          ∙ ap (report_text agent_kind.lines latest o q.done.board q.done.minds) (n.along ∙ sym same) ∙ sym q.is,
+      sym q.spent_is ∙ ap (λ (y : Platform Mindset). is_spent y.board.seats) first ∙ r.spent_is,
+    )
 
 -- ---- the laws of the platform
 

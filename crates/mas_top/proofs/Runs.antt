@@ -10,11 +10,10 @@ use Rattle.mas_core.specs.Fits.{Start, IsMindOf}
 use Rattle.mas_core.specs.Platform.{Platform, run, ended}
 use Rattle.mas_core.specs.Replay.{RanAlong}
 use Rattle.mas_core.specs.Robin.{turns, RanOut}
-use Rattle.mas_schedule.specs.Schedule.{printed}
-use Rattle.mas_schedule.proofs.Scanned.{printed-schedule}
+use Rattle.mas_schedule.specs.Schedule.{printed, AllFromOne}
 use Rattle.mas_report.specs.declared.options.Options.{Options}
 use Rattle.mas_report.specs.Limits.{IsWithin}
-use Rattle.mas_report.specs.Report.{IsReport, front_text, report_text, is_spent}
+use Rattle.mas_report.specs.Report.{latest, IsReport, report_text, is_spent}
 use Rattle.mas_report.proofs.Numbered.{run_numbers}
 use Rattle.mas_reading.specs.declared.sources.Source.{Source}
 use Rattle.mas_top.specs.Fits.{CanRun}
@@ -31,22 +30,20 @@ true_false e = cc
 few : (s : boards.State) → IsSound s → length s.seats ≤ 65535
 few s h = let l = h.limits.few in omega arith
 
--- what is printed of a run are its numbers
-prints : {V : Type 0} (k : Kind V) (o : Options) (p done : Platform V) (schedule w : List ℕ) → IsSound p.board → run k p schedule ≡ Some done →
-    w ≡ report_text k.lines o done.board done.minds schedule → printed w ≡ schedule
-prints {V} k o p done schedule w sound r t =
-    ap printed t ∙ printed-schedule (front_text k.lines o done.board done.minds) schedule (run_numbers k p done schedule (few p.board sound) r)
+-- the numbers of a run are those of agents
+pub agents_of_run : {V : Type 0} (k : Kind V) (p done : Platform V) (schedule : List ℕ) → IsSound p.board → run k p schedule ≡ Some done → AllFromOne 65535 schedule
+agents_of_run {V} k p done schedule sound r = run_numbers k p done schedule (few p.board sound) r
 
 -- its text is its report
 reports : {V : Type 0} (k : Kind V) (o : Options) (p done : Platform V) (schedule : List ℕ) (spent : Bool) (w : List ℕ) → run k p schedule ≡ Some done →
-    ended done.board.seats ≡ true → spent ≡ is_spent done.board.seats → w ≡ report_text k.lines o done.board done.minds schedule → printed w ≡ schedule →
-    IsReport k o p spent w
+    ended done.board.seats ≡ true → spent ≡ is_spent done.board.seats → w ≡ report_text k.lines latest o done.board done.minds schedule → printed w ≡ schedule →
+    IsReport k latest o p spent w
 reports {V} k o p done schedule spent w r e b t same = record {
   done = done;
   ran = ap (run k p) same ∙ r;
   ended = e;
   spent_is = sym b;
-  is = t ∙ ap (report_text k.lines o done.board done.minds) (sym same);
+  is = t ∙ ap (report_text k.lines latest o done.board done.minds) (sym same);
 }
 
 -- ---- the order of the turns
@@ -65,10 +62,11 @@ by_workers k p workers names h = order k p names (workers == 1) (λ e. h (eqb-tr
 -- that of a run by so many workers
 pub pool_report : {V : Type 0} (k : Kind V) (o : Options) (p : Platform V) (workers : ℕ) (board : boards.Noted) (minds : List V) (spent : Bool) (w : List ℕ) →
     IsSound p.board → RanAlong k p board.schedule board minds → (workers ≡ 1 → RanOut k p board minds) → spent ≡ is_spent board.state.seats →
-    w ≡ report_text k.lines o board.state minds board.schedule → IsRunReport k o p (way_of workers) spent w
-pool_report {V} k o p workers board minds spent w sound r robin b t =
+    w ≡ report_text k.lines latest o board.state minds board.schedule → (AllFromOne 65535 board.schedule → printed w ≡ board.schedule) →
+    IsRunReport k o p (way_of workers) spent w
+pool_report {V} k o p workers board minds spent w sound r robin b t prints =
     let done : Platform V = record { board = board.state; minds = minds; thoughts = r.thoughts } in
-    let same = prints k o p done board.schedule w sound r.ran t in
+    let same = prints (agents_of_run k p done board.schedule sound r.ran) in
     record {
       report = reports k o p done board.schedule spent w r.ran r.ended b t same;
       scheduled = by_workers k p workers (printed w) (λ e. same ∙ (robin e).schedule);
@@ -76,12 +74,12 @@ pool_report {V} k o p workers board minds spent w sound r robin b t =
 
 -- that of a run along given numbers
 pub replay_report : {V : Type 0} (k : Kind V) (o : Options) (p : Platform V) (names : List ℕ) (board : boards.Noted) (minds : List V) (spent : Bool) (w : List ℕ) →
-    IsSound p.board → RanAlong k p names board minds → spent ≡ is_spent board.state.seats → w ≡ report_text k.lines o board.state minds board.schedule →
-    IsReplayed k o p names spent w
-replay_report {V} k o p names board minds spent w sound r b t =
+    IsSound p.board → RanAlong k p names board minds → spent ≡ is_spent board.state.seats → w ≡ report_text k.lines latest o board.state minds board.schedule →
+    (AllFromOne 65535 board.schedule → printed w ≡ board.schedule) → IsReplayed k o p names spent w
+replay_report {V} k o p names board minds spent w sound r b t prints =
     let done : Platform V = record { board = board.state; minds = minds; thoughts = r.thoughts } in
-    let u = t ∙ ap (report_text k.lines o board.state minds) r.schedule in
-    let same = prints k o p done names w sound r.ran u in
+    let u = t ∙ ap (report_text k.lines latest o board.state minds) r.schedule in
+    let same = prints (subst (AllFromOne 65535) (sym r.schedule) (agents_of_run k p done names sound r.ran)) ∙ r.schedule in
     record {
       leads = record { done = done; ran = r.ran; ended = r.ended };
       report = record { report = reports k o p done names spent w r.ran r.ended b u same; scheduled = same };

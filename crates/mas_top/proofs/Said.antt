@@ -11,7 +11,7 @@ use Rattle.mas_top.specs.Headline.{IsRunReportOf, IsHeadline, PrintsSchedule, Is
 use Rattle.mas_top.specs.Opening.{Setup, setup}
 use Rattle.mas_top.specs.Runs.{by_workers, by_file, wanted}
 use Rattle.mas_top.specs.Ways.{way_of}
-use Rattle.mas_top.specs.Checking.{claim, Judges, IsClaimComplete}
+use Rattle.mas_top.specs.Checking.{whether, anew, claim, Judges, IsClaimComplete}
 use Rattle.mas_top.specs.Demo.{IsDemoComplete}
 use Rattle.mas_top.proofs.Demos.{demo_complete}
 use Rattle.mas_top.proofs.Claims.{judged_claim, complete_claim}
@@ -29,6 +29,7 @@ left objects old new e (words.run project options workers) = tt
 left objects old new e (words.replay project schedule options) = tt
 left objects old new e (words.check project report) = tt
 left objects old new e (words.demo count workers) = e
+left objects old new e (words.renew project report) = tt
 
 -- or where they ask for this alone
 pub left_by : {S : Type 0} (objects : List Used) (given : List (List ℕ)) (old new : S) (asked : words.Asked) → AskOnlyFor given asked →
@@ -45,6 +46,7 @@ short_by objects before after (words.run project options workers) u = u
 short_by objects before after (words.replay project schedule options) u = u
 short_by objects before after (words.check project report) u = u
 short_by objects before after (words.demo count workers) u = u
+short_by objects before after (words.renew project report) u = u
 
 pub short_words : (objects : List Used) (given : List (List ℕ)) (before after : Told) → AreRead given → IsUnwritten before after →
     WordsCaused IsRunReportOf objects given before after Memory
@@ -58,6 +60,7 @@ headline_by objects before after status (words.replay project schedule options) 
     headline_file (setup options objects) (wanted project (by_file schedule)) before after status c
 headline_by objects before after status (words.check project report) c = tt
 headline_by objects before after status (words.demo count workers) c = tt
+headline_by objects before after status (words.renew project report) c = tt
 
 schedule_by : (objects : List Used) (before after : Told) (status : Status) (a : words.Asked) → AskedCaused IsRunReportOf objects before after status a →
     ForRuns (λ u asked. PrintsSchedule u asked before after status) objects a
@@ -66,6 +69,7 @@ schedule_by objects before after status (words.replay project schedule options) 
     schedule_file (setup options objects) (wanted project (by_file schedule)) before after status c
 schedule_by objects before after status (words.check project report) c = tt
 schedule_by objects before after status (words.demo count workers) c = tt
+schedule_by objects before after status (words.renew project report) c = tt
 
 complete_by : (objects : List Used) (before after : Told) (status : Status) (a : words.Asked) → AskedCaused IsRunReportOf objects before after status a →
     ForRuns (λ u asked. IsComplete u asked before after status) objects a
@@ -75,20 +79,23 @@ complete_by objects before after status (words.replay project schedule options) 
     let u = setup options objects in complete_file (IsRunReportOf u) u (wanted project (by_file schedule)) before after status c
 complete_by objects before after status (words.check project report) c = tt
 complete_by objects before after status (words.demo count workers) c = tt
+complete_by objects before after status (words.renew project report) c = tt
 
 check_by : (objects : List Used) (before after : Told) (status : Status) (a : words.Asked) → AskedCaused IsRunReportOf objects before after status a →
     ForClaims (λ c. Judges objects c before after status) a
 check_by objects before after status (words.run project options workers) c = tt
 check_by objects before after status (words.replay project schedule options) c = tt
-check_by objects before after status (words.check project report) c = judged_claim objects (claim project report) before after status c
+check_by objects before after status (words.check project report) c = judged_claim objects (claim whether project report) before after status c
 check_by objects before after status (words.demo count workers) c = tt
+check_by objects before after status (words.renew project report) c = judged_claim objects (claim anew project report) before after status c
 
 checked_by : (objects : List Used) (before after : Told) (status : Status) (a : words.Asked) → AskedCaused IsRunReportOf objects before after status a →
     ForClaims (λ c. IsClaimComplete objects c before after status) a
 checked_by objects before after status (words.run project options workers) c = tt
 checked_by objects before after status (words.replay project schedule options) c = tt
-checked_by objects before after status (words.check project report) c = complete_claim objects (claim project report) before after status c
+checked_by objects before after status (words.check project report) c = complete_claim objects (claim whether project report) before after status c
 checked_by objects before after status (words.demo count workers) c = tt
+checked_by objects before after status (words.renew project report) c = complete_claim objects (claim anew project report) before after status c
 
 demo_by : (objects : List Used) (before after : Told) (status : Status) (a : words.Asked) → words.IsPermitted a →
     AskedCaused IsRunReportOf objects before after status a → ForDemos (λ u count way. IsDemoComplete u before after status) objects a
@@ -96,6 +103,7 @@ demo_by objects before after status (words.run project options workers) p c = tt
 demo_by objects before after status (words.replay project schedule options) p c = tt
 demo_by objects before after status (words.check project report) p c = tt
 demo_by objects before after status (words.demo count workers) p c = demo_complete objects count (way_of workers) before after status p.0.0 p.0.1 c
+demo_by objects before after status (words.renew project report) p c = tt
 
 demo_said : (objects : List Used) (given : List (List ℕ)) (before after : Told) (status : Status) → WordsCaused IsRunReportOf objects given before after status →
     (a : words.Asked) → AskFor given a → words.IsPermitted a

@@ -6,12 +6,13 @@ use Rattle.asl_term.specs.declared.syntax.Filed.{Filed}
 use Rattle.asl_cycle.specs.Agent.{agent_kind}
 use Rattle.mas_world.specs.Worlds.{Used}
 use Rattle.mas_io.specs.declared.shelf.Fetched.TheVariants.{Bytes}
-use Rattle.mas_schedule.specs.Schedule.{printed}
+use Rattle.mas_schedule.specs.Schedule.{IsVersion, printed}
 use Rattle.mas_report.specs.declared.options.Options.{Options}
 use Rattle.mas_report.specs.Limits.{IsWithin, defaults}
 use Rattle.mas_report.specs.Reading.{Shows, ShowsNothing}
 use Rattle.mas_report.specs.Report.{IsAnyReport, Decided}
-use Rattle.mas_report.proofs.Shown.{one_shown, printed_shown}
+use Rattle.mas_report.specs.declared.reading.Told.{Told}
+use Rattle.mas_report.proofs.Shown.{one_shown, shown_printed}
 use Rattle.mas_reading.specs.declared.sources.Source.{Source}
 use Rattle.mas_reading.specs.declared.status.Status.{Status}
 use Rattle.mas_reading.specs.Files.{Has, HasFile, IsRefusal, IsUnfetched}
@@ -20,7 +21,7 @@ use Rattle.mas_reading.specs.Projects.{most_cycles}
 use Rattle.mas_reading.specs.Sources.{HasSource, FirstRefused, AreRefused, UnlessMemory}
 use Rattle.mas_reading.proofs.Fetched.{unfetched, refusal_from}
 use Rattle.mas_reading.proofs.Unless.{unless, unless_as}
-use Rattle.mas_top.specs.Checking.{IsAllowed, IsOwn, Claim, IsDecided, reports, ClaimRefused}
+use Rattle.mas_top.specs.Checking.{Asks, IsAllowed, IsOwn, Says, IsJudged, Claim, IsDecided, reports, ClaimRefused}
 use Rattle.mas_top.specs.Opening.{setup, opening}
 use Rattle.mas_top.specs.Runs.{most_bytes}
 
@@ -43,42 +44,49 @@ many o within t f = (f t).cycles.1
 pub allowed_within : (source : Source) (o : Options) → Decided (IsAllowed source o) true → IsWithin o
 allowed_within source o a = a.within
 
--- ---- bytes that show nothing, or what is not allowed
+-- ---- bytes that tell nothing, or what is not allowed
 
-pub shows_none : (objects : List Used) (source : Source) (bytes : List ℕ) → ShowsNothing bytes → Decided (IsOwn objects source bytes) false
-shows_none objects source bytes none h = none h.options (printed bytes) h.shows
+pub shows_none : (objects : List Used) (source : Source) (bytes : List ℕ) → ShowsNothing bytes → IsOwn objects source bytes → ⊥
+shows_none objects source bytes none h = none h.told h.shows
 
 -- the same by what the reader answered
-pub shows_none_by : (objects : List Used) (source : Source) (bytes : List ℕ) (r : Option (Options × List ℕ)) → r ≡ None →
-    MatchOption r (ShowsNothing bytes) (λ t. Shows bytes t.0 t.1) → Decided (IsOwn objects source bytes) false
+pub shows_none_by : (objects : List Used) (source : Source) (bytes : List ℕ) (r : Option Told) → r ≡ None → MatchOption r (ShowsNothing bytes) (Shows bytes) →
+    IsOwn objects source bytes → ⊥
 shows_none_by objects source bytes r e h =
-    shows_none objects source bytes (subst (λ (x : Option (Options × List ℕ)). MatchOption x (ShowsNothing bytes) (λ t. Shows bytes t.0 t.1)) e h)
+    shows_none objects source bytes (subst (λ (x : Option Told). MatchOption x (ShowsNothing bytes) (Shows bytes)) e h)
 
-pub shows_by : (bytes : List ℕ) (o : Options) (names : List ℕ) (r : Option (Options × List ℕ)) → r ≡ Some (o, names) →
-    MatchOption r (ShowsNothing bytes) (λ t. Shows bytes t.0 t.1) → Shows bytes o names
-shows_by bytes o names r e h = subst (λ (x : Option (Options × List ℕ)). MatchOption x (ShowsNothing bytes) (λ t. Shows bytes t.0 t.1)) e h
+pub shows_by : (bytes : List ℕ) (t : Told) (r : Option Told) → r ≡ Some t → MatchOption r (ShowsNothing bytes) (Shows bytes) → Shows bytes t
+shows_by bytes t r e h = subst (λ (x : Option Told). MatchOption x (ShowsNothing bytes) (Shows bytes)) e h
 
--- the options in the bytes
-options_are : (objects : List Used) (source : Source) (bytes names : List ℕ) (o : Options) → Shows bytes o names → (h : IsOwn objects source bytes) → h.options ≡ o
-options_are objects source bytes names o s h = (one_shown bytes h.options o (printed bytes) names h.shows s).0
+pub known_version : (bytes : List ℕ) (t : Told) → Shows bytes t → IsVersion t.version
+known_version bytes t h = h.first.known
 
-pub not_allowed : (objects : List Used) (source : Source) (bytes names : List ℕ) (o : Options) → Shows bytes o names → Decided (IsAllowed source o) false →
-    Decided (IsOwn objects source bytes) false
-not_allowed objects source bytes names o s n h = n (subst (IsAllowed source) (options_are objects source bytes names o s h) h.allowed)
+pub last_told : (bytes : List ℕ) (t : Told) → Shows bytes t → printed bytes ≡ t.turns
+last_told = shown_printed
 
--- what is decided of the report that these options would have
-own_by : (objects : List Used) (source : Source) (bytes names : List ℕ) (o : Options) (same : Bool) → Shows bytes o names → Decided (IsAllowed source o) true →
-    Decided (IsAnyReport agent_kind o (opening (setup o objects) source) bytes) same → Decided (IsOwn objects source bytes) same
-own_by objects source bytes names o true s a r =
-    record { options = o; shows = subst (Shows bytes o) (sym (printed_shown bytes o names s)) s; allowed = a; report = r }
-own_by objects source bytes names o false s a r =
-    λ h. r (subst (λ x. IsAnyReport agent_kind x (opening (setup x objects) source) bytes) (options_are objects source bytes names o s h) h.report)
+-- what the bytes tell
+told_is : (objects : List Used) (source : Source) (bytes : List ℕ) (t : Told) → Shows bytes t → (h : IsOwn objects source bytes) → h.told ≡ t
+told_is objects source bytes t s h = one_shown bytes h.told t h.shows s
 
-pub own_answer : {E : Type 0} (objects : List Used) (source : Source) (bytes names : List ℕ) (o : Options) (answer : Result Bool E) → Shows bytes o names →
-    Decided (IsAllowed source o) true → IfOk answer (Decided (IsAnyReport agent_kind o (opening (setup o objects) source) bytes)) →
-    IfOk answer (Decided (IsOwn objects source bytes))
-own_answer objects source bytes names o (Ok same) s a h = own_by objects source bytes names o same s a h
-own_answer objects source bytes names o (Err why) s a h = tt
+pub not_allowed : (objects : List Used) (source : Source) (bytes : List ℕ) (t : Told) → Shows bytes t → Decided (IsAllowed source t.options) false → IsOwn objects source bytes → ⊥
+not_allowed objects source bytes t s n h = n (subst (λ (x : Told). IsAllowed source x.options) (told_is objects source bytes t s h) h.allowed)
+
+-- such bytes are a report, and this is written, or they are none
+abbrev pub IsRun : Asks → List Used → Source → Told → List ℕ → Option (List ℕ) → Type 0
+IsRun asks objects source t bytes answer =
+    let p = opening (setup t.options objects) source in
+    MatchOption answer (IsAnyReport agent_kind t.version t.options p bytes → ⊥) (λ w. IsAnyReport agent_kind t.version t.options p bytes × Says asks objects source t w)
+
+own_by : (asks : Asks) (objects : List Used) (source : Source) (bytes : List ℕ) (t : Told) (answer : Option (List ℕ)) → Shows bytes t → IsAllowed source t.options →
+    IsRun asks objects source t bytes answer → IsJudged asks objects source bytes answer
+own_by asks objects source bytes t None s a r =
+    λ h. r (subst (λ (x : Told). IsAnyReport agent_kind x.version x.options (opening (setup x.options objects) source) bytes) (told_is objects source bytes t s h) h.report)
+own_by asks objects source bytes t (Some w) s a r = record { own = record { told = t; shows = s; allowed = a; report = r.0 }; says = r.1 }
+
+pub own_answer : {E : Type 0} (asks : Asks) (objects : List Used) (source : Source) (bytes : List ℕ) (t : Told) (answer : Result (Option (List ℕ)) E) → Shows bytes t →
+    Decided (IsAllowed source t.options) true → IfOk answer (IsRun asks objects source t bytes) → IfOk answer (IsJudged asks objects source bytes)
+own_answer asks objects source bytes t (Ok answer) s a h = own_by asks objects source bytes t answer s a h
+own_answer asks objects source bytes t (Err why) s a h = tt
 
 -- ---- the file of the report
 
@@ -86,15 +94,15 @@ pub unread : (name : List ℕ) (held : Option (List Filed)) (before after : ℕ)
     IsRefusal reports name held before after status
 unread = unfetched reports
 
-pub judged : (objects : List Used) (held : Option (List Filed)) (source : Source) (name bytes : List ℕ) (told : Bool) → Has 268435456 held name (Bytes bytes) →
-    Decided (IsOwn objects source bytes) told → HasFile most_bytes held name (λ b. Decided (IsOwn objects source b) told)
-judged objects held source name bytes told h d = record { bytes = bytes; has = h; are = d }
+pub judged : (asks : Asks) (objects : List Used) (held : Option (List Filed)) (source : Source) (name bytes : List ℕ) (answer : Option (List ℕ)) →
+    Has 268435456 held name (Bytes bytes) → IsJudged asks objects source bytes answer → HasFile most_bytes held name (λ b. IsJudged asks objects source b answer)
+judged asks objects held source name bytes answer h d = record { bytes = bytes; has = h; are = d }
 
 -- ---- what is claimed
 
-pub decided : (objects : List Used) (held : Option (List Filed)) (c : Claim) (o : Options) (source : Source) (told : Bool) → o ≡ defaults →
-    HasSource (known objects) o.cycles held c.project source → HasFile most_bytes held c.report (λ b. Decided (IsOwn objects source b) told) → IsDecided objects held c told
-decided objects held c o source told e h f =
+pub decided : (objects : List Used) (held : Option (List Filed)) (c : Claim) (o : Options) (source : Source) (answer : Option (List ℕ)) → o ≡ defaults →
+    HasSource (known objects) o.cycles held c.project source → HasFile most_bytes held c.report (λ b. IsJudged c.asks objects source b answer) → IsDecided objects held c answer
+decided objects held c o source answer e h f =
     record { source = source; has = subst (λ (x : Options). HasSource (known objects) x.cycles held c.project source) e h; file = f }
 
 pub no_source : (objects : List Used) (held : Option (List Filed)) (c : Claim) (o : Options) (before after : ℕ) (status : Status) → o ≡ defaults →

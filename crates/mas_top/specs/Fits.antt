@@ -5,6 +5,7 @@ use Rattle.asl_term.specs.Exprs.{is_ground_literal}
 use Rattle.mas_world.specs.declared.acts.WorldText.{WorldText}
 use Rattle.mas_world.specs.Facts.{AreFacts}
 use Rattle.mas_world.specs.Worlds.{AreNamed, Used}
+use Rattle.mas_project.specs.Projects.{most_agents}
 use Rattle.mas_reading.specs.declared.sources.Role.{Role}
 use Rattle.mas_reading.specs.declared.sources.Source.{Source}
 use Rattle.mas_top.specs.Opening.{texts_of}
@@ -17,10 +18,10 @@ pub record CanOpen (objects : List Used) (text : WorldText) : Type 0 where
   pub facts : AreFacts text.facts
   pub named : AreNamed text.uses objects
 
--- one name for each agent, at least one and at most 256, beliefs without variables, and a world that can be opened
+-- one name for each agent, at least one and at most 1,024, beliefs without variables, and a world that can be opened
 pub record CanRun (objects : List Used) (source : Source) : Type 0 where
   pub named : length source.names ≡ length (texts_of source.roles)
   pub some : 1 ≤ length source.names
-  pub few : length source.names ≤ 256
+  pub few : length source.names ≤ most_agents
   pub ground : list_all is_ground_role source.roles ≡ true
   pub world : IfSome source.world (CanOpen objects)

@@ -8,7 +8,7 @@ use Rattle.mas_mind.specs.Minds.{Kind}
 use Rattle.mas_core.specs.Platform.{Platform}
 use Rattle.mas_schedule.specs.Schedule.{printed}
 use Rattle.mas_report.specs.declared.options.Options.{Options}
-use Rattle.mas_report.specs.Report.{IsReport}
+use Rattle.mas_report.specs.Report.{latest, IsReport}
 use Rattle.mas_reading.specs.declared.status.Status.{Status}
 use Rattle.mas_reading.specs.declared.status.Status.TheVariants.{Usage, Memory}
 use Rattle.mas_reading.specs.Statuses.{whole}
@@ -17,7 +17,7 @@ use Rattle.mas_words.specs.Asked as words
 use Rattle.mas_words.specs.Plain.{AskForNothing, AskOnlyFor}
 use Rattle.mas_world.specs.Worlds.{Used}
 use Rattle.mas_report.specs.Limits.{defaults}
-use Rattle.mas_top.specs.Checking.{Claim, claim, ClaimCaused}
+use Rattle.mas_top.specs.Checking.{whether, anew, Claim, claim, ClaimCaused}
 use Rattle.mas_top.specs.Demo.{DemoCaused}
 use Rattle.mas_top.specs.Opening.{Setup, setup, opening}
 use Rattle.mas_top.specs.Runs.{by_workers, by_file, Wanted, wanted, Given, HasGiven, NoneRefused}
@@ -25,11 +25,11 @@ use Rattle.mas_top.specs.Ways.{Way, way_of, IsScheduled}
 
 -- the text is the report of the run of what is given, in which some end is `budget` or none is
 abbrev pub IsReportOf : Setup → Bool → Given → List ℕ → Type 0
-IsReportOf u spent g w = IsReport agent_kind u.options (opening u g.source) spent w
+IsReportOf u spent g w = IsReport agent_kind latest u.options (opening u g.source) spent w
 
 -- the report of a run from p whose turns are made in this order
 pub record IsRunReport {V : Type 0} (k : Kind V) (o : Options) (p : Platform V) (way : Way) (spent : Bool) (w : List ℕ) : Type 0 where
-  pub report : IsReport k o p spent w
+  pub report : IsReport k latest o p spent w
   pub scheduled : IsScheduled k p way (printed w)
 
 -- that of what is given
@@ -85,13 +85,15 @@ ForRuns Holds objects (words.run project options workers) = Holds (setup options
 ForRuns Holds objects (words.replay project schedule options) = Holds (setup options objects) (wanted project (by_file schedule))
 ForRuns Holds objects (words.check project report) = Unit {0}
 ForRuns Holds objects (words.demo count workers) = Unit {0}
+ForRuns Holds objects (words.renew project report) = Unit {0}
 
--- what holds of a claim that a report is that of a run
+-- what holds of a claim that a report is that of a run, by `check` and by `renew`
 abbrev pub ForClaims : (Claim → Type 0) → words.Asked → Type 0
 ForClaims Holds (words.run project options workers) = Unit {0}
 ForClaims Holds (words.replay project schedule options) = Unit {0}
-ForClaims Holds (words.check project report) = Holds (claim project report)
+ForClaims Holds (words.check project report) = Holds (claim whether project report)
 ForClaims Holds (words.demo count workers) = Unit {0}
+ForClaims Holds (words.renew project report) = Holds (claim anew project report)
 
 -- what holds of a demo of so many agents
 abbrev pub ForDemos : (Setup → ℕ → Way → Type 0) → List Used → words.Asked → Type 0
@@ -99,6 +101,7 @@ ForDemos Holds objects (words.run project options workers) = Unit {0}
 ForDemos Holds objects (words.replay project schedule options) = Unit {0}
 ForDemos Holds objects (words.check project report) = Unit {0}
 ForDemos Holds objects (words.demo count workers) = Holds (setup defaults objects) count (way_of workers)
+ForDemos Holds objects (words.renew project report) = Unit {0}
 
 -- ---- the cause of each status
 
@@ -108,8 +111,9 @@ AskedCaused Is objects before after status (words.run project options workers) =
     let u = setup options objects in FileCaused (Is u) u (wanted project (by_workers workers)) before after status
 AskedCaused Is objects before after status (words.replay project schedule options) =
     let u = setup options objects in FileCaused (Is u) u (wanted project (by_file schedule)) before after status
-AskedCaused Is objects before after status (words.check project report) = ClaimCaused objects (claim project report) before after status
+AskedCaused Is objects before after status (words.check project report) = ClaimCaused objects (claim whether project report) before after status
 AskedCaused Is objects before after status (words.demo count workers) = DemoCaused (setup defaults objects) count (way_of workers) before after status
+AskedCaused Is objects before after status (words.renew project report) = ClaimCaused objects (claim anew project report) before after status
 
 -- the words are not read
 pub record IsUsage (given : List (List ℕ)) (before after : Told) (status : Status) : Type 0 where

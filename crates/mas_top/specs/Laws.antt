@@ -8,13 +8,14 @@ use Rattle.mas_board.specs.Seating.{AreLed}
 use Rattle.mas_core.specs.Platform.{Platform, run}
 use Rattle.mas_laws.specs.Mail.{sent, taken, unread}
 use Rattle.mas_laws.specs.Quiet.{turn_on, run_on, IsQuietTurn}
-use Rattle.mas_schedule.specs.Schedule.{schedule_text, printed}
+use Rattle.mas_schedule.specs.Schedule.{IsVersion, schedule_text, printed}
 use Rattle.mas_io.specs.Causes.{Rose}
 use Rattle.mas_reading.specs.declared.sources.Source.{Source}
 use Rattle.mas_reading.specs.declared.status.Status.{Status}
 use Rattle.mas_reading.specs.declared.status.Status.TheVariants.{Memory}
 use Rattle.mas_reading.specs.Laws.{Surely}
 use Rattle.mas_report.specs.Limits.{IsWithin}
+use Rattle.mas_report.specs.Report.{latest, IsReport, IsRenewal}
 use Rattle.mas_top.specs.Checking.{IsOwn}
 use Rattle.mas_top.specs.Opening.{Setup, opening}
 use Rattle.mas_top.specs.Runs.{most_bytes, Wanted, Given, given, IsFollowed, HasGiven, FileRefused}
@@ -38,9 +39,9 @@ OneRefusal =
 -- its last two lines are such a file as a replay reads, along which the source runs to its end, and the report of that run is this one
 pub record IsRepeatable (u : Setup) (source : Source) (spent : Bool) (w : List ℕ) : Type 0 where
   pub front : List ℕ
-  pub ends : w ≡ front ++ schedule_text (printed w)
-  pub short : length (schedule_text (printed w)) ≤ most_bytes
-  pub followed : IsFollowed u source (schedule_text (printed w)) (printed w)
+  pub ends : w ≡ front ++ schedule_text latest (printed w)
+  pub short : length (schedule_text latest (printed w)) ≤ most_bytes
+  pub followed : IsFollowed u source (schedule_text latest (printed w)) (printed w)
   pub again : (other : Bool) (v : List ℕ) → IsRunReportOf u other (given source (along (printed w))) v → (v ≡ w) × (other ≡ spent)
 
 -- so is each report of what files describe
@@ -51,11 +52,20 @@ CanRepeat =
 
 -- ---- a report can be checked
 
--- each report of what files describe, with options within their limits, is that of the options and the schedule in it
+-- each report of what files describe, of any version, with options within their limits, is that of the options and the schedule in it
 abbrev pub CanCheck : Type 0
 CanCheck =
-    (u : Setup) (files : List Filed) (wanted : Wanted) (g : Given) (spent : Bool) (w : List ℕ) → IsWithin u.options → HasGiven u (Some files) wanted g →
-    IsReportOf u spent g w → IsOwn u.objects g.source w
+    (u : Setup) (files : List Filed) (wanted : Wanted) (g : Given) (version : ℕ) (spent : Bool) (w : List ℕ) → IsWithin u.options →
+    HasGiven u (Some files) wanted g → IsVersion version → IsReport agent_kind version u.options (opening u g.source) spent w → IsOwn u.objects g.source w
+
+-- ---- a report can be renewed
+
+-- the report anew of one that files describe is the report of the same run, and no other text is
+abbrev pub CanRenew : Type 0
+CanRenew =
+    (u : Setup) (source : Source) (version : ℕ) (spent other : Bool) (w v x : List ℕ) → IsReport agent_kind version u.options (opening u source) spent w →
+    IsReport agent_kind latest u.options (opening u source) other v → printed v ≡ printed w →
+    IsRenewal agent_kind u.options (opening u source) (printed w) x → (x ≡ v) × (other ≡ spent)
 
 -- ---- what is true of the run that a report tells
 

@@ -1,12 +1,14 @@
-//! Whether a report is that of a run of a project.
+//! Whether a report is that of a run of a project, and that report anew.
 
-ghost use Rattle.std.specs.Prelude.{◌≡◌, ◌≤◌, ◌*◌, nat_le, IfOk, MatchResult};
+ghost use Rattle.std.specs.Prelude.{◌≡◌, ◌≤◌, ◌*◌, nat_le, IfOk, MatchOption, MatchResult};
 ghost use Rattle.asl_cycle.specs.Agent.{agent_kind};
+ghost use Rattle.mas_core.specs.Fits.{Start};
+ghost use Rattle.mas_core.specs.Platform.{opening_platform};
 ghost use Rattle.mas_io.specs.Told.{told_of, IsKept};
 ghost use Rattle.mas_report.specs.Limits.{IsWithin};
 ghost use Rattle.mas_report.specs.Reading.{Shows};
 ghost use Rattle.mas_report.specs.Report.{Decided, IsAnyReport};
-ghost use Rattle.mas_schedule.specs.Schedule.{printed};
+ghost use Rattle.mas_schedule.specs.Schedule.{IsVersion, printed};
 ghost use Rattle.mas_reading.specs.Files.{HasFile, IsRefusal};
 ghost use Rattle.mas_reading.specs.Projects.{most_cycles};
 ghost use Rattle.mas_reading.specs.Sources.{UnlessMemory};
@@ -19,18 +21,26 @@ use crate::playing::{MOST_BYTES, read_source};
 use crate::running::{Opened, open_source};
 use asl_term::copying::text_of;
 use asl_term::sequence::Starved;
-use asl_term::syntax::{Numbers, Text};
+use asl_term::syntax::Text;
 use mas_io::shelf::Shelf;
 use mas_io::sink::Sink;
 use mas_io::writing::write_all;
+use mas_mind::thinking::Mind;
 use mas_reading::files::bytes_of;
 use mas_reading::sources::Source;
 use mas_reading::status::{Status, verdict};
-use mas_report::checking::is_report_along;
+use mas_report::checking::{is_report_along, renewal_along};
 use mas_report::options::{Options, default_options, is_within};
-use mas_report::reading::read_report;
+use mas_report::reading::{Told, read_report};
 use mas_world::artifact::Artifact;
 use std::alloc::Global;
+
+/// What is asked of bytes: whether they are the report of a run, or for that report anew.
+#[derive(Clone, Copy)]
+pub enum Asks {
+    Whether,
+    Anew,
+}
 
 /// The most cycles that all agents of a project may make together.
 const MOST_CYCLES: u64 = 2_000_000;
@@ -55,63 +65,102 @@ fn is_allowed(o: &Options, source: &Source) -> bool
     }
 }
 
-/// Whether the report of the run of a source along the numbers in the last line of these bytes is these bytes.
-#[tactic(auto, using(crate::proofs::Runs::starts))]
-fn is_report_of<A: Artifact>(
+/// What is written where the run of these minds over this board, along the turns that bytes tell, ends, and its report is
+/// these bytes; None where it is not so.
+fn answer_along<M: Mind, A: Artifact>(
     alloc: Global,
-    o: &Options,
+    asks: Asks,
+    told: &Told,
+    opened: Opened<M, A>,
+    bytes: &Text,
+) -> Result<Option<Text>, Starved>
+    requires known { IsVersion told.now.version }
+    requires start { Start M.kind opened.board opened.minds }
+    requires last { printed bytes.now ≡ told.now.turns }
+    ensures { let p = opening_platform opened.board.state opened.minds in
+        let t = told.now in
+        IfOk result (λ r. MatchOption r (IsAnyReport M.kind t.version t.options p bytes.now → ⊥)
+        (λ w. IsAnyReport M.kind t.version t.options p bytes.now × spec.SaysFrom M.kind (spec.asks_of asks) t p w)) }
+{
+    let Opened { board, minds } = opened;
+    let version = told.version;
+    let o = &told.options;
+    let turns = &told.turns;
+    match asks {
+        Asks::Whether => {
+            if is_report_along(alloc, version, o, board, minds, turns, bytes)? {
+                Ok(Some(text_of(alloc, b"yes\n")?))
+            } else {
+                Ok(None)
+            }
+        }
+        Asks::Anew => renewal_along(alloc, version, o, board, minds, turns, bytes),
+    }
+}
+
+/// The same for the run of a source.
+#[tactic(auto, using(crate::proofs::Runs::starts))]
+fn answer_of<A: Artifact>(
+    alloc: Global,
+    asks: Asks,
+    told: &Told,
     source: Source,
     artifacts: Vec<A>,
-    names: &Numbers,
     bytes: &Text,
-) -> Result<bool, Starved>
-    requires within { IsWithin o.now }
+) -> Result<Option<Text>, Starved>
+    requires known { IsVersion told.now.version }
+    requires within { IsWithin told.now.options }
     requires can { CanRun (objects_of A.named A.table A.facts artifacts.items) source }
-    requires last { printed bytes.now ≡ names.now }
-    ensures { let u = setup o.now (objects_of A.named A.table A.facts artifacts.items) in
-        IfOk result (Decided (IsAnyReport agent_kind o.now (opening u source) bytes.now)) }
+    requires last { printed bytes.now ≡ told.now.turns }
+    ensures { let objects = objects_of A.named A.table A.facts artifacts.items in
+        let t = told.now in
+        let p = opening (setup t.options objects) source in
+        IfOk result (λ r. MatchOption r (IsAnyReport agent_kind t.version t.options p bytes.now → ⊥)
+        (λ w. IsAnyReport agent_kind t.version t.options p bytes.now × spec.Says (spec.asks_of asks) objects source t w)) }
 {
-    match open_source(alloc, o, source, artifacts) {
-        Ok(Opened { board, minds }) => is_report_along(alloc, o, board, minds, names, bytes),
+    match open_source(alloc, &told.options, source, artifacts) {
+        Ok(opened) => answer_along(alloc, asks, told, opened, bytes),
         Err(starved) => Err(starved),
     }
 }
 
-/// Whether bytes that show these options and these numbers are the report of the run of the source with the options along the
-/// numbers, and the options are within their limits.
+/// What is written where the bytes, which tell this, are the report of it, of a run of the source, and its options are within
+/// their limits; None where it is not so.
 #[tactic(auto, using(crate::proofs::Verdicts::allowed_within))]
-fn is_own_along<A: Artifact>(
+fn answer_told<A: Artifact>(
     alloc: Global,
-    o: &Options,
-    names: &Numbers,
+    asks: Asks,
+    told: &Told,
     source: Source,
     artifacts: Vec<A>,
     bytes: &Text,
-) -> Result<bool, Starved>
+) -> Result<Option<Text>, Starved>
     requires can { CanRun (objects_of A.named A.table A.facts artifacts.items) source }
-    requires shows { Shows bytes.now o.now names.now }
+    requires shows { Shows bytes.now told.now }
     ensures { let objects = objects_of A.named A.table A.facts artifacts.items in
-        IfOk result (Decided (spec.IsOwn objects source bytes.now)) }
+        IfOk result (spec.IsJudged (spec.asks_of asks) objects source bytes.now) }
 {
-    if !is_allowed(o, &source) {
+    if !is_allowed(&told.options, &source) {
         drop(source);
         drop(artifacts);
-        return Ok(false);
+        return Ok(None);
     }
-    is_report_of(alloc, o, source, artifacts, names, bytes)
+    answer_of(alloc, asks, told, source, artifacts, bytes)
 }
 
-/// Whether bytes are the report of the options and the schedule in them, of a run of the source.
+/// What is written where the bytes are the report of the options and the schedule in them, of a run of the source; None where
+/// they are not.
 #[tactic(auto, using(crate::proofs::Verdicts::shows_by))]
-fn is_own<A: Artifact>(
+fn answer<A: Artifact>(
     alloc: Global,
+    asks: Asks,
     source: Source,
     artifacts: Vec<A>,
     bytes: &Text,
-) -> Result<bool, Starved>
+) -> Result<Option<Text>, Starved>
     requires { CanRun (objects_of A.named A.table A.facts artifacts.items) source }
     ensures { let objects = objects_of A.named A.table A.facts artifacts.items in
-        IfOk result (Decided (spec.IsOwn objects source bytes.now)) }
+        IfOk result (spec.IsJudged (spec.asks_of asks) objects source bytes.now) }
 {
     match read_report(alloc, bytes.as_slice()) {
         Err(starved) => {
@@ -122,30 +171,29 @@ fn is_own<A: Artifact>(
         Ok(None) => {
             drop(source);
             drop(artifacts);
-            Ok(false)
+            Ok(None)
         }
-        Ok(Some((options, names))) => {
-            is_own_along(alloc, &options, &names, source, artifacts, bytes)
-        }
+        Ok(Some(told)) => answer_told(alloc, asks, &told, source, artifacts, bytes),
     }
 }
 
-/// Whether the file of this name is the report of a run of the source, or why it is not read.
+/// The answer for the file of this name, or why it is not read.
 #[tactic(auto, using(crate::proofs::Verdicts::unread, crate::proofs::Verdicts::judged))]
 fn judge_file<S: Shelf, A: Artifact>(
     alloc: Global,
+    asks: Asks,
     source: Source,
     artifacts: Vec<A>,
     name: &Text,
     shelf: &mut S,
-) -> Result<bool, Status>
+) -> Result<Option<Text>, Status>
     requires { CanRun (objects_of A.named A.table A.facts artifacts.items) source }
     ensures same { S.holds shelf.new ≡ S.holds shelf.old }
     ensures later { S.faults shelf.old ≤ S.faults shelf.new }
     ensures answer { let held = S.holds shelf.old in
         let objects = objects_of A.named A.table A.facts artifacts.items in
         MatchResult result
-        (λ own. HasFile most_bytes held name.now (λ bytes. Decided (spec.IsOwn objects source bytes) own))
+        (λ r. HasFile most_bytes held name.now (λ bytes. spec.IsJudged (spec.asks_of asks) objects source bytes r))
         (IsRefusal spec.reports name.now held (S.faults shelf.old) (S.faults shelf.new)) }
 {
     match bytes_of(alloc, name, MOST_BYTES, shelf) {
@@ -154,24 +202,25 @@ fn judge_file<S: Shelf, A: Artifact>(
             drop(artifacts);
             Err(status)
         }
-        Ok(bytes) => Ok(is_own(alloc, source, artifacts, &bytes)?),
+        Ok(bytes) => Ok(answer(alloc, asks, source, artifacts, &bytes)?),
     }
 }
 
-/// Whether the file of the report is that of a run of the project, or why a file is refused.
+/// The answer for the file of the report and the project, or why a file is refused.
 #[tactic(auto, using(crate::proofs::Played::can_run, crate::proofs::Verdicts::claimed))]
 fn judge<S: Shelf, A: Artifact>(
     alloc: Global,
+    asks: Asks,
     project: &[u8],
     report: &[u8],
     shelf: &mut S,
     artifacts: Vec<A>,
-) -> Result<bool, Status>
+) -> Result<Option<Text>, Status>
     ensures same { S.holds shelf.new ≡ S.holds shelf.old }
     ensures later { S.faults shelf.old ≤ S.faults shelf.new }
     ensures answer { let held = S.holds shelf.old in
         let objects = objects_of A.named A.table A.facts artifacts.items in
-        let c = spec.claim project.now report.now in
+        let c = spec.claim (spec.asks_of asks) project.now report.now in
         MatchResult result
         (spec.IsDecided objects held c)
         (UnlessMemory (spec.ClaimRefused objects held c (S.faults shelf.old) (S.faults shelf.new))) }
@@ -180,7 +229,7 @@ fn judge<S: Shelf, A: Artifact>(
     let file = text_of(alloc, report)?;
     let usual = default_options();
     match read_source(alloc, usual.cycles, &word, &artifacts, shelf) {
-        Ok(source) => judge_file(alloc, source, artifacts, &file, shelf),
+        Ok(source) => judge_file(alloc, asks, source, artifacts, &file, shelf),
         Err(status) => {
             drop(artifacts);
             Err(status)
@@ -188,16 +237,20 @@ fn judge<S: Shelf, A: Artifact>(
     }
 }
 
-fn verdict_text(own: bool) -> &'static [u8]
-    ensures { result.now ≡ spec.verdict_text own }
+fn answer_text(answer: &Option<Text>) -> &[u8]
+    ensures { result.now ≡ spec.answer_text answer.now }
 {
-    if own { b"yes\n" } else { b"no\n" }
+    match answer {
+        Some(text) => text.as_slice(),
+        None => b"no\n",
+    }
 }
 
-/// Writes `yes` or `no`: whether the report is that of a run of the project.
-#[tactic(auto, using(crate::proofs::Claims::refused_claim, crate::proofs::Claims::written_verdict, crate::proofs::Claims::cut_verdict))]
-pub fn print_verdict<S: Shelf, K: Sink, A: Artifact>(
+/// Writes `yes`, or the report anew, where the report is that of a run of the project, and else `no`.
+#[tactic(auto, using(crate::proofs::Claims::refused_claim, crate::proofs::Claims::written_answer, crate::proofs::Claims::cut_answer))]
+pub fn print_answer<S: Shelf, K: Sink, A: Artifact>(
     alloc: Global,
+    asks: Asks,
     project: &[u8],
     report: &[u8],
     shelf: &mut S,
@@ -208,12 +261,13 @@ pub fn print_verdict<S: Shelf, K: Sink, A: Artifact>(
         IsKept (told shelf.old sink.old) (told shelf.new sink.new) }
     ensures caused { let told = told_of S.holds S.faults K.written K.faults in
         let objects = objects_of A.named A.table A.facts artifacts.items in
-        spec.ClaimCaused objects (spec.claim project.now report.now) (told shelf.old sink.old) (told shelf.new sink.new) result }
+        let c = spec.claim (spec.asks_of asks) project.now report.now in
+        spec.ClaimCaused objects c (told shelf.old sink.old) (told shelf.new sink.new) result }
 {
-    match judge(alloc, project, report, shelf, artifacts) {
+    match judge(alloc, asks, project, report, shelf, artifacts) {
         Err(status) => status,
-        Ok(own) => match write_all(sink, verdict_text(own)) {
-            Ok(()) => verdict(own),
+        Ok(answer) => match write_all(sink, answer_text(&answer)) {
+            Ok(()) => verdict(answer.is_some()),
             Err(_) => Status::WriteFault,
         },
     }

@@ -1,6 +1,6 @@
 //! Laws of what is asked for, as contracts of functions that do nothing.
 
-ghost use Rattle.mas_top.specs.Laws.{NotRefused, OneRefusal, CanRepeat, CanCheck, ReportsKeepLaws};
+ghost use Rattle.mas_top.specs.Laws.{NotRefused, OneRefusal, CanRepeat, CanCheck, CanRenew, ReportsKeepLaws};
 
 use asl_cycle::agent::Agent;
 use mas_laws::endings::runs_end;
@@ -27,12 +27,17 @@ pub fn can_repeat()
     runs_end::<Agent>();
 }
 
-/// A check of a report that a run or a replay wrote is answered by yes.
+/// A check of a report that a run or a replay wrote, in any version, is answered by yes.
 pub fn can_check()
     ensures { CanCheck }
 {
     runs_end::<Agent>();
 }
+
+/// The report anew of a report is that of the same run.
+pub fn can_renew()
+    ensures { CanRenew }
+{}
 
 /// The laws of the platform hold of the run that a report tells.
 pub fn reports_keep_laws()

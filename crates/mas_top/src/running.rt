@@ -8,6 +8,7 @@ ghost use Rattle.mas_core.specs.Platform.{opening_platform};
 ghost use Rattle.mas_core.specs.Replay.{Faulted};
 ghost use Rattle.mas_report.specs.Limits.{IsFrom, IsWithin};
 ghost use Rattle.mas_report.specs.Report as spec;
+ghost use Rattle.mas_schedule.specs.Schedule.{AllFromOne, printed};
 ghost use Rattle.mas_top.specs.Fits.{CanOpen, CanRun};
 ghost use Rattle.mas_top.specs.Headline.{IsRunReport};
 ghost use Rattle.mas_top.specs.Opening.{no_text, objects_of, opening, opening_board, opening_minds, opening_world, setup};
@@ -27,7 +28,7 @@ use mas_mind::thinking::Mind;
 use mas_pool::pool::run_pool;
 use mas_reading::sources::Source;
 use mas_report::options::Options;
-use mas_report::report::{is_spent, report};
+use mas_report::report::{LATEST, is_spent, report};
 use mas_world::acts::WorldText;
 use mas_world::artifact::Artifact;
 use mas_world::opening::open_world;
@@ -109,10 +110,11 @@ fn told<M: Mind, A: Artifact>(
     done: &Done<M, A>,
 ) -> Result<Output, Starved>
     ensures spent { IfOk result (λ out. out.spent ≡ spec.is_spent done.now.board.state.seats) }
-    ensures text { IfOk result (λ out. out.text ≡ spec.report_text M.kind.lines o.now done.now.board.state done.now.minds done.now.board.schedule) }
+    ensures text { IfOk result (λ out. out.text ≡ spec.report_text M.kind.lines spec.latest o.now done.now.board.state done.now.minds done.now.board.schedule) }
+    ensures printed { AllFromOne 65535 done.now.board.schedule → IfOk result (λ out. printed out.text ≡ done.now.board.schedule) }
 {
     let spent = is_spent(&done.board);
-    let text = report(alloc, o, done)?;
+    let text = report(alloc, LATEST, o, done)?;
     Ok(Output { text, spent })
 }
 

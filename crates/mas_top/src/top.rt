@@ -13,7 +13,7 @@ ghost use Rattle.mas_words.specs.Asked as said;
 ghost use Rattle.mas_words.specs.Asked.{IsPermitted, asked_of};
 ghost use Rattle.mas_words.specs.Plain.{AskFor, AskForNothing};
 
-use crate::checking::print_verdict;
+use crate::checking::{Asks, print_answer};
 use crate::demo::print_demo;
 use crate::playing::{How, run_files};
 use mas_going::gate::Gate;
@@ -101,7 +101,8 @@ fn run_asked<R: Threads + Wait + Sync, S: Shelf, K: Sink, A: Artifact + Send, G:
             )
         }
         Asked::Check { project, report } => {
-            print_verdict(alloc, project, report, shelf, sink, artifacts)
+            let asks = Asks::Whether;
+            print_answer(alloc, asks, project, report, shelf, sink, artifacts)
         }
         Asked::Demo { count, workers } => print_demo(
             rt,
@@ -112,6 +113,10 @@ fn run_asked<R: Threads + Wait + Sync, S: Shelf, K: Sink, A: Artifact + Send, G:
             gate,
             artifacts,
         ),
+        Asked::Renew { project, report } => {
+            let asks = Asks::Anew;
+            print_answer(alloc, asks, project, report, shelf, sink, artifacts)
+        }
     }
 }
 

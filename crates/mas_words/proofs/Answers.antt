@@ -5,7 +5,7 @@ use Rattle.std.specs.List.{slice_get}
 use Rattle.std.specs.Prelude.{option_map}
 use mathlib.Core.Path.{fun_ext}
 use Rattle.mas_words.specs.declared.table.Command.{Command}
-use Rattle.mas_words.specs.declared.table.Command.TheVariants.{Run, Replay, Check, Demo}
+use Rattle.mas_words.specs.declared.table.Command.TheVariants.{Run, Replay, Check, Demo, Renew}
 use Rattle.mas_words.specs.declared.table.Setting.{Setting}
 use Rattle.mas_words.specs.declared.asked.Asked as code
 use Rattle.mas_words.specs.Table.{form, name_count, command_of, commands}
@@ -39,6 +39,12 @@ count_check (n ∷ []) f a e = absurd (grind arith)
 count_check (n ∷ m ∷ []) f a e = refl
 count_check (n ∷ m ∷ k ∷ ns) f a e = absurd (grind arith)
 
+count_renew : (ns : List (List ℕ)) (f : Setting → Option (List ℕ)) (a : Asked) → asked_by Renew ns f ≡ Some a → length ns ≡ 2
+count_renew [] f a e = absurd (grind arith)
+count_renew (n ∷ []) f a e = absurd (grind arith)
+count_renew (n ∷ m ∷ []) f a e = refl
+count_renew (n ∷ m ∷ k ∷ ns) f a e = absurd (grind arith)
+
 count_demo : (ns : List (List ℕ)) (f : Setting → Option (List ℕ)) (a : Asked) → asked_by Demo ns f ≡ Some a → length ns ≡ 1
 count_demo [] f a e = absurd (grind arith)
 count_demo (n ∷ []) f a e = refl
@@ -49,6 +55,7 @@ count Run ns f a e = count_run ns f a e
 count Replay ns f a e = count_replay ns f a e
 count Check ns f a e = count_check ns f a e
 count Demo ns f a e = count_demo ns f a e
+count Renew ns f a e = count_renew ns f a e
 
 -- ---- what is read is asked for
 

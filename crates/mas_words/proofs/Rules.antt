@@ -6,7 +6,7 @@ use Rattle.clap.specs.Simple.{built, is_simple, new_rule}
 use Rattle.clap.specs.declared.builder.action.ArgAction.TheVariants.{Set}
 use Rattle.clap.specs.declared.builder.value_parser.ValueParser.TheVariants as parser
 use Rattle.mas_words.specs.declared.table.Command.{Command}
-use Rattle.mas_words.specs.declared.table.Command.TheVariants.{Run, Replay, Check, Demo}
+use Rattle.mas_words.specs.declared.table.Command.TheVariants.{Run, Replay, Check, Demo, Renew}
 use Rattle.mas_words.specs.declared.table.Setting.{Setting}
 use Rattle.mas_words.specs.declared.table.Setting.TheVariants.{Workers, Cycles, Lead, Depth, Tries, Level}
 use Rattle.mas_words.specs.Table.{takes, name_count, same}
@@ -29,6 +29,7 @@ abbrev pub name_id : Command → ℕ → Text
 name_id Replay (suc k) = codes "schedule"
 name_id Check (suc k) = codes "report"
 name_id Demo k = codes "count"
+name_id Renew (suc k) = codes "report"
 name_id _ _ = codes "project"
 
 abbrev pub name_built : Command → ℕ → Rule
@@ -42,6 +43,7 @@ simple Run = refl
 simple Replay = refl
 simple Check = refl
 simple Demo = refl
+simple Renew = refl
 
 pub by_long : (c : Command) (o : Setting) → takes c o ≡ true → arg_by_long (rules_for c) (id_of o) ≡ Some (option_built o)
 by_long Run Workers e = refl
@@ -59,6 +61,7 @@ by_long Replay Level e = refl
 by_long Check o e = absurd (grind arith)
 by_long Demo Workers e = refl
 by_long Demo o e = absurd (grind arith)
+by_long Renew o e = absurd (grind arith)
 
 pub option_by_id : (c : Command) (o : Setting) → takes c o ≡ true → arg_by_id (rules_for c) (id_of o) ≡ Some (option_built o)
 option_by_id Run Workers e = refl
@@ -76,6 +79,7 @@ option_by_id Replay Level e = refl
 option_by_id Check o e = absurd (grind arith)
 option_by_id Demo Workers e = refl
 option_by_id Demo o e = absurd (grind arith)
+option_by_id Renew o e = absurd (grind arith)
 
 pub by_index : (c : Command) (k : ℕ) → k < name_count c → arg_by_index (rules_for c) (1 + k) ≡ Some (name_built c k)
 by_index Run zero h = refl
@@ -88,6 +92,9 @@ by_index Check (suc zero) h = refl
 by_index Check (suc (suc k)) h = absurd (omega arith)
 by_index Demo zero h = refl
 by_index Demo (suc k) h = absurd (omega arith)
+by_index Renew zero h = refl
+by_index Renew (suc zero) h = refl
+by_index Renew (suc (suc k)) h = absurd (omega arith)
 
 pub name_by_id : (c : Command) (k : ℕ) → k < name_count c → arg_by_id (rules_for c) (name_id c k) ≡ Some (name_built c k)
 name_by_id Run zero h = refl
@@ -100,6 +107,9 @@ name_by_id Check (suc zero) h = refl
 name_by_id Check (suc (suc k)) h = absurd (omega arith)
 name_by_id Demo zero h = refl
 name_by_id Demo (suc k) h = absurd (omega arith)
+name_by_id Renew zero h = refl
+name_by_id Renew (suc zero) h = refl
+name_by_id Renew (suc (suc k)) h = absurd (omega arith)
 
 -- ---- no two arguments have one id
 
@@ -125,6 +135,12 @@ option_name Check Lead (suc k) = refl
 option_name Check Depth (suc k) = refl
 option_name Check Tries (suc k) = refl
 option_name Check Level (suc k) = refl
+option_name Renew Workers (suc k) = refl
+option_name Renew Cycles (suc k) = refl
+option_name Renew Lead (suc k) = refl
+option_name Renew Depth (suc k) = refl
+option_name Renew Tries (suc k) = refl
+option_name Renew Level (suc k) = refl
 option_name _ Workers _ = refl
 option_name _ Cycles _ = refl
 option_name _ Lead _ = refl
@@ -145,6 +161,12 @@ name_option Check Lead (suc k) = refl
 name_option Check Depth (suc k) = refl
 name_option Check Tries (suc k) = refl
 name_option Check Level (suc k) = refl
+name_option Renew Workers (suc k) = refl
+name_option Renew Cycles (suc k) = refl
+name_option Renew Lead (suc k) = refl
+name_option Renew Depth (suc k) = refl
+name_option Renew Tries (suc k) = refl
+name_option Renew Level (suc k) = refl
 name_option _ Workers _ = refl
 name_option _ Cycles _ = refl
 name_option _ Lead _ = refl
@@ -174,6 +196,13 @@ other_name Check (suc (suc j)) k e h f = absurd (omega arith)
 other_name Demo zero zero e h f = absurd (grind arith)
 other_name Demo (suc j) k e h f = absurd (omega arith)
 other_name Demo zero (suc k) e h f = absurd (omega arith)
+other_name Renew zero zero e h f = absurd (grind arith)
+other_name Renew zero (suc zero) e h f = refl
+other_name Renew zero (suc (suc k)) e h f = absurd (omega arith)
+other_name Renew (suc zero) zero e h f = refl
+other_name Renew (suc zero) (suc zero) e h f = absurd (grind arith)
+other_name Renew (suc zero) (suc (suc k)) e h f = absurd (omega arith)
+other_name Renew (suc (suc j)) k e h f = absurd (omega arith)
 
 pub same_self : (o : Setting) → same o o ≡ true
 same_self Workers = refl
@@ -190,3 +219,5 @@ same_name Replay (suc k) = refl
 same_name Check zero = refl
 same_name Check (suc k) = refl
 same_name Demo k = refl
+same_name Renew zero = refl
+same_name Renew (suc k) = refl

@@ -6,20 +6,21 @@ use Rattle.mas_mind.specs.declared.mind.Level.TheVariants as level
 use Rattle.mas_report.specs.declared.options.Options.{Options}
 use Rattle.mas_report.specs.Limits.{IsFrom, IsWithin, defaults}
 use Rattle.mas_words.specs.declared.table.Command.{Command}
-use Rattle.mas_words.specs.declared.table.Command.TheVariants.{Run, Replay, Check, Demo}
+use Rattle.mas_words.specs.declared.table.Command.TheVariants.{Run, Replay, Check, Demo, Renew}
 use Rattle.mas_words.specs.declared.table.Setting.{Setting}
 use Rattle.mas_words.specs.declared.table.Setting.TheVariants.{Workers, Cycles, Lead, Depth, Tries, Level as OfLevel}
 use Rattle.mas_words.specs.declared.asked.Asked as code
 use Rattle.mas_words.specs.declared.asked.Asked.TheVariants as code_variant
 use Rattle.mas_words.specs.Numbers.{number_in}
 
--- a run of a project by so many workers, a replay of it along a schedule, whether a report is that of a run of a project, and
--- a demonstration with so many agents and workers
+-- a run of a project by so many workers, a replay of it along a schedule, whether a report is that of a run of a project, a
+-- demonstration with so many agents and workers, and the report of a run of a project anew
 pub data Asked : Type 0 where
   run : List ℕ → Options → ℕ → Asked
   replay : List ℕ → List ℕ → Options → Asked
   check : List ℕ → List ℕ → Asked
   demo : ℕ → ℕ → Asked
+  renew : List ℕ → List ℕ → Asked
 
 -- ---- what the texts of options say; None where it is not permitted
 
@@ -69,6 +70,7 @@ asked_by Run (project ∷ []) text = run_with project (options_for text) (worker
 asked_by Replay (project ∷ schedule ∷ []) text = option_map (replay project schedule) (options_for text)
 asked_by Check (project ∷ report ∷ []) text = Some (check project report)
 asked_by Demo (count ∷ []) text = demo_with (number_in 1 200 count) (workers_for text)
+asked_by Renew (project ∷ report ∷ []) text = Some (renew project report)
 asked_by _ _ text = None
 
 -- the numbers are those that the options and names permit
@@ -77,6 +79,7 @@ IsPermitted (run project options workers) = IsWithin options × IsFrom 1 64 work
 IsPermitted (replay project schedule options) = IsWithin options
 IsPermitted (check project report) = Unit {0}
 IsPermitted (demo count workers) = IsFrom 1 200 count × IsFrom 1 64 workers
+IsPermitted (renew project report) = Unit {0}
 
 -- ---- how the code holds it
 
@@ -85,3 +88,4 @@ asked_of (code_variant.Run project options workers) = run project.now options wo
 asked_of (code_variant.Replay project schedule options) = replay project.now schedule.now options
 asked_of (code_variant.Check project report) = check project.now report.now
 asked_of (code_variant.Demo count workers) = demo count workers
+asked_of (code_variant.Renew project report) = renew project.now report.now

@@ -2,7 +2,7 @@
 use Rattle.std.specs.Prelude.{ℕ, Bool, true, false, List, [], ◌∷◌, codes, if◌then◌else◌, Option, find}
 use Rattle.std.specs.Str.{bytes_eq}
 use Rattle.mas_words.specs.declared.table.Command.{Command}
-use Rattle.mas_words.specs.declared.table.Command.TheVariants.{Run, Replay, Check, Demo}
+use Rattle.mas_words.specs.declared.table.Command.TheVariants.{Run, Replay, Check, Demo, Renew}
 use Rattle.mas_words.specs.declared.table.Setting.{Setting}
 use Rattle.mas_words.specs.declared.table.Setting.TheVariants.{Workers, Cycles, Lead, Depth, Tries, Level}
 
@@ -20,9 +20,10 @@ form Run = record { word = codes "run"; names = 1; options = settings }
 form Replay = record { word = codes "replay"; names = 2; options = Cycles ∷ Lead ∷ Depth ∷ Tries ∷ Level ∷ [] }
 form Check = record { word = codes "check"; names = 2; options = [] }
 form Demo = record { word = codes "demo"; names = 1; options = Workers ∷ [] }
+form Renew = record { word = codes "renew"; names = 2; options = [] }
 
 abbrev pub commands : List Command
-commands = Run ∷ Replay ∷ Check ∷ Demo ∷ []
+commands = Run ∷ Replay ∷ Check ∷ Demo ∷ Renew ∷ []
 
 abbrev pub command_of : List ℕ → Option Command
 command_of word = find (λ c. bytes_eq word (form c).word) commands

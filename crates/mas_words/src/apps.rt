@@ -85,6 +85,16 @@ fn demo_app<'a>(alloc: Global) -> Result<App<'a>, AllocError>
     }
 }
 
+fn renew_app<'a>(alloc: Global) -> Result<App<'a>, AllocError>
+    ensures { IfOk result (λ a. app_of a ≡ spec.app_for Command.Renew) }
+{
+    let app = with_name(alloc, bare(alloc, "renew"), "project")?;
+    match with_name(alloc, app, "report") {
+        Ok(app) => Ok(app),
+        Err(error) => Err(error),
+    }
+}
+
 /// The command for clap.
 pub fn app_for<'a>(alloc: Global, command: Command) -> Result<App<'a>, AllocError>
     ensures { IfOk result (λ a. app_of a ≡ spec.app_for command) }
@@ -94,5 +104,6 @@ pub fn app_for<'a>(alloc: Global, command: Command) -> Result<App<'a>, AllocErro
         Command::Replay => replay_app(alloc),
         Command::Check => check_app(alloc),
         Command::Demo => demo_app(alloc),
+        Command::Renew => renew_app(alloc),
     }
 }

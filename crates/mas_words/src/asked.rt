@@ -27,4 +27,9 @@ pub enum Asked<'a> {
         count: u64,
         workers: u64,
     },
+    /// The report of a run of the project, as it is written now.
+    Renew {
+        project: &'a [u8],
+        report: &'a [u8],
+    },
 }

@@ -9,6 +9,7 @@ pub enum Command {
     Replay,
     Check,
     Demo,
+    Renew,
 }
 
 /// What an option sets.
@@ -37,6 +38,9 @@ pub fn command_of(word: &[u8]) -> Option<Command>
     }
     if word == b"demo".as_slice() {
         return Some(Command::Demo);
+    }
+    if word == b"renew".as_slice() {
+        return Some(Command::Renew);
     }
     None
 }
@@ -75,6 +79,7 @@ pub fn takes(command: Command, setting: Setting) -> bool
         Command::Replay => !matches!(setting, Setting::Workers),
         Command::Check => false,
         Command::Demo => matches!(setting, Setting::Workers),
+        Command::Renew => false,
     }
 }
 
@@ -87,5 +92,6 @@ pub fn name_count(command: Command) -> u64
         Command::Replay => 2,
         Command::Check => 2,
         Command::Demo => 1,
+        Command::Renew => 2,
     }
 }

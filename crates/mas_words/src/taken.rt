@@ -76,6 +76,7 @@ fn said_by<'a>(command: Command, matches: &ArgMatches<'a>) -> Said<'a>
         Command::Replay => (text_of(matches, "project"), text_of(matches, "schedule")),
         Command::Check => (text_of(matches, "project"), text_of(matches, "report")),
         Command::Demo => (text_of(matches, "count"), None),
+        Command::Renew => (text_of(matches, "project"), text_of(matches, "report")),
     };
     Said {
         first,

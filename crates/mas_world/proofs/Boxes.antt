@@ -3,8 +3,8 @@ use Rattle.std.proofs.Common.{arith, ◌≡◌, ◌≢◌, ◌<◌, ◌≤◌, �
 use Rattle.std.specs.List.{AllByRecursion}
 use Rattle.asl_term.specs.Spare.{WithSpare}
 use Rattle.mas_mind.specs.declared.mind.Message.{Message}
-use Rattle.mas_mind.specs.Minds.{IsAgent, IsFor}
-use Rattle.mas_world.specs.Posts.{AreEmpty, IsPost, OthersStay, list_in, messages, spare, spare_in}
+use Rattle.mas_mind.specs.Minds.{IsAgent}
+use Rattle.mas_world.specs.Posts.{AreEmpty, IsPost, IsTo, OthersStay, list_in, messages, spare, spare_in}
 
 abbrev Box : Type 0
 Box = WithSpare Message
@@ -64,14 +64,13 @@ same_or_not zero (suc k) = inr (λ e. omega (arith, e))
 same_or_not (suc i) zero = inr (λ e. omega (arith, e))
 same_or_not (suc i) (suc k) = elim (same_or_not i k) [ inl e ↦ inl (ap suc e) | inr n ↦ inr (λ e. n (omega (arith, e))) ]
 
-abbrev For : ℕ → ℕ → List Message → Type 0
-For a agents ms = AllByRecursion (IsFor a agents) ms
+abbrev For : ℕ → List Message → Type 0
+For a ms = AllByRecursion (IsTo a) ms
 
-moved : (a b m n : ℕ) (ms ns : List Message) → a ≡ b → m ≡ n → ms ≡ ns → For a m ms → For b n ns
-moved a b m n ms ns p q r h =
-    let A : ℕ → Type 0 = λ x. For x m ms in
-    let M : ℕ → Type 0 = λ x. For b x ms in
-    subst (For b n) r (subst M q (subst A p h))
+moved : (a b : ℕ) (ms ns : List Message) → a ≡ b → ms ≡ ns → For a ms → For b ns
+moved a b ms ns p r h =
+    let A : ℕ → Type 0 = λ x. For x ms in
+    subst (For b) r (subst A p h)
 
 module _ (boxes self : List Box) (is : boxes ≡ self) (a : ℕ) (agent : IsAgent (length self) a) (old new : Box) (at : slice_get boxes (a - 1) ≡ Some old) where
   abbrev written : List Box
@@ -105,43 +104,41 @@ module _ (boxes self : List Box) (is : boxes ≡ self) (a : ℕ) (agent : IsAgen
   }
 
   -- what was in the box
-  pub were : IsPost boxes → AllByRecursion (IsFor a (length boxes)) old.list
-  were p = moved ((a - 1) + 1) a (length boxes) (length boxes) (list_in (slice_get boxes (a - 1))) old.list up refl (ap list_in at) (p.addressed (a - 1))
+  pub were : IsPost boxes → For a old.list
+  were p = moved ((a - 1) + 1) a (list_in (slice_get boxes (a - 1))) old.list up (ap list_in at) (p.addressed (a - 1))
 
-  pub are : IsPost boxes → AllByRecursion (IsFor a (length boxes)) new.list → IsPost written
+  pub are : IsPost boxes → For a new.list → IsPost written
   are p h = record {
     addressed = λ k. elim (same_or_not (a - 1) k) [
-      | inl e ↦ moved a (k + 1) (length boxes) (length written) new.list (list_in (slice_get written k)) (omega (arith, agent.from_one, e))
-          (sym (length-set boxes (a - 1) new)) (ap list_in (sym there) ∙ ap (λ i. list_in (slice_get written i)) (sym e)) h
-      | inr n ↦ moved (k + 1) (k + 1) (length boxes) (length written) (list_in (slice_get boxes k)) (list_in (slice_get written k)) refl
-          (sym (length-set boxes (a - 1) new)) (ap list_in (sym (set_other boxes (a - 1) k new n))) (p.addressed k)
+      | inl e ↦ moved a (k + 1) new.list (list_in (slice_get written k)) (omega (arith, agent.from_one, e))
+          (ap list_in (sym there) ∙ ap (λ i. list_in (slice_get written i)) (sym e)) h
+      | inr n ↦ moved (k + 1) (k + 1) (list_in (slice_get boxes k)) (list_in (slice_get written k)) refl
+          (ap list_in (sym (set_other boxes (a - 1) k new n))) (p.addressed k)
     ];
   }
 
   -- one more message
-  pub put : {T E : Type 0} (r : Result T E) (m : Message) → OnOk r (new.list ≡ old.list ++ m ∷ []) → OnErr r (new.list ≡ old.list) → IsPost boxes → m.to ≡ a → IsAgent (length self) m.from → IsPost written
-  put r m ok err p to from =
-      let sender = subst (λ n. IsAgent n m.from) (sym (ap length is)) from in
-      are p (put_all (IsFor a (length boxes)) r old.list new.list m ok err (were p) (record { to_me = to; sender = sender }))
+  pub put : {T E : Type 0} (r : Result T E) (m : Message) → OnOk r (new.list ≡ old.list ++ m ∷ []) → OnErr r (new.list ≡ old.list) → IsPost boxes → m.to ≡ a → IsPost written
+  put r m ok err p to = are p (put_all (IsTo a) r old.list new.list m ok err (were p) to)
 
   pub grows : old.spare ≤ new.spare → spare self a ≤ spare written a
   grows h = subst (λ n. n ≤ spare written a) (sym was_spare) (subst (λ n. old.spare ≤ n) (sym now_spare) h)
 
   -- the same messages
   pub same : new.list ≡ old.list → IsPost boxes → IsPost written
-  same e p = are p (subst (AllByRecursion (IsFor a (length boxes))) (sym e) (were p))
+  same e p = are p (subst (For a) (sym e) (were p))
 
   -- without the oldest
   pub taken : new.list ≡ remove old.list 0 → IsPost boxes → IsPost written
-  taken e p = are p (subst (AllByRecursion (IsFor a (length boxes))) (sym e) (rest_all (IsFor a (length boxes)) old.list (were p)))
+  taken e p = are p (subst (For a) (sym e) (rest_all (IsTo a) old.list (were p)))
 
   -- the oldest
-  pub oldest : IsPost boxes → IfSome (slice_get old.list 0) (IsFor a (length self))
-  oldest p = subst (λ n. IfSome (slice_get old.list 0) (IsFor a n)) (ap length is) (first_of_all (IsFor a (length boxes)) old.list (were p))
+  pub oldest : IsPost boxes → IfSome (slice_get old.list 0) (IsTo a)
+  oldest p = first_of_all (IsTo a) old.list (were p)
 
 -- empty boxes
 pub empty_are : (boxes : List Box) → AreEmpty boxes → IsPost boxes
-empty_are boxes e = record { addressed = λ k. subst (AllByRecursion (IsFor (k + 1) (length boxes))) (sym (e k)) tt }
+empty_are boxes e = record { addressed = λ k. subst (For (k + 1)) (sym (e k)) tt }
 
 pub empty_push : (boxes : List Box) (b : Box) → AreEmpty boxes → b.list ≡ [] → AreEmpty (boxes ++ b ∷ [])
 empty_push [] b e h zero = h

@@ -3,7 +3,6 @@ use Rattle.std.specs.Prelude.{◌≡◌, ◌≢◌, ◌+◌, ◌-◌, ℕ, List,
 use Rattle.std.specs.List.{AllByRecursion}
 use Rattle.asl_term.specs.Spare.{WithSpare}
 use Rattle.mas_mind.specs.declared.mind.Message.{Message}
-use Rattle.mas_mind.specs.Minds.{IsFor}
 
 abbrev pub list_in : Option (WithSpare Message) → List Message
 list_in (Some b) = b.list
@@ -29,6 +28,10 @@ pub record OthersStay (a : ℕ) (old new : List (WithSpare Message)) : Type 0 wh
   pub number : length new ≡ length old
   pub stay : (k : ℕ) → k ≢ a - 1 → slice_get new k ≡ slice_get old k
 
--- each message is to the agent of its box, from an agent that has a box
+-- a message to this agent
+abbrev pub IsTo : ℕ → Message → Type 0
+IsTo a m = m.to ≡ a
+
+-- each message is to the agent of its box
 pub record IsPost (boxes : List (WithSpare Message)) : Type 0 where
-  pub addressed : (k : ℕ) → AllByRecursion (IsFor (k + 1) (length boxes)) (list_in (slice_get boxes k))
+  pub addressed : (k : ℕ) → AllByRecursion (IsTo (k + 1)) (list_in (slice_get boxes k))

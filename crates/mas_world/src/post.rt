@@ -2,8 +2,9 @@
 
 ghost use Rattle.std.specs.Prelude.{◌≡◌, [], ◌<◌, ◌≤◌, ◌+◌, ◌∷◌, ◌++◌, drop, length, IsOk, OnOk, OnErr, IfSome, slice_get};
 ghost use Rattle.std.specs.Option.{option_copied};
-ghost use Rattle.mas_mind.specs.Minds.{IsAgent, IsFor};
+ghost use Rattle.mas_mind.specs.Minds.{IsAgent};
 ghost use Rattle.mas_world.specs.Posts as spec;
+ghost use Rattle.mas_world.specs.Posts.{IsTo};
 
 use asl_term::room::Roomy;
 use asl_term::sequence::{Seq, Starved};
@@ -57,8 +58,7 @@ impl Post {
 
     /// Puts a message last into the box of its receiver.
     pub fn put(&mut self, m: Message) -> Result<(), Starved>
-        requires to { IsAgent (length self.old) m.to }
-        requires from { IsAgent (length self.old) m.from }
+        requires { IsAgent (length self.old) m.to }
         ensures ok { OnOk result (spec.messages self.new m.to ≡ spec.messages self.old m.to ++ m ∷ []) }
         ensures err { OnErr result (spec.messages self.new m.to ≡ spec.messages self.old m.to) }
         ensures room { 0 < spec.spare self.old m.to → IsOk result × (spec.spare self.new m.to + 1 ≡ spec.spare self.old m.to) }
@@ -75,7 +75,7 @@ impl Post {
         ensures rest { spec.messages self.new a ≡ drop 1 (spec.messages self.old a) }
         ensures room { 0 < length (spec.messages self.old a) → spec.spare self.new a ≡ spec.spare self.old a + 1 }
         ensures kept { spec.spare self.old a ≤ spec.spare self.new a }
-        ensures addressed { IfSome result (IsFor a (length self.old)) }
+        ensures addressed { IfSome result (IsTo a) }
         ensures others { spec.OthersStay a self.old self.new }
     {
         self.boxes.at_mut((a - 1) as u64).remove(0)

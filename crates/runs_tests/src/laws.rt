@@ -10,7 +10,9 @@ fn laws_are_called() {
     mas_project::laws::one_answer();
     mas_project::laws::some_agents();
     mas_schedule::laws::one_answer();
+    mas_schedule::laws::one_end();
     mas_schedule::laws::printed_again();
+    mas_schedule::laws::maximal_runs();
     mas_reading::laws::one_source();
     mas_reading::laws::not_refused();
     mas_reading::laws::one_refusal();
@@ -21,5 +23,7 @@ fn laws_are_called() {
     mas_top::laws::not_refused();
     mas_top::laws::one_refusal();
     mas_top::laws::can_repeat();
+    mas_top::laws::can_check();
+    mas_top::laws::can_renew();
     mas_top::laws::reports_keep_laws();
 }

@@ -83,7 +83,7 @@ fn told<R: Threads + Wait + Sync>(
 
 const RUN: (&str, &str) = ("run", "m.mas2j");
 
-const PINGED_ONCE: &[u8] = b"jasonrun 1
+const PINGED_ONCE: &[u8] = b"jasonrun 2
 cycles 1000 lead 8 depth 500 tries 100000 level acts
 agent a
 1 does ping
@@ -95,10 +95,10 @@ world
 fact pings(1)
 mail
 schedule 11
-1 1 1 1 1 1 1 1 1 1 1
+1x11
 ";
 
-const PINGED_AGAIN: &[u8] = b"jasonrun 1
+const PINGED_AGAIN: &[u8] = b"jasonrun 2
 cycles 1000 lead 8 depth 500 tries 100000 level acts
 agent a
 1 does ping
@@ -108,7 +108,7 @@ world
 fact pings(2)
 mail
 schedule 7
-1 1 1 1 1 1 1
+1x7
 ";
 
 /// An artifact has no table with an act that drops an artifact.

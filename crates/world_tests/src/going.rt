@@ -100,7 +100,23 @@ fn disposes<'a>(
 
 const SCRAP: &[u8] = b"act scrap by A -> drop pings, +scrapped.";
 
-/// An artifact that an act drops is dropped, once, and the others stay.
+fn count(gone: &AtomicU64) -> u64 {
+    gone.load(Ordering::SeqCst)
+}
+
+/// Whether an act drops an artifact, once, and the others stay.
+fn drops_one<'a>(
+    alloc: Global,
+    world: &mut World<Counted<'a>>,
+    gone: &AtomicU64,
+) -> Result<bool, Starved> {
+    let kept = does(alloc, world, b"ping")? && count(gone) == 0;
+    let dropped = does(alloc, world, b"scrap")? && count(gone) == 1;
+    let once = does(alloc, world, b"scrap")? && count(gone) == 1;
+    let others = does(alloc, world, b"ping")? && world.facts(alloc)?.len() == 2;
+    Ok(kept && dropped && once && others)
+}
+
 #[test]
 fn an_act_drops_an_artifact(rt: HostRuntime) -> Result<(), Starved> {
     let alloc = rt.alloc();
@@ -108,20 +124,25 @@ fn an_act_drops_an_artifact(rt: HostRuntime) -> Result<(), Starved> {
     let Ok(mut world) = world_of(alloc, SCRAP, &gone) else {
         return Err(Starved);
     };
-    assert!(rt; does(alloc, &mut world, b"ping")?);
-    assert!(rt; gone.load(Ordering::SeqCst) == 0);
-    assert!(rt; does(alloc, &mut world, b"scrap")?);
-    assert!(rt; gone.load(Ordering::SeqCst) == 1);
-    assert!(rt; does(alloc, &mut world, b"scrap")?);
-    assert!(rt; gone.load(Ordering::SeqCst) == 1);
-    assert!(rt; does(alloc, &mut world, b"ping")?);
-    assert!(rt; world.facts(alloc)?.len() == 2);
+    let told = drops_one(alloc, &mut world, &gone);
     drop(world);
-    assert!(rt; gone.load(Ordering::SeqCst) == 2);
+    assert!(rt; told?);
+    assert!(rt; count(&gone) == 2);
     Ok(())
 }
 
-/// A second disposing under a name finds none.
+/// Whether a second disposing under a name finds none.
+fn disposes_once<'a>(
+    alloc: Global,
+    world: &mut World<Counted<'a>>,
+    gone: &AtomicU64,
+) -> Result<bool, Starved> {
+    let found = disposes(alloc, world, b"pings")? && count(gone) == 1;
+    let again = disposes(alloc, world, b"pings")?;
+    let other = disposes(alloc, world, b"crane")?;
+    Ok(found && !again && !other && count(gone) == 1 && world.facts(alloc)?.len() == 1)
+}
+
 #[test]
 fn an_artifact_is_disposed_of_once(rt: HostRuntime) -> Result<(), Starved> {
     let alloc = rt.alloc();
@@ -129,14 +150,10 @@ fn an_artifact_is_disposed_of_once(rt: HostRuntime) -> Result<(), Starved> {
     let Ok(mut world) = world_of(alloc, b"", &gone) else {
         return Err(Starved);
     };
-    assert!(rt; disposes(alloc, &mut world, b"pings")?);
-    assert!(rt; gone.load(Ordering::SeqCst) == 1);
-    assert!(rt; !disposes(alloc, &mut world, b"pings")?);
-    assert!(rt; !disposes(alloc, &mut world, b"crane")?);
-    assert!(rt; gone.load(Ordering::SeqCst) == 1);
-    assert!(rt; world.facts(alloc)?.len() == 1);
+    let told = disposes_once(alloc, &mut world, &gone);
     drop(world);
-    assert!(rt; gone.load(Ordering::SeqCst) == 2);
+    assert!(rt; told?);
+    assert!(rt; count(&gone) == 2);
     Ok(())
 }
 
@@ -169,8 +186,8 @@ fn an_unused_artifact_is_dropped(rt: HostRuntime) -> Result<(), Starved> {
     let Ok(world) = empty_world(alloc, all) else {
         return Err(Starved);
     };
-    assert!(rt; gone.load(Ordering::SeqCst) == 1);
+    assert!(rt; count(&gone) == 1);
     drop(world);
-    assert!(rt; gone.load(Ordering::SeqCst) == 1);
+    assert!(rt; count(&gone) == 1);
     Ok(())
 }

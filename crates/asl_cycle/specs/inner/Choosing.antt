@@ -1,19 +1,7 @@
--- What the search for an applicable plan promises itself.
-use Rattle.std.specs.Prelude.{ℕ, ◌≤◌, Option, None, Some}
+-- What the search for an applicable plan promises the step behind it.
+use Rattle.std.specs.Prelude.{ℕ, ◌≤◌}
 use Rattle.asl_cycle.specs.declared.config.Applied.{Applied}
 use Rattle.asl_cycle.specs.declared.config.Applied.TheVariants as applied
-use Rattle.asl_cycle.specs.declared.config.Chosen.{Chosen}
-use Rattle.asl_cycle.specs.declared.config.Chosen.TheVariants as chosen
-
--- the next fresh number is at most that
-abbrev pub ChosenAtMost : ℕ → Chosen → Type 0
-ChosenAtMost most (chosen.Plan m s n) = n ≤ most
-ChosenAtMost most other = Unit {0}
-
--- what is decided, or the rest
-abbrev pub or_else : Option Chosen → Chosen → Chosen
-or_else None rest = rest
-or_else (Some x) rest = x
 
 -- the next fresh number of what was chosen is at most that
 abbrev pub AppliedAtMost : ℕ → Applied → Type 0

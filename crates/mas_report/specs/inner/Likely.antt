@@ -44,8 +44,3 @@ likely bytes =
     let lead = next_number cycles.1 in
     let depth = next_number lead.1 in
     likely_with cycles lead depth (next_number depth.1)
-
--- what is behind the first line
-abbrev pub behind_line : List ℕ → Option (List ℕ)
-behind_line [] = None
-behind_line (b ∷ bytes) = if nat_eq b 10 then Some bytes else behind_line bytes

@@ -1,5 +1,5 @@
-use Rattle.mas_report.proofs.Shown.{one_shown}
+use Rattle.mas_report.proofs.Shown.{one_shown, shown_printed}
 use Rattle.mas_report.proofs.reading.one_shown.Goals as goal
 
 pub returns : goal.returns
-returns c = one_shown
+returns c = record { one = one_shown; printed = shown_printed }

@@ -1,18 +1,7 @@
-use Rattle.std.proofs.Common.{rules}
-use Rattle.mas_report.specs.Reading.{BeginsWith}
-use Rattle.mas_report.proofs.Shown.{no_line, not_optioned_by, not_scheduled_by}
+use Rattle.mas_report.proofs.Shown.{told_from}
 use Rattle.mas_report.proofs.reading.read_report.Goals as goal
 
-pub returns-in_default : goal.returns-in_default
-returns-in_default c = no_line c.args.bytes.now c.in_default.ensures
-
-pub returns-in-Ok-None : goal.returns-in-Ok-None
-returns-in-Ok-None c =
-    not_optioned_by c.args.bytes.now c.in-Some.behind.now c.in-Ok-None.field-0 c.in-Some.ensures c.in-Ok-None.field-0-is c.in-Ok-None.ensures
-
-pub returns-in-Ok-None-last_schedule : goal.returns-in-Ok-None-last_schedule
-returns-in-Ok-None-last_schedule c =
-    let front = c.in-Ok-Some.front in
-    let b : BeginsWith c.in-Some.behind.now front.options front.behind.now = search rules in
-    let last = c.in-Ok-None-last_schedule in
-    not_scheduled_by c.args.bytes.now c.in-Some.behind.now front.options front.behind.now last.field-0 c.in-Some.ensures b last.field-0-is last.ensures
+pub returns-in-Some : goal.returns-in-Some
+returns-in-Some c =
+    let first = c.in-Some.first in
+    told_from c.args.bytes.now first.version first.behind.now c.told_behind.result c.in-Some.ensures c.told_behind.ensures.version c.told_behind.ensures.rest

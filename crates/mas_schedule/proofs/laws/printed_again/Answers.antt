@@ -1,6 +1,5 @@
-use Rattle.mas_schedule.proofs.Answered.{read_again}
-use Rattle.mas_schedule.proofs.Scanned.{printed-schedule}
+use Rattle.mas_schedule.proofs.RunLemmas.{read_again, printed_last}
 use Rattle.mas_schedule.proofs.laws.printed_again.Goals as goal
 
 pub returns : goal.returns
-returns c = record { read = read_again; last = printed-schedule }
+returns c = record { read = read_again; last = printed_last }

@@ -7,4 +7,4 @@ use Rattle.mas_schedule.proofs.reading.count.Goals as goal
 pub returns : goal.returns
 returns c =
     let f = strip_prefix_is Decides-eqb c.args.bytes.now (codes "schedule ") (Some c.in_ok-digits.digits) c.in_ok-digits.ensures.cases in
-    counted c.args.bytes.now c.in_ok-digits.digits.now c.number_before.result f c.number_before.ensures
+    counted c.args.bytes.now c.in_ok-digits.digits.now c.count_before.result f c.count_before.ensures

@@ -4,7 +4,7 @@ use Rattle.mas_schedule.proofs.reading.number_before.Given as goal
 
 abbrev pub invariant-digits : goal.invariant-digits
 invariant-digits l = record {
-  same : number_from l.most l.stop l.number l.rest ≡ number_from l.most l.stop 0 l.bytes;
+  same : number_from l.most l.number l.rest ≡ number_from l.most 0 l.bytes;
   within : l.number ≤ l.most;
 }
 

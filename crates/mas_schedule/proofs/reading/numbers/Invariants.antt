@@ -1,9 +1,8 @@
-use Rattle.std.proofs.Common.{◌≡◌, []}
-use Rattle.mas_schedule.specs.inner.Scanning.{numbers_from}
+use Rattle.mas_schedule.proofs.Passing.{Passed}
 use Rattle.mas_schedule.proofs.reading.numbers.Given as goal
 
-abbrev pub invariant-numbers : goal.invariant-numbers
-invariant-numbers l = numbers_from l.left l.names l.rest ≡ numbers_from l.count [] l.bytes
+abbrev pub invariant-entries : goal.invariant-entries
+invariant-entries l = Passed l.count l.bytes l.names l.left l.rest
 
-abbrev pub decreases-numbers : goal.decreases-numbers
-decreases-numbers l = l.left
+abbrev pub decreases-entries : goal.decreases-entries
+decreases-entries l = l.left

@@ -1,7 +1,7 @@
 use Rattle.std.proofs.Common.{subst}
 use Rattle.mas_reading.specs.Known.{known}
 use Rattle.mas_reading.specs.Sources.{AreRefused}
-use Rattle.mas_top.specs.Checking.{claim}
+use Rattle.mas_top.specs.Checking.{asks_of, claim}
 use Rattle.mas_top.specs.Opening.{objects_of}
 use Rattle.mas_top.proofs.Verdicts.{no_source}
 use Rattle.mas_top.proofs.checking.judge.Goals as goal
@@ -14,5 +14,5 @@ returns-clause-answer g c =
     let usual = c.default_options-usual in
     let before = g.S.Shelf.faults a.shelf.now in
     let after = g.S.Shelf.faults c.read_source.new.shelf in
-    no_source objects held (claim a.project.now a.report.now) usual.result before after c.in-Err.status usual.ensures.value
+    no_source objects held (claim (asks_of a.asks) a.project.now a.report.now) usual.result before after c.in-Err.status usual.ensures.value
     (subst (λ w. AreRefused (known objects) usual.result.cycles held w before after c.in-Err.status) c.in_ok-word.ensures c.in-Err.ensures.answer)

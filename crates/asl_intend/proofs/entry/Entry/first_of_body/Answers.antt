@@ -10,9 +10,7 @@ use Rattle.asl_intend.proofs.entry.Entry.first_of_body.Goals as goal
 pub returns-in-Err-clause-fault : goal.returns-in-Err-clause-fault
 returns-in-Err-clause-fault c =
     let own = c.args.self.now.own in
-    let later = c.bound_since.ensures in
-    let same : Some (put_formula (value_in c.pairs.result.now c.bound_since.result.now) c.in-Some.f.now) ≡ spec.first_of_body c.args.log.now c.args.self.now =
-    ap (λ s. Some (put_formula (value_in s c.bound_since.result.now) c.in-Some.f.now)) c.pairs.ensures.value
-    ∙ ap (λ rest. Some (put_formula (value_in own rest) c.in-Some.f.now)) later
+    let same : Some (put_formula (value_in own c.bound_since.result.now) c.in-Some.f.now) ≡ spec.first_of_body c.args.log.now c.args.self.now =
+    ap (λ rest. Some (put_formula (value_in own rest) c.in-Some.f.now)) c.bound_since.ensures
     ∙ ap (option_map (put_formula (value_in own (drop c.args.self.now.since c.args.log.now)))) c.in-Some.ensures in
     subst (λ o. Passes (stacks.is_bounded o) c.in-Err.e) same c.in-Err.ensures.fault

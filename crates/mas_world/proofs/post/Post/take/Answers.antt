@@ -1,5 +1,5 @@
 use Rattle.std.proofs.Common.{◌<◌, ◌+◌, length, sym, ap, subst, ◌∙◌, drop, IfSome, slice_get}
-use Rattle.mas_mind.specs.Minds.{IsFor}
+use Rattle.mas_world.specs.Posts.{IsTo}
 use Rattle.mas_world.proofs.Boxes as b
 use Rattle.mas_world.proofs.post.Post.take.Goals as goal
 
@@ -32,7 +32,7 @@ returns-clause-kept c =
 
 pub returns-clause-addressed : goal.returns-clause-addressed
 returns-clause-addressed c =
-    subst (λ o. IfSome o (IsFor c.args.a (length c.args.self.now))) (sym c.remove.ensures.value)
+    subst (λ o. IfSome o (IsTo c.args.a)) (sym c.remove.ensures.value)
     (b.oldest c.self.inside.boxes c.args.self.now c.self.view_is c.args.a c.requires c.at_mut.result.now c.remove.new.self c.at_mut.ensures.value c.self.invariant)
 
 pub returns-clause-others : goal.returns-clause-others

@@ -1,0 +1,4 @@
+//! Variables that a search brings have numbers below the next fresh number.
+#![tactic(auto)]
+
+pub mod laws;

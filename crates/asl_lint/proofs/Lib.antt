@@ -1,0 +1,4 @@
+pub mod Needing
+pub mod Becoming
+pub mod Finding
+pub mod Verdicts

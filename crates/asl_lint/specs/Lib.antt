@@ -1,0 +1,5 @@
+pub mod Covers
+pub mod Instances
+pub mod Goals
+pub mod Items
+pub mod Lints

@@ -1,0 +1,4 @@
+pub mod Rule
+pub mod Hands
+pub mod Turns
+pub mod Racks

@@ -1,0 +1,5 @@
+use Rattle.mas_turns.specs.Answers.{made_by_sense}
+use Rattle.mas_record.proofs.recorder.Recorder.sense.Given as goal
+
+abbrev pub ghosts-give_sense : goal.ghosts-give_sense
+ghosts-give_sense g a = record { made = made_by_sense a.answer.now }

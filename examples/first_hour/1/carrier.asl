@@ -1,0 +1,3 @@
+!start.
+
++!start <- .print("good morning"); .print("ready for work").

@@ -1,0 +1,21 @@
+!bring(school).
+
+// Asks all others for an offer.
++!bring(Place) <-
+    .print("who brings a parcel to the ", Place, "?");
+    .broadcast(achieve, offer(Place)).
+
+// All three offers are there. Whoever meets this first says so, and the offers behind it choose nobody.
++offer(Place, _) : not complete(Place) & .count(offer(Place, _)[source(_)], 3) <-
+    +complete(Place);
+    !choose(Place).
+
++!choose(Place) <-
+    .findall(P, offer(Place, P), Prices);
+    .min(Prices, Best);
+    ?offer(Place, Best)[source(Winner)];
+    .print(Winner, " goes for ", Best);
+    .send(Winner, achieve, go(Place)).
+
+// An offer that did not hold is forgotten, and the rest is chosen from.
++failed(Place)[source(Who)] <- .abolish(offer(Place, _)[source(Who)]); !choose(Place).
