@@ -9,3 +9,5 @@ pub mod Within
 pub mod Single
 pub mod Refusals
 pub mod Total
+pub mod Texts
+pub mod Refusing

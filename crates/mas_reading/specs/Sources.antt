@@ -1,5 +1,7 @@
 -- What the files of a project describe, and which of them is refused first.
-use Rattle.std.specs.Prelude.{ℕ, ◌≡◌, ◌⊎◌, ◌≤◌, ◌<◌, false, Bool, true, List, [], ◌∷◌, ◌++◌, length, Option, None, Some}
+use Rattle.std.specs.Prelude.{ℕ, ◌≡◌, ◌⊎◌, ◌≤◌, ◌<◌, false, Bool, true, List, [], ◌∷◌, ◌++◌, length, replicate, Option, None, Some}
+use Rattle.std.specs.List.{flat_map}
+use Rattle.asl_term.specs.declared.syntax.AgentText.{AgentText}
 use Rattle.asl_term.specs.declared.syntax.Filed.{Filed}
 use Rattle.asl_grammar.specs.Agents.{IsAgent}
 use Rattle.mas_world.specs.declared.acts.WorldText.{WorldText}
@@ -67,6 +69,10 @@ pub record HasSource (known : List (List ℕ)) (cycles : ℕ) (held : Option (Li
   pub project : ProjectText
   pub asked : IsAsked cycles held word project
   pub describe : Describe known held project source
+
+-- the source of each agent: that of its line
+abbrev pub texts_of : List Role → List AgentText
+texts_of = flat_map (λ role. replicate role.count role.text)
 
 -- ---- the first refusal: of the project, of its cycles, of the world, of an agent
 

@@ -57,7 +57,7 @@ what_word what.Cycles = codes "cycles"
 abbrev pub fault_text : Status → List ℕ
 fault_text status.Ok = []
 fault_text status.No = line (codes "no")
-fault_text status.Usage = line (codes "usage: jasonrun run PROJECT | replay PROJECT SCHEDULE | check PROJECT REPORT | demo K | renew PROJECT REPORT")
+fault_text status.Usage = line (codes "usage: jasonrun run PROJECT | replay PROJECT SCHEDULE | check PROJECT REPORT | demo K | renew PROJECT REPORT | lint PROJECT")
 fault_text (status.Missing name) = line (codes "missing " ++ name)
 fault_text status.ReadFault = line (codes "read fault")
 fault_text status.WriteFault = line (codes "write fault")

@@ -190,7 +190,7 @@ pub fn fault_line(alloc: Global, s: &Status) -> Result<Text, Starved>
         Status::No => text_of(alloc, b"no\n"),
         Status::Usage => text_of(
             alloc,
-            b"usage: jasonrun run PROJECT | replay PROJECT SCHEDULE | check PROJECT REPORT | demo K | renew PROJECT REPORT\n",
+            b"usage: jasonrun run PROJECT | replay PROJECT SCHEDULE | check PROJECT REPORT | demo K | renew PROJECT REPORT | lint PROJECT\n",
         ),
         Status::Missing(name) => missing_line(alloc, name),
         Status::ReadFault => text_of(alloc, b"read fault\n"),

@@ -12,43 +12,13 @@ use Rattle.mas_reading.specs.Projects.{all_cycles}
 use Rattle.mas_reading.specs.Files.{Reader, IsRefusal, agents, worlds, projects}
 use Rattle.mas_reading.specs.Sources.{FirstRefused, project_refused, cycles_refused, part_refused}
 use Rattle.mas_reading.specs.Statuses.{whole}
+use Rattle.mas_reading.proofs.Refusing.{refuses, no_report, first_by}
 use Rattle.mas_top.specs.Opening.{Setup}
 use Rattle.mas_reading.specs.Known.{known}
 use Rattle.mas_top.specs.Runs.{Wanted, schedules, FileRefused, GivenRefused}
 use Rattle.mas_top.specs.Caused.{Texts, ForFiles, FileCaused}
 
 -- ---- what is refused
-
--- a status with which nothing was written
-abbrev pub refuses : Status → Bool
-refuses Ok = false
-refuses No = false
-refuses Usage = false
-refuses Budget = false
-refuses WriteFault = false
-refuses other = true
-
--- a file is refused with no status of a report
-pub no_report : (r : Reader) (name : List ℕ) (held : Option (List Filed)) (before after : ℕ) (status : Status) → IsRefusal r name held before after status → refuses status ≡ true
-no_report r name held before after Ok h = absurd h
-no_report r name held before after No h = absurd h
-no_report r name held before after Usage h = absurd h
-no_report r name held before after (Missing lacked) h = refl
-no_report r name held before after ReadFault h = refl
-no_report r name held before after WriteFault h = absurd h
-no_report r name held before after (Refused file place why) h = refl
-no_report r name held before after (Limit quantity count) h = refl
-no_report r name held before after Budget h = absurd h
-no_report r name held before after Memory h = refl
-
--- what holds of the status of each file that is refused, and of too many cycles, holds of the first refusal's
-pub first_by : (Is : Status → Type 0) (names : List (List ℕ)) (cycles : ℕ) (held : Option (List Filed)) (word : List ℕ) (before after : ℕ) (status : Status) →
-    ((r : Reader) (name : List ℕ) (s : Status) → IsRefusal r name held before after s → Is s) → ((count : ℕ) → Is (Limit what.Cycles count)) →
-    FirstRefused names cycles held word before after status → Is status
-first_by Is names cycles held word before after status f c (project_refused r) = f projects word status r.why
-first_by Is names cycles held word before after status f c (cycles_refused r) = subst Is (sym r.status_is) (c (all_cycles r.project cycles))
-first_by Is names cycles held word before after status f c (part_refused p a (inl w)) = f (worlds names) w.name status w.why
-first_by Is names cycles held word before after status f c (part_refused p a (inr l)) = f agents l.why.line.file status l.why.why
 
 file_refuses : (u : Setup) (held : Option (List Filed)) (wanted : Wanted) (before after : ℕ) (status : Status) → FileRefused u held wanted before after status →
     refuses status ≡ true

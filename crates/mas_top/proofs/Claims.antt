@@ -14,10 +14,10 @@ use Rattle.mas_reading.specs.Known.{known}
 use Rattle.mas_reading.specs.Laws.{Surely}
 use Rattle.mas_reading.specs.Sources.{UnlessMemory}
 use Rattle.mas_reading.specs.Statuses.{verdict}
+use Rattle.mas_reading.proofs.Refusing.{refuses, no_report, first_by}
 use Rattle.mas_reading.proofs.Single.{with_file, one_source}
 use Rattle.mas_top.specs.Checking.{IsJudged, answer_text, Claim, HasClaimed, IsDecided, reports, ClaimRefused, IsYes, IsNo, ClaimCaused, Judges, IsClaimComplete}
 use Rattle.mas_top.specs.Runs.{most_bytes}
-use Rattle.mas_top.proofs.Caused.{refuses, no_report, first_by}
 
 -- ---- what is refused
 

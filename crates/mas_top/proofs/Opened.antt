@@ -7,7 +7,8 @@ use Rattle.asl_cycle.specs.Agent.{Mindset}
 use Rattle.mas_report.specs.declared.options.Options.{Options}
 use Rattle.mas_reading.specs.declared.sources.Role.{Role}
 use Rattle.mas_top.specs.Fits.{is_ground_role}
-use Rattle.mas_top.specs.Opening.{mind_of, minds_from, texts_of}
+use Rattle.mas_reading.specs.Sources.{texts_of}
+use Rattle.mas_top.specs.Opening.{mind_of, minds_from}
 
 -- ---- one more
 

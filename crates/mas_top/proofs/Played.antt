@@ -32,9 +32,10 @@ use Rattle.mas_reading.specs.Sources.{HasWorld, HasRole, HasRoles, HasSource, Fi
 use Rattle.mas_reading.proofs.Fetched.{unfetched, refusal_from}
 use Rattle.mas_reading.proofs.Artifacts.{known_uses}
 use Rattle.mas_reading.proofs.Unless.{unless, unless_as}
+use Rattle.mas_reading.proofs.Texts.{texts_named}
 use Rattle.mas_reading.proofs.Within.{within, some_agents}
 use Rattle.mas_report.specs.declared.options.Options.{Options}
-use Rattle.mas_top.specs.Opening.{Setup, setup, opening, texts_of}
+use Rattle.mas_top.specs.Opening.{Setup, setup, opening}
 use Rattle.mas_top.specs.Fits.{CanOpen, CanRun, is_ground_role}
 use Rattle.mas_top.specs.Runs.{by_workers, by_file, Wanted, wanted, given, most_bytes, schedules, FileRefused, GivenRefused}
 use Rattle.mas_top.specs.Ways.{along, way_of}
@@ -134,17 +135,6 @@ roles_ground held (l ∷ all) [] h = absurd h
 roles_ground held (l ∷ all) (role ∷ roles) h =
     both (is_ground_role role) (list_all is_ground_role roles) (role_ground held l role h.0) (roles_ground held all roles h.1)
 
--- as many sources as names
-roles_named : (held : Option (List Filed)) (all : List AgentLine) (roles : List Role) → HasRoles held all roles → length (names_of all) ≡ length (texts_of roles)
-roles_named held [] [] h = refl
-roles_named held [] (role ∷ roles) h = absurd h
-roles_named held (l ∷ all) [] h = absurd h
-roles_named held (l ∷ all) (role ∷ roles) h =
-    length-append (names_in l) (names_of all)
-    ∙ ap (λ n. n + length (names_of all)) (sym h.0.count ∙ sym (length-replicate role.count role.text))
-    ∙ ap (λ n. length (replicate role.count role.text) + n) (roles_named held all roles h.1)
-    ∙ sym (length-append (replicate role.count role.text) (texts_of roles))
-
 world_open : (objects : List Used) (held : Option (List Filed)) (name : Option (List ℕ)) (text : Option WorldText) → HasWorld (known objects) held name text →
     IfSome text (CanOpen objects)
 world_open objects held None None h = tt
@@ -161,7 +151,7 @@ can_run objects cycles held word source h =
     let s = some_agents held word h.project h.asked.stands in
     let e = ap length d.names in
     record {
-      named = e ∙ roles_named held h.project.agents source.roles d.roles;
+      named = texts_named (known objects) cycles held word source h;
       some = subst (λ n. 1 ≤ n) (sym e) s;
       few = subst (λ n. n ≤ most_agents) (sym e) w.few;
       ground = roles_ground held h.project.agents source.roles d.roles;

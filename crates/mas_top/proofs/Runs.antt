@@ -19,7 +19,8 @@ use Rattle.mas_reading.specs.declared.sources.Source.{Source}
 use Rattle.mas_top.specs.Fits.{CanRun}
 use Rattle.mas_top.specs.Headline.{IsRunReport}
 use Rattle.mas_world.specs.Worlds.{Used}
-use Rattle.mas_top.specs.Opening.{Setup, setup, opening_board, opening_minds, texts_of}
+use Rattle.mas_reading.specs.Sources.{texts_of}
+use Rattle.mas_top.specs.Opening.{Setup, setup, opening_board, opening_minds}
 use Rattle.mas_top.specs.Playing.{IsReplayed}
 use Rattle.mas_top.specs.Ways.{alone, shared, way_of, IsScheduled}
 use Rattle.mas_top.proofs.Opened.{mind_at, opened_length}

@@ -5,9 +5,12 @@ use Rattle.mas_words.specs.Plain.{AskFor, AskForNothing, AskOnlyFor, AreRead}
 use Rattle.mas_io.specs.Told.{Told, IsUnwritten}
 use Rattle.mas_reading.specs.declared.status.Status.{Status}
 use Rattle.mas_reading.specs.declared.status.Status.TheVariants.{Memory}
+use Rattle.mas_lint.specs.Linting.{Lints, IsLintComplete}
+use Rattle.mas_lint.proofs.Linted.{lints, complete_lint}
+use Rattle.mas_reading.specs.Known.{known}
 use Rattle.mas_world.specs.Worlds.{Used}
 use Rattle.mas_top.specs.Caused.{Texts}
-use Rattle.mas_top.specs.Headline.{IsRunReportOf, IsHeadline, PrintsSchedule, IsComplete, ForRuns, ForClaims, ForDemos, AskedCaused, WordsCaused}
+use Rattle.mas_top.specs.Headline.{IsRunReportOf, IsHeadline, PrintsSchedule, IsComplete, ForRuns, ForClaims, ForLints, ForDemos, AskedCaused, WordsCaused}
 use Rattle.mas_top.specs.Opening.{Setup, setup}
 use Rattle.mas_top.specs.Runs.{by_workers, by_file, wanted}
 use Rattle.mas_top.specs.Ways.{way_of}
@@ -30,6 +33,7 @@ left objects old new e (words.replay project schedule options) = tt
 left objects old new e (words.check project report) = tt
 left objects old new e (words.demo count workers) = e
 left objects old new e (words.renew project report) = tt
+left objects old new e (words.lint project) = tt
 
 -- or where they ask for this alone
 pub left_by : {S : Type 0} (objects : List Used) (given : List (List ℕ)) (old new : S) (asked : words.Asked) → AskOnlyFor given asked →
@@ -47,6 +51,7 @@ short_by objects before after (words.replay project schedule options) u = u
 short_by objects before after (words.check project report) u = u
 short_by objects before after (words.demo count workers) u = u
 short_by objects before after (words.renew project report) u = u
+short_by objects before after (words.lint project) u = u
 
 pub short_words : (objects : List Used) (given : List (List ℕ)) (before after : Told) → AreRead given → IsUnwritten before after →
     WordsCaused IsRunReportOf objects given before after Memory
@@ -61,6 +66,7 @@ headline_by objects before after status (words.replay project schedule options) 
 headline_by objects before after status (words.check project report) c = tt
 headline_by objects before after status (words.demo count workers) c = tt
 headline_by objects before after status (words.renew project report) c = tt
+headline_by objects before after status (words.lint project) c = tt
 
 schedule_by : (objects : List Used) (before after : Told) (status : Status) (a : words.Asked) → AskedCaused IsRunReportOf objects before after status a →
     ForRuns (λ u asked. PrintsSchedule u asked before after status) objects a
@@ -70,6 +76,7 @@ schedule_by objects before after status (words.replay project schedule options) 
 schedule_by objects before after status (words.check project report) c = tt
 schedule_by objects before after status (words.demo count workers) c = tt
 schedule_by objects before after status (words.renew project report) c = tt
+schedule_by objects before after status (words.lint project) c = tt
 
 complete_by : (objects : List Used) (before after : Told) (status : Status) (a : words.Asked) → AskedCaused IsRunReportOf objects before after status a →
     ForRuns (λ u asked. IsComplete u asked before after status) objects a
@@ -80,6 +87,7 @@ complete_by objects before after status (words.replay project schedule options) 
 complete_by objects before after status (words.check project report) c = tt
 complete_by objects before after status (words.demo count workers) c = tt
 complete_by objects before after status (words.renew project report) c = tt
+complete_by objects before after status (words.lint project) c = tt
 
 check_by : (objects : List Used) (before after : Told) (status : Status) (a : words.Asked) → AskedCaused IsRunReportOf objects before after status a →
     ForClaims (λ c. Judges objects c before after status) a
@@ -88,6 +96,7 @@ check_by objects before after status (words.replay project schedule options) c =
 check_by objects before after status (words.check project report) c = judged_claim objects (claim whether project report) before after status c
 check_by objects before after status (words.demo count workers) c = tt
 check_by objects before after status (words.renew project report) c = judged_claim objects (claim anew project report) before after status c
+check_by objects before after status (words.lint project) c = tt
 
 checked_by : (objects : List Used) (before after : Told) (status : Status) (a : words.Asked) → AskedCaused IsRunReportOf objects before after status a →
     ForClaims (λ c. IsClaimComplete objects c before after status) a
@@ -96,6 +105,7 @@ checked_by objects before after status (words.replay project schedule options) c
 checked_by objects before after status (words.check project report) c = complete_claim objects (claim whether project report) before after status c
 checked_by objects before after status (words.demo count workers) c = tt
 checked_by objects before after status (words.renew project report) c = complete_claim objects (claim anew project report) before after status c
+checked_by objects before after status (words.lint project) c = tt
 
 demo_by : (objects : List Used) (before after : Told) (status : Status) (a : words.Asked) → words.IsPermitted a →
     AskedCaused IsRunReportOf objects before after status a → ForDemos (λ u count way. IsDemoComplete u before after status) objects a
@@ -104,6 +114,7 @@ demo_by objects before after status (words.replay project schedule options) p c 
 demo_by objects before after status (words.check project report) p c = tt
 demo_by objects before after status (words.demo count workers) p c = demo_complete objects count (way_of workers) before after status p.0.0 p.0.1 c
 demo_by objects before after status (words.renew project report) p c = tt
+demo_by objects before after status (words.lint project) p c = tt
 
 demo_said : (objects : List Used) (given : List (List ℕ)) (before after : Told) (status : Status) → WordsCaused IsRunReportOf objects given before after status →
     (a : words.Asked) → AskFor given a → words.IsPermitted a
@@ -139,3 +150,31 @@ pub demo_words : (objects : List Used) (given : List (List ℕ)) (before after :
     (a : words.Asked) → AskFor given a → ForDemos (λ u count way. IsDemoComplete u before after status) objects a
 demo_words objects given before after status c a h =
     demo_by objects before after status a (demo_said objects given before after status c a h) (said IsRunReportOf objects given before after status c a h)
+
+lint_by : (objects : List Used) (before after : Told) (status : Status) (a : words.Asked) → AskedCaused IsRunReportOf objects before after status a →
+    ForLints (λ project. Lints (known objects) project before after status) a
+lint_by objects before after status (words.run project options workers) c = tt
+lint_by objects before after status (words.replay project schedule options) c = tt
+lint_by objects before after status (words.check project report) c = tt
+lint_by objects before after status (words.demo count workers) c = tt
+lint_by objects before after status (words.renew project report) c = tt
+lint_by objects before after status (words.lint project) c = lints (known objects) project before after status c
+
+linted_by : (objects : List Used) (before after : Told) (status : Status) (a : words.Asked) → AskedCaused IsRunReportOf objects before after status a →
+    ForLints (λ project. IsLintComplete (known objects) project before after status) a
+linted_by objects before after status (words.run project options workers) c = tt
+linted_by objects before after status (words.replay project schedule options) c = tt
+linted_by objects before after status (words.check project report) c = tt
+linted_by objects before after status (words.demo count workers) c = tt
+linted_by objects before after status (words.renew project report) c = tt
+linted_by objects before after status (words.lint project) c = complete_lint (known objects) project before after status c
+
+pub lint_words : (objects : List Used) (given : List (List ℕ)) (before after : Told) (status : Status) → WordsCaused IsRunReportOf objects given before after status →
+    (a : words.Asked) → AskFor given a → ForLints (λ project. Lints (known objects) project before after status) a
+lint_words objects given before after status c a h =
+    lint_by objects before after status a (said IsRunReportOf objects given before after status c a h)
+
+pub linted_words : (objects : List Used) (given : List (List ℕ)) (before after : Told) (status : Status) → WordsCaused IsRunReportOf objects given before after status →
+    (a : words.Asked) → AskFor given a → ForLints (λ project. IsLintComplete (known objects) project before after status) a
+linted_words objects given before after status c a h =
+    linted_by objects before after status a (said IsRunReportOf objects given before after status c a h)

@@ -8,7 +8,7 @@ use Rattle.mas_world.specs.Worlds.{AreNamed, Used}
 use Rattle.mas_project.specs.Projects.{most_agents}
 use Rattle.mas_reading.specs.declared.sources.Role.{Role}
 use Rattle.mas_reading.specs.declared.sources.Source.{Source}
-use Rattle.mas_top.specs.Opening.{texts_of}
+use Rattle.mas_reading.specs.Sources.{texts_of}
 
 abbrev pub is_ground_role : Role → Bool
 is_ground_role role = list_all is_ground_literal role.text.beliefs

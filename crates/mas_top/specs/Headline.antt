@@ -11,6 +11,8 @@ use Rattle.mas_report.specs.declared.options.Options.{Options}
 use Rattle.mas_report.specs.Report.{latest, IsReport}
 use Rattle.mas_reading.specs.declared.status.Status.{Status}
 use Rattle.mas_reading.specs.declared.status.Status.TheVariants.{Usage, Memory}
+use Rattle.mas_lint.specs.Linting.{LintCaused}
+use Rattle.mas_reading.specs.Known.{known}
 use Rattle.mas_reading.specs.Statuses.{whole}
 use Rattle.mas_top.specs.Caused.{Texts, FileCaused}
 use Rattle.mas_words.specs.Asked as words
@@ -86,6 +88,7 @@ ForRuns Holds objects (words.replay project schedule options) = Holds (setup opt
 ForRuns Holds objects (words.check project report) = Unit {0}
 ForRuns Holds objects (words.demo count workers) = Unit {0}
 ForRuns Holds objects (words.renew project report) = Unit {0}
+ForRuns Holds objects (words.lint project) = Unit {0}
 
 -- what holds of a claim that a report is that of a run, by `check` and by `renew`
 abbrev pub ForClaims : (Claim → Type 0) → words.Asked → Type 0
@@ -94,6 +97,16 @@ ForClaims Holds (words.replay project schedule options) = Unit {0}
 ForClaims Holds (words.check project report) = Holds (claim whether project report)
 ForClaims Holds (words.demo count workers) = Unit {0}
 ForClaims Holds (words.renew project report) = Holds (claim anew project report)
+ForClaims Holds (words.lint project) = Unit {0}
+
+-- what holds of a project of which is asked whether its goals are covered
+abbrev pub ForLints : (List ℕ → Type 0) → words.Asked → Type 0
+ForLints Holds (words.run project options workers) = Unit {0}
+ForLints Holds (words.replay project schedule options) = Unit {0}
+ForLints Holds (words.check project report) = Unit {0}
+ForLints Holds (words.demo count workers) = Unit {0}
+ForLints Holds (words.renew project report) = Unit {0}
+ForLints Holds (words.lint project) = Holds project
 
 -- what holds of a demo of so many agents
 abbrev pub ForDemos : (Setup → ℕ → Way → Type 0) → List Used → words.Asked → Type 0
@@ -102,6 +115,7 @@ ForDemos Holds objects (words.replay project schedule options) = Unit {0}
 ForDemos Holds objects (words.check project report) = Unit {0}
 ForDemos Holds objects (words.demo count workers) = Holds (setup defaults objects) count (way_of workers)
 ForDemos Holds objects (words.renew project report) = Unit {0}
+ForDemos Holds objects (words.lint project) = Unit {0}
 
 -- ---- the cause of each status
 
@@ -114,6 +128,7 @@ AskedCaused Is objects before after status (words.replay project schedule option
 AskedCaused Is objects before after status (words.check project report) = ClaimCaused objects (claim whether project report) before after status
 AskedCaused Is objects before after status (words.demo count workers) = DemoCaused (setup defaults objects) count (way_of workers) before after status
 AskedCaused Is objects before after status (words.renew project report) = ClaimCaused objects (claim anew project report) before after status
+AskedCaused Is objects before after status (words.lint project) = LintCaused (known objects) project before after status
 
 -- the words are not read
 pub record IsUsage (given : List (List ℕ)) (before after : Told) (status : Status) : Type 0 where

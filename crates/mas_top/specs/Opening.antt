@@ -1,6 +1,5 @@
 -- The platform at the start.
-use Rattle.std.specs.Prelude.{ℕ, ◌+◌, List, [], ◌∷◌, map, replicate, Option, None, Some}
-use Rattle.std.specs.List.{flat_map}
+use Rattle.std.specs.Prelude.{ℕ, ◌+◌, List, [], ◌∷◌, map, Option, None, Some}
 use Rattle.asl_term.specs.declared.syntax.AgentText.{AgentText}
 use Rattle.asl_term.specs.declared.syntax.LiteralOf.{LiteralOf}
 use Rattle.asl_term.specs.declared.syntax.Term.{Term}
@@ -12,8 +11,8 @@ use Rattle.mas_world.specs.Worlds.{World, Used, used, opened}
 use Rattle.mas_board.specs.Boards as boards
 use Rattle.mas_core.specs.Platform.{Platform, opening_platform}
 use Rattle.mas_report.specs.declared.options.Options.{Options}
-use Rattle.mas_reading.specs.declared.sources.Role.{Role}
 use Rattle.mas_reading.specs.declared.sources.Source.{Source}
+use Rattle.mas_reading.specs.Sources.{texts_of}
 
 -- beside the files of a project: the options, and the artifacts that the caller hands in
 pub record Setup : Type 0 where
@@ -38,10 +37,6 @@ no_text = record { facts = []; hidden = []; uses = []; acts = [] }
 abbrev pub opening_world : List Used → Option WorldText → World
 opening_world objects None = opened no_text objects
 opening_world objects (Some text) = opened text objects
-
--- the source of each agent: that of its line
-abbrev pub texts_of : List Role → List AgentText
-texts_of = flat_map (λ role. replicate role.count role.text)
 
 -- an agent among these names, by its number, before its first cycle
 abbrev pub mind_of : Options → List (List ℕ) → ℕ → AgentText → Mindset

@@ -4,6 +4,7 @@
 pub mod checking;
 pub mod demo;
 pub mod laws;
+pub mod linting;
 pub mod minds;
 pub mod playing;
 pub mod running;

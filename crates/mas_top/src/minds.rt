@@ -5,6 +5,7 @@ ghost use Rattle.std.specs.List.{list_all};
 ghost use Rattle.asl_term.specs.Exprs.{is_ground_literal};
 ghost use Rattle.mas_report.specs.Limits.{IsWithin};
 ghost use Rattle.mas_top.specs.Fits.{is_ground_role};
+ghost use Rattle.mas_reading.specs.Sources.{texts_of};
 ghost use Rattle.mas_top.specs.Opening as spec;
 
 use asl_cycle::agent::{Agent, open_agent};
@@ -86,9 +87,9 @@ pub fn open_minds(
     roles: &[Role],
 ) -> Result<Seq<Agent>, Starved>
     requires within { IsWithin o.now }
-    requires named { length names.now ≡ length (spec.texts_of roles.now) }
+    requires named { length names.now ≡ length (texts_of roles.now) }
     requires ground { list_all is_ground_role roles.now ≡ true }
-    ensures { IfOk result (λ ms. ms ≡ spec.minds_from o.now names.now 1 (spec.texts_of roles.now)) }
+    ensures { IfOk result (λ ms. ms ≡ spec.minds_from o.now names.now 1 (texts_of roles.now)) }
 {
     let shared = SharedNames::copy_of(alloc, names)?;
     let mut minds = Seq::new(alloc);

@@ -2,11 +2,13 @@
 
 ghost use Rattle.std.specs.Prelude.{◌≡◌, map, string_bytes};
 ghost use Rattle.mas_io.specs.Told.{told_of, IsKept};
+ghost use Rattle.mas_lint.specs.Linting.{IsLintComplete, Lints};
+ghost use Rattle.mas_reading.specs.Known.{known};
 ghost use Rattle.mas_report.specs.Limits.{IsWithin};
 ghost use Rattle.mas_top.specs.Caused.{FileCaused};
 ghost use Rattle.mas_top.specs.Checking.{IsClaimComplete, Judges};
 ghost use Rattle.mas_top.specs.Demo.{IsDemoComplete};
-ghost use Rattle.mas_top.specs.Headline.{AskedCaused, ForClaims, ForDemos, ForRuns, IsComplete, IsHeadline, IsRunReportOf, PrintsSchedule, WordsCaused};
+ghost use Rattle.mas_top.specs.Headline.{AskedCaused, ForClaims, ForDemos, ForLints, ForRuns, IsComplete, IsHeadline, IsRunReportOf, PrintsSchedule, WordsCaused};
 ghost use Rattle.mas_top.specs.Opening.{objects_of, setup};
 ghost use Rattle.mas_top.specs.Runs.{wanted, how_of, CanBe};
 ghost use Rattle.mas_words.specs.Asked as said;
@@ -15,6 +17,7 @@ ghost use Rattle.mas_words.specs.Plain.{AskFor, AskForNothing};
 
 use crate::checking::{Asks, print_answer};
 use crate::demo::print_demo;
+use crate::linting::print_lint;
 use crate::playing::{How, run_files};
 use mas_going::gate::Gate;
 use mas_io::shelf::Shelf;
@@ -117,6 +120,7 @@ fn run_asked<R: Threads + Wait + Sync, S: Shelf, K: Sink, A: Artifact + Send, G:
             let asks = Asks::Anew;
             print_answer(alloc, asks, project, report, shelf, sink, artifacts)
         }
+        Asked::Lint { project } => print_lint(alloc, project, shelf, sink, artifacts),
     }
 }
 
@@ -153,7 +157,8 @@ fn run_read<R: Threads + Wait + Sync, S: Shelf, K: Sink, A: Artifact + Send, G: 
 /// are started, which is no more than one for each agent. The words leave out the program's own name. For a run or a replay, of
 /// the files and the options that the words name, the clauses say what a report is that was written whole, by `Ok` or `Budget`,
 /// in which order the turns of its schedule are, when no fault may be answered, and the cause of each status; after a write fault
-/// a prefix of the report is written, or nothing. Of a check they are `check`, `checked` and `caused`, and of a demo `demo`,
+/// a prefix of the report is written, or nothing. Of a check they are `check`, `checked` and `caused`, of a lint
+/// `lint`, `linted` and `caused`, and of a demo `demo`,
 /// `untouched` and `caused`. Words that are not read, the status of which is `Usage`, leave shelf and sink as they were.
 pub fn run_words<R: Threads + Wait + Sync, S: Shelf, K: Sink, G: Gate + Sync>(
     rt: &R,
@@ -184,6 +189,14 @@ pub fn run_words<R: Threads + Wait + Sync, S: Shelf, K: Sink, G: Gate + Sync>(
         let objects = objects_of named table facts artifacts.items in
         (asked : said.Asked) → AskFor (map string_bytes words.now) asked →
         ForClaims (λ c. IsClaimComplete objects c (told shelf.old sink.old) (told shelf.new sink.new) result) asked }
+    ensures lint { let told = told_of S.holds S.faults K.written K.faults in
+        let objects = objects_of named table facts artifacts.items in
+        (asked : said.Asked) → AskFor (map string_bytes words.now) asked →
+        ForLints (λ project. Lints (known objects) project (told shelf.old sink.old) (told shelf.new sink.new) result) asked }
+    ensures linted { let told = told_of S.holds S.faults K.written K.faults in
+        let objects = objects_of named table facts artifacts.items in
+        (asked : said.Asked) → AskFor (map string_bytes words.now) asked →
+        ForLints (λ project. IsLintComplete (known objects) project (told shelf.old sink.old) (told shelf.new sink.new) result) asked }
     ensures demo { let told = told_of S.holds S.faults K.written K.faults in
         let objects = objects_of named table facts artifacts.items in
         (asked : said.Asked) → AskFor (map string_bytes words.now) asked →

@@ -5,7 +5,7 @@ use Rattle.std.specs.List.{slice_get}
 use Rattle.std.specs.Prelude.{option_map}
 use mathlib.Core.Path.{fun_ext}
 use Rattle.mas_words.specs.declared.table.Command.{Command}
-use Rattle.mas_words.specs.declared.table.Command.TheVariants.{Run, Replay, Check, Demo, Renew}
+use Rattle.mas_words.specs.declared.table.Command.TheVariants.{Run, Replay, Check, Demo, Renew, Lint}
 use Rattle.mas_words.specs.declared.table.Setting.{Setting}
 use Rattle.mas_words.specs.declared.asked.Asked as code
 use Rattle.mas_words.specs.Table.{form, name_count, command_of, commands}
@@ -45,6 +45,11 @@ count_renew (n ∷ []) f a e = absurd (grind arith)
 count_renew (n ∷ m ∷ []) f a e = refl
 count_renew (n ∷ m ∷ k ∷ ns) f a e = absurd (grind arith)
 
+count_lint : (ns : List (List ℕ)) (f : Setting → Option (List ℕ)) (a : Asked) → asked_by Lint ns f ≡ Some a → length ns ≡ 1
+count_lint [] f a e = absurd (grind arith)
+count_lint (n ∷ []) f a e = refl
+count_lint (n ∷ m ∷ ns) f a e = absurd (grind arith)
+
 count_demo : (ns : List (List ℕ)) (f : Setting → Option (List ℕ)) (a : Asked) → asked_by Demo ns f ≡ Some a → length ns ≡ 1
 count_demo [] f a e = absurd (grind arith)
 count_demo (n ∷ []) f a e = refl
@@ -56,6 +61,7 @@ count Replay ns f a e = count_replay ns f a e
 count Check ns f a e = count_check ns f a e
 count Demo ns f a e = count_demo ns f a e
 count Renew ns f a e = count_renew ns f a e
+count Lint ns f a e = count_lint ns f a e
 
 -- ---- what is read is asked for
 

@@ -5,6 +5,7 @@ pub mod Sound
 pub mod Answers
 pub mod Within
 pub mod Rules
+pub mod Matched
 pub mod Rows
 pub mod Steps
 pub mod Passes

@@ -6,7 +6,7 @@ use Rattle.clap.specs.Simple.{built, is_simple, new_rule}
 use Rattle.clap.specs.declared.builder.action.ArgAction.TheVariants.{Set}
 use Rattle.clap.specs.declared.builder.value_parser.ValueParser.TheVariants as parser
 use Rattle.mas_words.specs.declared.table.Command.{Command}
-use Rattle.mas_words.specs.declared.table.Command.TheVariants.{Run, Replay, Check, Demo, Renew}
+use Rattle.mas_words.specs.declared.table.Command.TheVariants.{Run, Replay, Check, Demo, Renew, Lint}
 use Rattle.mas_words.specs.declared.table.Setting.{Setting}
 use Rattle.mas_words.specs.declared.table.Setting.TheVariants.{Workers, Cycles, Lead, Depth, Tries, Level}
 use Rattle.mas_words.specs.Table.{takes, name_count, same}
@@ -44,6 +44,7 @@ simple Replay = refl
 simple Check = refl
 simple Demo = refl
 simple Renew = refl
+simple Lint = refl
 
 pub by_long : (c : Command) (o : Setting) → takes c o ≡ true → arg_by_long (rules_for c) (id_of o) ≡ Some (option_built o)
 by_long Run Workers e = refl
@@ -62,6 +63,7 @@ by_long Check o e = absurd (grind arith)
 by_long Demo Workers e = refl
 by_long Demo o e = absurd (grind arith)
 by_long Renew o e = absurd (grind arith)
+by_long Lint o e = absurd (grind arith)
 
 pub option_by_id : (c : Command) (o : Setting) → takes c o ≡ true → arg_by_id (rules_for c) (id_of o) ≡ Some (option_built o)
 option_by_id Run Workers e = refl
@@ -80,6 +82,7 @@ option_by_id Check o e = absurd (grind arith)
 option_by_id Demo Workers e = refl
 option_by_id Demo o e = absurd (grind arith)
 option_by_id Renew o e = absurd (grind arith)
+option_by_id Lint o e = absurd (grind arith)
 
 pub by_index : (c : Command) (k : ℕ) → k < name_count c → arg_by_index (rules_for c) (1 + k) ≡ Some (name_built c k)
 by_index Run zero h = refl
@@ -95,6 +98,8 @@ by_index Demo (suc k) h = absurd (omega arith)
 by_index Renew zero h = refl
 by_index Renew (suc zero) h = refl
 by_index Renew (suc (suc k)) h = absurd (omega arith)
+by_index Lint zero h = refl
+by_index Lint (suc k) h = absurd (omega arith)
 
 pub name_by_id : (c : Command) (k : ℕ) → k < name_count c → arg_by_id (rules_for c) (name_id c k) ≡ Some (name_built c k)
 name_by_id Run zero h = refl
@@ -110,6 +115,8 @@ name_by_id Demo (suc k) h = absurd (omega arith)
 name_by_id Renew zero h = refl
 name_by_id Renew (suc zero) h = refl
 name_by_id Renew (suc (suc k)) h = absurd (omega arith)
+name_by_id Lint zero h = refl
+name_by_id Lint (suc k) h = absurd (omega arith)
 
 -- ---- no two arguments have one id
 
@@ -203,6 +210,9 @@ other_name Renew (suc zero) zero e h f = refl
 other_name Renew (suc zero) (suc zero) e h f = absurd (grind arith)
 other_name Renew (suc zero) (suc (suc k)) e h f = absurd (omega arith)
 other_name Renew (suc (suc j)) k e h f = absurd (omega arith)
+other_name Lint zero zero e h f = absurd (grind arith)
+other_name Lint (suc j) k e h f = absurd (omega arith)
+other_name Lint zero (suc k) e h f = absurd (omega arith)
 
 pub same_self : (o : Setting) → same o o ≡ true
 same_self Workers = refl
@@ -221,3 +231,4 @@ same_name Check (suc k) = refl
 same_name Demo k = refl
 same_name Renew zero = refl
 same_name Renew (suc k) = refl
+same_name Lint k = refl

@@ -8,7 +8,7 @@ use Rattle.mas_mind.specs.declared.mind.Level.{Level}
 use Rattle.mas_report.specs.declared.options.Options.{Options}
 use Rattle.mas_report.specs.Limits.{IsFrom, IsWithin, defaults}
 use Rattle.mas_words.specs.declared.table.Command.{Command}
-use Rattle.mas_words.specs.declared.table.Command.TheVariants.{Run, Replay, Check, Demo, Renew}
+use Rattle.mas_words.specs.declared.table.Command.TheVariants.{Run, Replay, Check, Demo, Renew, Lint}
 use Rattle.mas_words.specs.declared.table.Setting.{Setting}
 use Rattle.mas_words.specs.declared.table.Setting.TheVariants.{Workers, Cycles, Lead, Depth, Tries, Level as OfLevel}
 use Rattle.mas_words.specs.declared.asked.Asked as code
@@ -92,6 +92,9 @@ by_within Renew (n ∷ m ∷ []) text = tt
 by_within Renew [] text = tt
 by_within Renew (n ∷ []) text = tt
 by_within Renew (n ∷ m ∷ k ∷ ns) text = tt
+by_within Lint (n ∷ []) text = tt
+by_within Lint [] text = tt
+by_within Lint (n ∷ m ∷ ns) text = tt
 
 finished_within : (c : Command) (s : Said) → IfSome (finished c s) IsPermitted
 finished_within c s = go s.awaits

@@ -3,7 +3,7 @@ use Rattle.std.specs.Prelude.{ℕ, true, List, [], ◌∷◌, codes, drop, map, 
 use Rattle.clap.specs.Walk.{Rule}
 use Rattle.clap.specs.Simple.{App, new_app, new_rule, with_rule, on_top}
 use Rattle.mas_words.specs.declared.table.Command.{Command}
-use Rattle.mas_words.specs.declared.table.Command.TheVariants.{Run, Replay, Check, Demo, Renew}
+use Rattle.mas_words.specs.declared.table.Command.TheVariants.{Run, Replay, Check, Demo, Renew, Lint}
 use Rattle.mas_words.specs.declared.table.Setting.{Setting}
 use Rattle.mas_words.specs.Table.{key, form}
 
@@ -24,6 +24,7 @@ name_ids Replay = codes "project" ∷ codes "schedule" ∷ []
 name_ids Check = codes "project" ∷ codes "report" ∷ []
 name_ids Demo = codes "count" ∷ []
 name_ids Renew = codes "project" ∷ codes "report" ∷ []
+name_ids Lint = codes "project" ∷ []
 
 abbrev pub bare : List ℕ → App
 bare word = on_top (λ s. record s { no_binary_name = true; disable_help_flag = true; disable_version_flag = true }) (new_app word)

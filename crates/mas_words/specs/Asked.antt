@@ -6,7 +6,7 @@ use Rattle.mas_mind.specs.declared.mind.Level.TheVariants as level
 use Rattle.mas_report.specs.declared.options.Options.{Options}
 use Rattle.mas_report.specs.Limits.{IsFrom, IsWithin, defaults}
 use Rattle.mas_words.specs.declared.table.Command.{Command}
-use Rattle.mas_words.specs.declared.table.Command.TheVariants.{Run, Replay, Check, Demo, Renew}
+use Rattle.mas_words.specs.declared.table.Command.TheVariants.{Run, Replay, Check, Demo, Renew, Lint}
 use Rattle.mas_words.specs.declared.table.Setting.{Setting}
 use Rattle.mas_words.specs.declared.table.Setting.TheVariants.{Workers, Cycles, Lead, Depth, Tries, Level as OfLevel}
 use Rattle.mas_words.specs.declared.asked.Asked as code
@@ -14,13 +14,14 @@ use Rattle.mas_words.specs.declared.asked.Asked.TheVariants as code_variant
 use Rattle.mas_words.specs.Numbers.{number_in}
 
 -- a run of a project by so many workers, a replay of it along a schedule, whether a report is that of a run of a project, a
--- demonstration with so many agents and workers, and the report of a run of a project anew
+-- demonstration with so many agents and workers, the report of a run of a project anew, and whether a project's goals are covered
 pub data Asked : Type 0 where
   run : List ℕ → Options → ℕ → Asked
   replay : List ℕ → List ℕ → Options → Asked
   check : List ℕ → List ℕ → Asked
   demo : ℕ → ℕ → Asked
   renew : List ℕ → List ℕ → Asked
+  lint : List ℕ → Asked
 
 -- ---- what the texts of options say; None where it is not permitted
 
@@ -71,6 +72,7 @@ asked_by Replay (project ∷ schedule ∷ []) text = option_map (replay project 
 asked_by Check (project ∷ report ∷ []) text = Some (check project report)
 asked_by Demo (count ∷ []) text = demo_with (number_in 1 200 count) (workers_for text)
 asked_by Renew (project ∷ report ∷ []) text = Some (renew project report)
+asked_by Lint (project ∷ []) text = Some (lint project)
 asked_by _ _ text = None
 
 -- the numbers are those that the options and names permit
@@ -80,6 +82,7 @@ IsPermitted (replay project schedule options) = IsWithin options
 IsPermitted (check project report) = Unit {0}
 IsPermitted (demo count workers) = IsFrom 1 200 count × IsFrom 1 64 workers
 IsPermitted (renew project report) = Unit {0}
+IsPermitted (lint project) = Unit {0}
 
 -- ---- how the code holds it
 
@@ -89,3 +92,4 @@ asked_of (code_variant.Replay project schedule options) = replay project.now sch
 asked_of (code_variant.Check project report) = check project.now report.now
 asked_of (code_variant.Demo count workers) = demo count workers
 asked_of (code_variant.Renew project report) = renew project.now report.now
+asked_of (code_variant.Lint project) = lint project.now

@@ -2,7 +2,7 @@
 use Rattle.std.specs.Prelude.{ℕ, Bool, true, false, List, [], ◌∷◌, codes, if◌then◌else◌, Option, find}
 use Rattle.std.specs.Str.{bytes_eq}
 use Rattle.mas_words.specs.declared.table.Command.{Command}
-use Rattle.mas_words.specs.declared.table.Command.TheVariants.{Run, Replay, Check, Demo, Renew}
+use Rattle.mas_words.specs.declared.table.Command.TheVariants.{Run, Replay, Check, Demo, Renew, Lint}
 use Rattle.mas_words.specs.declared.table.Setting.{Setting}
 use Rattle.mas_words.specs.declared.table.Setting.TheVariants.{Workers, Cycles, Lead, Depth, Tries, Level}
 
@@ -21,9 +21,10 @@ form Replay = record { word = codes "replay"; names = 2; options = Cycles ∷ Le
 form Check = record { word = codes "check"; names = 2; options = [] }
 form Demo = record { word = codes "demo"; names = 1; options = Workers ∷ [] }
 form Renew = record { word = codes "renew"; names = 2; options = [] }
+form Lint = record { word = codes "lint"; names = 1; options = [] }
 
 abbrev pub commands : List Command
-commands = Run ∷ Replay ∷ Check ∷ Demo ∷ Renew ∷ []
+commands = Run ∷ Replay ∷ Check ∷ Demo ∷ Renew ∷ Lint ∷ []
 
 abbrev pub command_of : List ℕ → Option Command
 command_of word = find (λ c. bytes_eq word (form c).word) commands

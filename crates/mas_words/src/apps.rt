@@ -95,6 +95,15 @@ fn renew_app<'a>(alloc: Global) -> Result<App<'a>, AllocError>
     }
 }
 
+fn lint_app<'a>(alloc: Global) -> Result<App<'a>, AllocError>
+    ensures { IfOk result (λ a. app_of a ≡ spec.app_for Command.Lint) }
+{
+    match with_name(alloc, bare(alloc, "lint"), "project") {
+        Ok(app) => Ok(app),
+        Err(error) => Err(error),
+    }
+}
+
 /// The command for clap.
 pub fn app_for<'a>(alloc: Global, command: Command) -> Result<App<'a>, AllocError>
     ensures { IfOk result (λ a. app_of a ≡ spec.app_for command) }
@@ -105,5 +114,6 @@ pub fn app_for<'a>(alloc: Global, command: Command) -> Result<App<'a>, AllocErro
         Command::Check => check_app(alloc),
         Command::Demo => demo_app(alloc),
         Command::Renew => renew_app(alloc),
+        Command::Lint => lint_app(alloc),
     }
 }

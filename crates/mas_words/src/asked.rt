@@ -32,4 +32,8 @@ pub enum Asked<'a> {
         project: &'a [u8],
         report: &'a [u8],
     },
+    /// Whether each goal of the project has a plan that covers it.
+    Lint {
+        project: &'a [u8],
+    },
 }

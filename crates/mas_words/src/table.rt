@@ -10,6 +10,7 @@ pub enum Command {
     Check,
     Demo,
     Renew,
+    Lint,
 }
 
 /// What an option sets.
@@ -41,6 +42,9 @@ pub fn command_of(word: &[u8]) -> Option<Command>
     }
     if word == b"renew".as_slice() {
         return Some(Command::Renew);
+    }
+    if word == b"lint".as_slice() {
+        return Some(Command::Lint);
     }
     None
 }
@@ -80,6 +84,7 @@ pub fn takes(command: Command, setting: Setting) -> bool
         Command::Check => false,
         Command::Demo => matches!(setting, Setting::Workers),
         Command::Renew => false,
+        Command::Lint => false,
     }
 }
 
@@ -93,5 +98,6 @@ pub fn name_count(command: Command) -> u64
         Command::Check => 2,
         Command::Demo => 1,
         Command::Renew => 2,
+        Command::Lint => 1,
     }
 }

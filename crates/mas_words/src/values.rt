@@ -119,6 +119,7 @@ pub fn asked_by<'a>(command: Command, said: &Said<'a>) -> Option<Asked<'a>>
         (Command::Check, Some(project), Some(report)) => Some(Asked::Check { project, report }),
         (Command::Demo, Some(count), None) => to_demo(count, &said.given),
         (Command::Renew, Some(project), Some(report)) => Some(Asked::Renew { project, report }),
+        (Command::Lint, Some(project), None) => Some(Asked::Lint { project }),
         _ => None,
     }
 }

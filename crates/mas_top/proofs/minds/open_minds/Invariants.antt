@@ -1,5 +1,6 @@
 use Rattle.std.proofs.Common.{length}
-use Rattle.mas_top.specs.Opening.{minds_from, texts_of}
+use Rattle.mas_reading.specs.Sources.{texts_of}
+use Rattle.mas_top.specs.Opening.{minds_from}
 use Rattle.mas_top.proofs.Opened.{RolesLeft}
 use Rattle.mas_top.proofs.minds.open_minds.Given as goal
 

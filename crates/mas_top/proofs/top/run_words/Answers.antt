@@ -1,4 +1,4 @@
-use Rattle.mas_top.proofs.Said.{headline_words, schedule_words, complete_words, check_words, checked_words, demo_words}
+use Rattle.mas_top.proofs.Said.{headline_words, schedule_words, complete_words, check_words, checked_words, lint_words, linted_words, demo_words}
 use Rattle.mas_top.proofs.top.run_words.Goals as goal
 
 pub returns-clause-headline : goal.returns-clause-headline
@@ -15,6 +15,12 @@ returns-clause-check g c = check_words _ _ _ _ _ c.run_read.ensures.caused
 
 pub returns-clause-checked : goal.returns-clause-checked
 returns-clause-checked g c = checked_words _ _ _ _ _ c.run_read.ensures.caused
+
+pub returns-clause-lint : goal.returns-clause-lint
+returns-clause-lint g c = lint_words _ _ _ _ _ c.run_read.ensures.caused
+
+pub returns-clause-linted : goal.returns-clause-linted
+returns-clause-linted g c = linted_words _ _ _ _ _ c.run_read.ensures.caused
 
 pub returns-clause-demo : goal.returns-clause-demo
 returns-clause-demo g c = demo_words _ _ _ _ _ c.run_read.ensures.caused
