@@ -1,0 +1,4 @@
+pub mod Ages
+pub mod Later
+pub mod Bound
+pub mod Failing

@@ -1,0 +1,3 @@
+pub mod Linted
+pub mod Agendas
+pub mod Keeps

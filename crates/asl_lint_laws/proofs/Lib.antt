@@ -1,0 +1,10 @@
+pub mod Varied
+pub mod Settling
+pub mod Flattens
+pub mod Settles
+pub mod Instances
+pub mod Fresh
+pub mod Matching
+pub mod Relevant
+pub mod Raised
+pub mod Opened

@@ -1,0 +1,10 @@
+pub mod Grounds
+pub mod Places
+pub mod Beliefs
+pub mod Settled
+pub mod Goals
+pub mod Failed
+pub mod Solved
+pub mod Executed
+pub mod Cleared
+pub mod Chosen

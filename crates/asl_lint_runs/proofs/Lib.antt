@@ -1,0 +1,4 @@
+pub mod Sets
+pub mod Worlds
+pub mod Turns
+pub mod Openings

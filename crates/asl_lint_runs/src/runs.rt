@@ -1,0 +1,13 @@
+//! Laws of runs, as contracts of functions that do nothing.
+
+ghost use Rattle.asl_lint_runs.specs.Runs.{RunsNever, LintedNever};
+
+/// Along every list of turns, no cycle has the row of an event of a goal for which no plan is relevant.
+pub fn runs_never()
+    ensures { RunsNever }
+{}
+
+/// So it is from the opening of a project of which lint says yes.
+pub fn linted_never()
+    ensures { LintedNever }
+{}
