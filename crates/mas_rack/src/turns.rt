@@ -16,6 +16,7 @@ pub enum Turned<T> {
 /// A worker's turn with one agent.
 pub trait Turns<T: Agent> {
     ghost use Rattle.std.specs.Prelude.{Option};
+    ghost use Rattle.std.specs.Thread.{IsSync};
 
     // the home whose agents it serves
     ghost serves: { Self → Option T.Home };
@@ -24,6 +25,7 @@ pub trait Turns<T: Agent> {
     ghost ended: { Self → T → Type 0 };
 
     fn turn<R: Threads + Wait + Sync>(&self, rt: &R, agent: T) -> Turned<T>
+        requires sync { IsSync R.row }
         requires ready { T.ready agent }
         requires home { serves self.now ≡ Some (T.home agent) }
         ensures { MatchTurned result (Went T.number T.home T.ready agent) (Went T.number T.home T.ready agent) (Ended T.number (ended self.now) agent) };
