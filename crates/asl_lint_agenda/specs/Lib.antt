@@ -1,3 +1,4 @@
 pub mod Linted
 pub mod Agendas
 pub mod Keeps
+pub mod Read

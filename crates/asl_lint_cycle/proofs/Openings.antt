@@ -33,13 +33,14 @@ use Rattle.asl_lint_laws.specs.Served.{HasWritten}
 use Rattle.asl_lint_laws.proofs.Opened.{source_serves, source_opens}
 use Rattle.asl_lint_agenda.specs.Linted.{ArgsBy, IsMergedArg}
 use Rattle.asl_lint_agenda.specs.Agendas.{IsOlder, FormulaBelow, FormulaServed, EventServed}
+use Rattle.asl_lint_agenda.specs.Read.{AreGround, HasMerged, IsReadPlan, IsRead}
 use Rattle.asl_lint_agenda.proofs.Later.{each_weaker}
-use Rattle.asl_lint_rows.specs.Served.{AreGround, PlanServed}
+use Rattle.asl_lint_rows.specs.Served.{PlanServed}
 use Rattle.asl_lint_rows.proofs.Beliefs.{AreTold, all_added_change}
 use Rattle.asl_lint_rows.proofs.Failed.{event_told}
 use Rattle.asl_lint_rows.proofs.Goals.{goal_is_served}
 use Rattle.asl_lint_mail.proofs.Stay.{opened_own}
-use Rattle.asl_lint_cycle.specs.Opening.{HasMerged, IsReadPlan, IsRead, OpensServed}
+use Rattle.asl_lint_cycle.specs.Opening.{OpensServed}
 
 -- ---- what holds of plans holds of the entries that begin with them
 

@@ -44,7 +44,8 @@ use Rattle.asl_lint_agenda.proofs.Bound.{older_put}
 use Rattle.asl_lint_agenda.proofs.Failing.{fails_served}
 use Rattle.asl_lint_agenda.proofs.Later.{later_event}
 use Rattle.asl_lint_agenda.proofs.Ages.{literal_later}
-use Rattle.asl_lint_rows.specs.Served.{IsOther, AreGround, AroundServed, PartsServed, WentServed, MadeServed}
+use Rattle.asl_lint_agenda.specs.Read.{AreGround}
+use Rattle.asl_lint_rows.specs.Served.{IsOther, AroundServed, PartsServed, WentServed, MadeServed}
 use Rattle.asl_lint_rows.specs.Rows.{ChosenServed}
 use Rattle.asl_lint_rows.proofs.Beliefs.{updated_change}
 use Rattle.asl_lint_rows.proofs.Chosen.{choice_keeps}

@@ -14,7 +14,8 @@ use Rattle.asl_cycle.specs.declared.rows.Line.{Line}
 use Rattle.asl_cycle.specs.declared.rows.Line.TheVariants as line
 use Rattle.asl_cycle.specs.Cycle.{Ran, cycle}
 use Rattle.asl_cycle.specs.Agent.{Mindset, surroundings, agent_cycle}
-use Rattle.asl_lint_rows.specs.Served.{is_rel3, AreGround, AroundServed, PartsServed}
+use Rattle.asl_lint_agenda.specs.Read.{AreGround}
+use Rattle.asl_lint_rows.specs.Served.{is_rel3, AroundServed, PartsServed}
 use Rattle.asl_lint_mail.specs.Messages.{AreOwn, MessageServed}
 use Rattle.asl_lint_mail.specs.Deeds.{AreOpened}
 

@@ -56,7 +56,8 @@ use Rattle.asl_lint_agenda.specs.Agendas.{IsMerged, IsOlder, AskServed, AgendaSe
 use Rattle.asl_lint_agenda.proofs.Bound.{stack_bound}
 use Rattle.asl_lint_agenda.proofs.Failing.{tag_weight, tag_merged, fails_served}
 use Rattle.asl_lint_agenda.proofs.Ages.{older_with}
-use Rattle.asl_lint_rows.specs.Served.{IsOther, AreGround, AroundServed, PartsServed}
+use Rattle.asl_lint_agenda.specs.Read.{AreGround}
+use Rattle.asl_lint_rows.specs.Served.{IsOther, AroundServed, PartsServed}
 use Rattle.asl_lint_rows.proofs.Beliefs.{IsChange, all_added_change, followed_change, removed_change, without_match_change}
 use Rattle.asl_lint_rows.proofs.Chosen.{renamed_below, served_varied}
 use Rattle.asl_lint_rows.proofs.Failed.{are_source, stay, stack_rest, agenda_running, parts_believing, parts_later, parts_posted}

@@ -13,7 +13,7 @@ use Rattle.asl_beliefs.specs.Sources.{with_annots, names_source, source_percept}
 use Rattle.asl_beliefs.proofs.Added.{ground_not_held}
 use Rattle.asl_beliefs.proofs.Initial.{ground_as_percept}
 use Rattle.asl_beliefs.proofs.Sound.{ground_parts, ground_with, ground_append, ground_filter}
-use Rattle.asl_lint_rows.specs.Served.{AreGround}
+use Rattle.asl_lint_agenda.specs.Read.{AreGround}
 
 -- an event of a belief without variables
 pub record IsTold (t : Trigger) : Type 0 where

@@ -31,7 +31,8 @@ use Rattle.asl_fresh.proofs.Solutions.{solutions_below}
 use Rattle.asl_plans.specs.declared.entry.Entry.{Entry}
 use Rattle.asl_exec.specs.Parts.{Around, Parts}
 use Rattle.asl_exec.specs.Exec.{sought}
-use Rattle.asl_lint_rows.specs.Served.{AreGround, AroundServed, PartsServed}
+use Rattle.asl_lint_agenda.specs.Read.{AreGround}
+use Rattle.asl_lint_rows.specs.Served.{AroundServed, PartsServed}
 use Rattle.asl_lint_rows.proofs.Beliefs.{all_append}
 use Rattle.asl_lint_rows.proofs.Grounds.{literal_ground}
 

@@ -5,10 +5,7 @@ use Rattle.asl_term.specs.declared.syntax.AgentText.{AgentText}
 use Rattle.asl_term.specs.declared.syntax.CallOf.{CallOf}
 use Rattle.asl_term.specs.declared.syntax.Expr.{Expr}
 use Rattle.asl_term.specs.declared.syntax.Expr.TheVariants as expr
-use Rattle.asl_term.specs.declared.syntax.LiteralOf.{LiteralOf}
 use Rattle.asl_term.specs.declared.syntax.Plan.{Plan}
-use Rattle.asl_term.specs.declared.syntax.Term.{Term}
-use Rattle.asl_term.specs.Exprs.{is_ground_literal}
 use Rattle.asl_unify.specs.Facts.{Rule}
 use Rattle.asl_unify.specs.Settling.{settle_call}
 use Rattle.asl_fresh.specs.Fresh.{ExprBelow, FactBelow, SolvesBelow}
@@ -20,6 +17,7 @@ use Rattle.asl_exec.specs.declared.went.Went.TheVariants as went
 use Rattle.asl_exec.specs.Parts.{Around, Parts, Made}
 use Rattle.asl_lint_laws.specs.Served.{HasWritten}
 use Rattle.asl_lint_agenda.specs.Linted.{IsLinted}
+use Rattle.asl_lint_agenda.specs.Read.{AreGround}
 use Rattle.asl_lint_agenda.specs.Agendas.{FormulaServed, StackServed, AgendaServed}
 
 -- the row of an event of a goal for which no plan is relevant
@@ -30,9 +28,6 @@ is_rel3 other = false
 -- a row is another one
 abbrev pub IsOther : Row → Type 0
 IsOther r = is_rel3 r ≡ false
-
-abbrev pub AreGround : List (LiteralOf Term) → Type 0
-AreGround = AllByRecursion (λ b. is_ground_literal b ≡ true)
 
 module _ (names : List (List ℕ)) (texts : List AgentText) where
   -- a plan of a source, whose variables have no number

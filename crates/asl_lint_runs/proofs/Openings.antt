@@ -9,10 +9,12 @@ use Rattle.mas_mind.specs.declared.mind.Level.{Level}
 use Rattle.asl_lint.proofs.Verdicts.{yes_decides}
 use Rattle.asl_lint.specs.Lints.{all_hold}
 use Rattle.asl_lint_laws.specs.Served.{HasWritten}
+use Rattle.asl_lint_read.specs.Read.{IsSource}
+use Rattle.asl_lint_read.proofs.Clauses.{sources_are_read}
 use Rattle.asl_lint_agenda.proofs.Later.{each_weaker, some_weaker}
-use Rattle.asl_lint_cycle.specs.Opening.{IsReadPlan, IsRead}
+use Rattle.asl_lint_agenda.specs.Read.{IsReadPlan, IsRead}
 use Rattle.asl_lint_cycle.proofs.Openings.{opens_served}
-use Rattle.asl_lint_runs.specs.Runs.{Each, MindServed, BoxServed, OnItsWay, minds_from, LintedNever}
+use Rattle.asl_lint_runs.specs.Runs.{Each, MindServed, BoxServed, OnItsWay, minds_from, LintedNever, SourcesNever}
 use Rattle.asl_lint_runs.proofs.Sets.{replicate_each}
 use Rattle.asl_lint_runs.proofs.Turns.{run_never}
 
@@ -55,3 +57,7 @@ linted_never names texts w cycles lead k level schedule facts reads said =
       boxes = replicate_each (BoxServed texts (libs_of texts)) (length names) [] (λ j. tt);
       thoughts = replicate_each (OnItsWay texts (libs_of texts)) _ _ (λ j. tt);
     })
+
+pub sources_never : SourcesNever
+sources_never names texts w cycles lead k level schedule facts sources said =
+    linted_never names texts w cycles lead k level schedule facts (each_weaker IsSource IsRead sources_are_read texts sources) said

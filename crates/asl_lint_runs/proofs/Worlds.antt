@@ -17,7 +17,7 @@ use Rattle.mas_world.proofs.Deeds.{decided_plain}
 use Rattle.mas_world.proofs.Sights.{seen_are}
 use Rattle.mas_world.proofs.Sound.{done_are}
 use Rattle.mas_board.specs.Boards.{acted_as}
-use Rattle.asl_lint_rows.specs.Served.{AreGround}
+use Rattle.asl_lint_agenda.specs.Read.{AreGround}
 
 abbrev AreUsed : List Used → Type 0
 AreUsed = AllByRecursion (λ u. AreFacts u.segment.facts)

@@ -17,7 +17,8 @@ use Rattle.asl_lint.specs.declared.lint.Verdict.TheVariants.{Yes}
 use Rattle.asl_lint_mail.specs.Messages.{MessageServed}
 use Rattle.asl_lint_mail.specs.Deeds.{AreOpened}
 use Rattle.asl_lint_cycle.specs.Cycles.{NeverIrrelevant, ThoughtServed, AgentServed}
-use Rattle.asl_lint_cycle.specs.Opening.{IsRead}
+use Rattle.asl_lint_agenda.specs.Read.{IsRead}
+use Rattle.asl_lint_read.specs.Read.{IsSource}
 
 -- what holds along a list of turns, before each of them
 abbrev pub Along : (Platform Mindset → ℕ → Type 0) → Platform Mindset → List ℕ → Type 0
@@ -75,4 +76,11 @@ abbrev pub LintedNever : Type 0
 LintedNever =
     (names : List (List ℕ)) (texts : List AgentText) (w : World) (cycles lead : ℕ) (k : Budgets) (level : Level) (schedule : List ℕ) →
     HasFacts w → AllByRecursion IsRead texts → verdict names texts ≡ Yes →
+    Along NeverNow (opening_platform (opening names w cycles lead) (minds_from names k level 1 texts)) schedule
+
+-- so of every project whose sources were read
+abbrev pub SourcesNever : Type 0
+SourcesNever =
+    (names : List (List ℕ)) (texts : List AgentText) (w : World) (cycles lead : ℕ) (k : Budgets) (level : Level) (schedule : List ℕ) →
+    HasFacts w → AllByRecursion IsSource texts → verdict names texts ≡ Yes →
     Along NeverNow (opening_platform (opening names w cycles lead) (minds_from names k level 1 texts)) schedule

@@ -1,6 +1,6 @@
 //! Laws of runs, as contracts of functions that do nothing.
 
-ghost use Rattle.asl_lint_runs.specs.Runs.{RunsNever, LintedNever};
+ghost use Rattle.asl_lint_runs.specs.Runs.{RunsNever, LintedNever, SourcesNever};
 
 /// Along every list of turns, no cycle has the row of an event of a goal for which no plan is relevant.
 pub fn runs_never()
@@ -10,4 +10,9 @@ pub fn runs_never()
 /// So it is from the opening of a project of which lint says yes.
 pub fn linted_never()
     ensures { LintedNever }
+{}
+
+/// So it is of each project whose agents' sources were read.
+pub fn sources_never()
+    ensures { SourcesNever }
 {}

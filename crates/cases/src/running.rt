@@ -185,16 +185,16 @@ fn with_workers(words: &[String], workers: u64, desk: &mut Desk) -> Vec<String> 
     all
 }
 
-/// The options among the words of a run, but for the number of workers, which a replay has not.
+/// The options among the words of a run, but for the workers and their pool, which a replay has not.
 fn put_options(options: &[String], words: &mut Vec<String>, desk: &mut Desk) {
     let mut passes = false;
     for option in options {
         let option = option.as_str();
-        if option == "--workers" {
+        if option == "--workers" || option == "--pool" {
             passes = true;
         } else if passes {
             passes = false;
-        } else if !option.starts_with("--workers=") {
+        } else if !option.starts_with("--workers=") && !option.starts_with("--pool=") {
             desk.put_word(option, words);
         }
     }

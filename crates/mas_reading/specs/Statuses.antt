@@ -53,11 +53,16 @@ what_word what.Clause = codes "clause"
 what_word what.Agents = codes "agents"
 what_word what.Cycles = codes "cycles"
 
+-- the commands, with what each of them names
+abbrev pub usage : List ℕ
+usage = codes "usage: jasonrun run PROJECT | replay PROJECT SCHEDULE | check PROJECT REPORT | demo K | renew PROJECT REPORT"
+    ++ codes " | lint PROJECT"
+
 -- nothing where the report was written whole and no end in it is `budget`, or it is that of a run, else one line
 abbrev pub fault_text : Status → List ℕ
 fault_text status.Ok = []
 fault_text status.No = line (codes "no")
-fault_text status.Usage = line (codes "usage: jasonrun run PROJECT | replay PROJECT SCHEDULE | check PROJECT REPORT | demo K | renew PROJECT REPORT | lint PROJECT")
+fault_text status.Usage = line usage
 fault_text (status.Missing name) = line (codes "missing " ++ name)
 fault_text status.ReadFault = line (codes "read fault")
 fault_text status.WriteFault = line (codes "write fault")

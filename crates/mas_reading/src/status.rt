@@ -95,6 +95,18 @@ pub fn code(s: &Status) -> u8
     }
 }
 
+fn usage_line(alloc: Global) -> Result<Text, Starved>
+    ensures { IfOk result (λ t. t ≡ fault_text Status.Usage) }
+{
+    let mut text = text_of(
+        alloc,
+        b"usage: jasonrun run PROJECT | replay PROJECT SCHEDULE | check PROJECT REPORT | demo K | renew PROJECT REPORT",
+    )?;
+    text.append(b" | lint PROJECT")?;
+    text.push(b'\n')?;
+    Ok(text)
+}
+
 fn missing_line(alloc: Global, name: &Text) -> Result<Text, Starved>
     ensures { IfOk result (λ t. t ≡ fault_text (Status.Missing name.now)) }
 {
@@ -188,10 +200,7 @@ pub fn fault_line(alloc: Global, s: &Status) -> Result<Text, Starved>
     match s {
         Status::Ok => Ok(Seq::new(alloc)),
         Status::No => text_of(alloc, b"no\n"),
-        Status::Usage => text_of(
-            alloc,
-            b"usage: jasonrun run PROJECT | replay PROJECT SCHEDULE | check PROJECT REPORT | demo K | renew PROJECT REPORT | lint PROJECT\n",
-        ),
+        Status::Usage => usage_line(alloc),
         Status::Missing(name) => missing_line(alloc, name),
         Status::ReadFault => text_of(alloc, b"read fault\n"),
         Status::WriteFault => text_of(alloc, b"write fault\n"),

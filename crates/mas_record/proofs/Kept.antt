@@ -89,6 +89,8 @@ module _ {D : Type 0} (state : D → DiskState) where
       let s0 = state old.disk in
       let s1 = state new.disk in
       record {
+        told = n.ran.told ∙ s.told;
+        picked = n.ran.picked ∙ s.picked;
         later = (let l = s.later in let m = n.ran.moment in omega arith);
         counted = (let l = s.counted in let m = n.ran.faults in omega arith);
         rose = λ e. rose_on first.faults s0.faults s1.faults s.counted (torn_rose old new a written n e);
@@ -124,6 +126,8 @@ module _ {A D : Type 0} (state : D → DiskState) where
           within = subst (λ (l : List ℕ). StartsWith x.board.schedule l) (sym m.tells) (starts_refl x.board.schedule);
         };
         since = record {
+          told = refl;
+          picked = refl;
           later = omega arith;
           counted = omega arith;
           rose = λ e. cc (e, m.open_now);

@@ -30,9 +30,12 @@ pub record RecoversWithin (turns schedule : List ℕ) (c : Image) : Type 0 where
 abbrev pub LeavesWithin : List ℕ → List ℕ → DiskState → Type 0
 LeavesWithin turns schedule s = s.told ≡ true → (c : Image) → (picked_file s).may_leave c → RecoversWithin turns schedule c
 
--- since the opening: the disk's count of faults did not fall, it rose where a fault tore the journal, and a crash at any moment
--- would have left the schedule of the opening and no turn that is not in this schedule
+-- since the opening: the same file is picked, of a disk that tells as it did; the disk's count of faults did not fall, it rose where
+-- a fault tore the journal, and a crash at any moment would have left the schedule of the opening and no turn that is not in this
+-- schedule
 pub record IsSince (first : Opening) (schedule : List ℕ) (s : DiskState) (torn : Option DiskFail) : Type 0 where
+  pub told : s.told ≡ first.told
+  pub picked : s.picked ≡ first.picked
   pub later : first.moment ≤ s.moment
   pub counted : first.faults ≤ s.faults
   pub rose : torn ≡ Some Failed → Rose first.faults s.faults
@@ -48,7 +51,13 @@ IsCounted s = (t : ℕ) (name : List ℕ) (c : Image) → t ≤ s.moment → (s.
 
 -- how it stands with this board and this journal
 abbrev pub opening_at : {D : Type 0} → (D → DiskState) → Noted → Journal D → Opening
-opening_at state board journal = record { board = board; faults = (state journal.disk).faults; moment = (state journal.disk).moment }
+opening_at state board journal = record {
+  board = board;
+  told = (state journal.disk).told;
+  picked = (state journal.disk).picked;
+  faults = (state journal.disk).faults;
+  moment = (state journal.disk).moment;
+}
 
 module _ {A D : Type 0} where
   -- the board as the tickets see it: it counts as halted where the journal is torn

@@ -28,7 +28,7 @@ said Is objects given before after status (inr w) a h = subst (λ x. AskedCaused
 
 -- a shelf that is as it was, whatever the words ask for
 pub left : {S : Type 0} (objects : List Used) (old new : S) → new ≡ old → (a : words.Asked) → ForDemos (λ u count way. new ≡ old) objects a
-left objects old new e (words.run project options workers) = tt
+left objects old new e (words.run project options workers pool) = tt
 left objects old new e (words.replay project schedule options) = tt
 left objects old new e (words.check project report) = tt
 left objects old new e (words.demo count workers) = e
@@ -46,7 +46,7 @@ unread given asked only none = absurd (none asked only.it)
 
 -- where memory lacked before anything was done
 short_by : (objects : List Used) (before after : Told) (a : words.Asked) → IsUnwritten before after → AskedCaused IsRunReportOf objects before after Memory a
-short_by objects before after (words.run project options workers) u = u
+short_by objects before after (words.run project options workers pool) u = u
 short_by objects before after (words.replay project schedule options) u = u
 short_by objects before after (words.check project report) u = u
 short_by objects before after (words.demo count workers) u = u
@@ -60,7 +60,7 @@ short_words objects given before after r u =
 
 headline_by : (objects : List Used) (before after : Told) (status : Status) (a : words.Asked) → AskedCaused IsRunReportOf objects before after status a →
     ForRuns (λ u asked. IsHeadline u asked before after status) objects a
-headline_by objects before after status (words.run project options workers) c = headline_file (setup options objects) (wanted project (by_workers workers)) before after status c
+headline_by objects before after status (words.run project options workers pool) c = headline_file (setup options objects) (wanted project (by_workers workers)) before after status c
 headline_by objects before after status (words.replay project schedule options) c =
     headline_file (setup options objects) (wanted project (by_file schedule)) before after status c
 headline_by objects before after status (words.check project report) c = tt
@@ -70,7 +70,7 @@ headline_by objects before after status (words.lint project) c = tt
 
 schedule_by : (objects : List Used) (before after : Told) (status : Status) (a : words.Asked) → AskedCaused IsRunReportOf objects before after status a →
     ForRuns (λ u asked. PrintsSchedule u asked before after status) objects a
-schedule_by objects before after status (words.run project options workers) c = schedule_file (setup options objects) (wanted project (by_workers workers)) before after status c
+schedule_by objects before after status (words.run project options workers pool) c = schedule_file (setup options objects) (wanted project (by_workers workers)) before after status c
 schedule_by objects before after status (words.replay project schedule options) c =
     schedule_file (setup options objects) (wanted project (by_file schedule)) before after status c
 schedule_by objects before after status (words.check project report) c = tt
@@ -80,7 +80,7 @@ schedule_by objects before after status (words.lint project) c = tt
 
 complete_by : (objects : List Used) (before after : Told) (status : Status) (a : words.Asked) → AskedCaused IsRunReportOf objects before after status a →
     ForRuns (λ u asked. IsComplete u asked before after status) objects a
-complete_by objects before after status (words.run project options workers) c =
+complete_by objects before after status (words.run project options workers pool) c =
     let u = setup options objects in complete_file (IsRunReportOf u) u (wanted project (by_workers workers)) before after status c
 complete_by objects before after status (words.replay project schedule options) c =
     let u = setup options objects in complete_file (IsRunReportOf u) u (wanted project (by_file schedule)) before after status c
@@ -91,7 +91,7 @@ complete_by objects before after status (words.lint project) c = tt
 
 check_by : (objects : List Used) (before after : Told) (status : Status) (a : words.Asked) → AskedCaused IsRunReportOf objects before after status a →
     ForClaims (λ c. Judges objects c before after status) a
-check_by objects before after status (words.run project options workers) c = tt
+check_by objects before after status (words.run project options workers pool) c = tt
 check_by objects before after status (words.replay project schedule options) c = tt
 check_by objects before after status (words.check project report) c = judged_claim objects (claim whether project report) before after status c
 check_by objects before after status (words.demo count workers) c = tt
@@ -100,7 +100,7 @@ check_by objects before after status (words.lint project) c = tt
 
 checked_by : (objects : List Used) (before after : Told) (status : Status) (a : words.Asked) → AskedCaused IsRunReportOf objects before after status a →
     ForClaims (λ c. IsClaimComplete objects c before after status) a
-checked_by objects before after status (words.run project options workers) c = tt
+checked_by objects before after status (words.run project options workers pool) c = tt
 checked_by objects before after status (words.replay project schedule options) c = tt
 checked_by objects before after status (words.check project report) c = complete_claim objects (claim whether project report) before after status c
 checked_by objects before after status (words.demo count workers) c = tt
@@ -109,7 +109,7 @@ checked_by objects before after status (words.lint project) c = tt
 
 demo_by : (objects : List Used) (before after : Told) (status : Status) (a : words.Asked) → words.IsPermitted a →
     AskedCaused IsRunReportOf objects before after status a → ForDemos (λ u count way. IsDemoComplete u before after status) objects a
-demo_by objects before after status (words.run project options workers) p c = tt
+demo_by objects before after status (words.run project options workers pool) p c = tt
 demo_by objects before after status (words.replay project schedule options) p c = tt
 demo_by objects before after status (words.check project report) p c = tt
 demo_by objects before after status (words.demo count workers) p c = demo_complete objects count (way_of workers) before after status p.0.0 p.0.1 c
@@ -153,7 +153,7 @@ demo_words objects given before after status c a h =
 
 lint_by : (objects : List Used) (before after : Told) (status : Status) (a : words.Asked) → AskedCaused IsRunReportOf objects before after status a →
     ForLints (λ project. Lints (known objects) project before after status) a
-lint_by objects before after status (words.run project options workers) c = tt
+lint_by objects before after status (words.run project options workers pool) c = tt
 lint_by objects before after status (words.replay project schedule options) c = tt
 lint_by objects before after status (words.check project report) c = tt
 lint_by objects before after status (words.demo count workers) c = tt
@@ -162,7 +162,7 @@ lint_by objects before after status (words.lint project) c = lints (known object
 
 linted_by : (objects : List Used) (before after : Told) (status : Status) (a : words.Asked) → AskedCaused IsRunReportOf objects before after status a →
     ForLints (λ project. IsLintComplete (known objects) project before after status) a
-linted_by objects before after status (words.run project options workers) c = tt
+linted_by objects before after status (words.run project options workers pool) c = tt
 linted_by objects before after status (words.replay project schedule options) c = tt
 linted_by objects before after status (words.check project report) c = tt
 linted_by objects before after status (words.demo count workers) c = tt

@@ -83,7 +83,7 @@ IsComplete u wanted before after status =
 
 -- what holds of the files of a run or of a replay
 abbrev pub ForRuns : (Setup → Wanted → Type 0) → List Used → words.Asked → Type 0
-ForRuns Holds objects (words.run project options workers) = Holds (setup options objects) (wanted project (by_workers workers))
+ForRuns Holds objects (words.run project options workers pool) = Holds (setup options objects) (wanted project (by_workers workers))
 ForRuns Holds objects (words.replay project schedule options) = Holds (setup options objects) (wanted project (by_file schedule))
 ForRuns Holds objects (words.check project report) = Unit {0}
 ForRuns Holds objects (words.demo count workers) = Unit {0}
@@ -92,7 +92,7 @@ ForRuns Holds objects (words.lint project) = Unit {0}
 
 -- what holds of a claim that a report is that of a run, by `check` and by `renew`
 abbrev pub ForClaims : (Claim → Type 0) → words.Asked → Type 0
-ForClaims Holds (words.run project options workers) = Unit {0}
+ForClaims Holds (words.run project options workers pool) = Unit {0}
 ForClaims Holds (words.replay project schedule options) = Unit {0}
 ForClaims Holds (words.check project report) = Holds (claim whether project report)
 ForClaims Holds (words.demo count workers) = Unit {0}
@@ -101,7 +101,7 @@ ForClaims Holds (words.lint project) = Unit {0}
 
 -- what holds of a project of which is asked whether its goals are covered
 abbrev pub ForLints : (List ℕ → Type 0) → words.Asked → Type 0
-ForLints Holds (words.run project options workers) = Unit {0}
+ForLints Holds (words.run project options workers pool) = Unit {0}
 ForLints Holds (words.replay project schedule options) = Unit {0}
 ForLints Holds (words.check project report) = Unit {0}
 ForLints Holds (words.demo count workers) = Unit {0}
@@ -110,7 +110,7 @@ ForLints Holds (words.lint project) = Holds project
 
 -- what holds of a demo of so many agents
 abbrev pub ForDemos : (Setup → ℕ → Way → Type 0) → List Used → words.Asked → Type 0
-ForDemos Holds objects (words.run project options workers) = Unit {0}
+ForDemos Holds objects (words.run project options workers pool) = Unit {0}
 ForDemos Holds objects (words.replay project schedule options) = Unit {0}
 ForDemos Holds objects (words.check project report) = Unit {0}
 ForDemos Holds objects (words.demo count workers) = Holds (setup defaults objects) count (way_of workers)
@@ -121,7 +121,7 @@ ForDemos Holds objects (words.lint project) = Unit {0}
 
 -- of what the words ask for
 abbrev pub AskedCaused : (Setup → Texts) → List Used → Told → Told → Status → words.Asked → Type 0
-AskedCaused Is objects before after status (words.run project options workers) =
+AskedCaused Is objects before after status (words.run project options workers pool) =
     let u = setup options objects in FileCaused (Is u) u (wanted project (by_workers workers)) before after status
 AskedCaused Is objects before after status (words.replay project schedule options) =
     let u = setup options objects in FileCaused (Is u) u (wanted project (by_file schedule)) before after status

@@ -117,5 +117,5 @@ CanBe (by_workers count) = IsFrom 1 64 count
 CanBe (by_file name) = Unit {0}
 
 abbrev pub how_of : code.How → How
-how_of (code_variant.Workers count) = by_workers count
+how_of (code_variant.Workers count pool) = by_workers count
 how_of (code_variant.Schedule name) = by_file name.now

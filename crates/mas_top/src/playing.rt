@@ -26,6 +26,7 @@ use mas_reading::sources::{Source, sources};
 use mas_reading::status::{Reason, Status};
 use mas_report::options::Options;
 use mas_schedule::reading::{LineFault, read_schedule};
+use mas_words::asked::Pool;
 use mas_world::artifact::Artifact;
 use std::alloc::Global;
 use std::sync::Wait;
@@ -34,10 +35,10 @@ use std::thread::Threads;
 /// The most bytes of the file of a schedule or of a report.
 pub const MOST_BYTES: u64 = 268_435_456;
 
-/// How a project is run: by so many workers, or along the schedule of the file of this name.
+/// How a project is run: by so many workers from a pool, or along the schedule of the file of this name.
 #[derive(Clone, Copy)]
 pub enum How<'a> {
-    Workers(u32),
+    Workers(u32, Pool),
     Schedule(&'a [u8]),
 }
 
@@ -169,7 +170,9 @@ pub fn run_files<R: Threads + Wait + Sync, S: Shelf, A: Artifact + Send, G: Gate
     let word = text_of(alloc, project)?;
     let source = read_source(alloc, o.cycles, &word, &artifacts, shelf)?;
     match how {
-        How::Workers(workers) => Ok(run_source(rt, alloc, o, source, artifacts, workers, gate)?),
+        How::Workers(workers, pool) => Ok(run_source(
+            rt, alloc, o, source, artifacts, pool, workers, gate,
+        )?),
         How::Schedule(name) => replay_file(alloc, o, source, artifacts, name, shelf),
     }
 }

@@ -5,7 +5,8 @@ ghost use Rattle.asl_cycle.specs.Agent.{agent_kind};
 ghost use Rattle.mas_board.specs.Boards as boards;
 ghost use Rattle.mas_core.specs.Fits.{Start};
 ghost use Rattle.mas_core.specs.Platform.{opening_platform};
-ghost use Rattle.mas_core.specs.Replay.{Faulted};
+ghost use Rattle.mas_core.specs.Replay.{Faulted, RanAlong};
+ghost use Rattle.mas_core.specs.Robin.{RanOut};
 ghost use Rattle.mas_report.specs.Limits.{IsFrom, IsWithin};
 ghost use Rattle.mas_report.specs.Report as spec;
 ghost use Rattle.mas_schedule.specs.Schedule.{AllFromOne, printed};
@@ -29,6 +30,8 @@ use mas_pool::pool::run_pool;
 use mas_reading::sources::Source;
 use mas_report::options::Options;
 use mas_report::report::{LATEST, is_spent, report};
+use mas_steal::steal::run_stealing;
+use mas_words::asked::Pool;
 use mas_world::acts::WorldText;
 use mas_world::artifact::Artifact;
 use mas_world::opening::open_world;
@@ -118,12 +121,35 @@ fn told<M: Mind, A: Artifact>(
     Ok(Output { text, spent })
 }
 
+/// Runs all agents to their end by so many workers, which take them from this pool. The board and the minds are then those
+/// of the run along the board's own schedule; with one worker that is the round robin.
+fn run_minds<R: Threads + Wait + Sync, M: Mind + Send, A: Artifact + Send, G: Gate + Sync>(
+    rt: &R,
+    alloc: Global,
+    board: Board<A>,
+    minds: Seq<M>,
+    pool: Pool,
+    workers: u32,
+    gate: &G,
+) -> Result<Done<M, A>, Starved>
+    requires start { Start M.kind board minds }
+    requires workers { IsFrom 1 64 workers }
+    ensures ran { IfOk result (λ d. RanAlong M.kind (opening_platform board.state minds) d.board.schedule d.board d.minds) }
+    ensures alone { workers ≡ 1 → IfOk result (λ d. RanOut M.kind (opening_platform board.state minds) d.board d.minds) }
+{
+    match pool {
+        Pool::Ready => run_pool(rt, alloc, board, minds, workers, gate),
+        Pool::Steal => run_stealing(rt, alloc, board, minds, workers, gate),
+    }
+}
+
 /// The run of these minds over this board by so many workers, and its report.
 fn run_out<R: Threads + Wait + Sync, M: Mind + Send, A: Artifact + Send, G: Gate + Sync>(
     rt: &R,
     alloc: Global,
     o: &Options,
     opened: Opened<M, A>,
+    pool: Pool,
     workers: u32,
     gate: &G,
 ) -> Result<Output, Starved>
@@ -133,7 +159,7 @@ fn run_out<R: Threads + Wait + Sync, M: Mind + Send, A: Artifact + Send, G: Gate
 {
     let Opened { board, minds } = opened;
     board.holds();
-    let done = run_pool(rt, alloc, board, minds, workers, gate)?;
+    let done = run_minds(rt, alloc, board, minds, pool, workers, gate)?;
     match told(alloc, o, &done) {
         Ok(out) => {
             drop(done);
@@ -180,6 +206,7 @@ pub fn run_source<R: Threads + Wait + Sync, A: Artifact + Send, G: Gate + Sync>(
     o: &Options,
     source: Source,
     artifacts: Vec<A>,
+    pool: Pool,
     workers: u32,
     gate: &G,
 ) -> Result<Output, Starved>
@@ -190,7 +217,7 @@ pub fn run_source<R: Threads + Wait + Sync, A: Artifact + Send, G: Gate + Sync>(
         IfOk result (λ out. IsRunReport agent_kind o.now (opening u source) (way_of workers) out.spent out.text) }
 {
     match open_source(alloc, o, source, artifacts) {
-        Ok(opened) => run_out(rt, alloc, o, opened, workers, gate),
+        Ok(opened) => run_out(rt, alloc, o, opened, pool, workers, gate),
         Err(starved) => Err(starved),
     }
 }

@@ -8,7 +8,8 @@ ghost use Rattle.mas_report.specs.Limits.{IsWithin};
 ghost use Rattle.mas_top.specs.Caused.{FileCaused};
 ghost use Rattle.mas_top.specs.Checking.{IsClaimComplete, Judges};
 ghost use Rattle.mas_top.specs.Demo.{IsDemoComplete};
-ghost use Rattle.mas_top.specs.Headline.{AskedCaused, ForClaims, ForDemos, ForLints, ForRuns, IsComplete, IsHeadline, IsRunReportOf, PrintsSchedule, WordsCaused};
+ghost use Rattle.mas_top.specs.Headline.{AskedCaused, ForClaims, ForDemos, ForLints, ForRuns, WordsCaused};
+ghost use Rattle.mas_top.specs.Headline.{IsComplete, IsHeadline, IsRunReportOf, PrintsSchedule};
 ghost use Rattle.mas_top.specs.Opening.{objects_of, setup};
 ghost use Rattle.mas_top.specs.Runs.{wanted, how_of, CanBe};
 ghost use Rattle.mas_words.specs.Asked as said;
@@ -87,8 +88,9 @@ fn run_asked<R: Threads + Wait + Sync, S: Shelf, K: Sink, A: Artifact + Send, G:
             project,
             options,
             workers,
+            pool,
         } => {
-            let how = How::Workers(workers as u32);
+            let how = How::Workers(workers as u32, pool);
             print_files(
                 rt, alloc, &options, project, how, shelf, sink, gate, artifacts,
             )

@@ -10,7 +10,7 @@ use Rattle.clap.specs.Walk.{has_row, is_empty, nothing_held, reading_by, settled
 use Rattle.mas_words.specs.declared.table.Command.{Command}
 use Rattle.mas_words.specs.declared.table.Command.TheVariants.{Run, Replay, Check, Demo, Renew, Lint}
 use Rattle.mas_words.specs.declared.table.Setting.{Setting}
-use Rattle.mas_words.specs.declared.table.Setting.TheVariants.{Workers, Cycles, Lead, Depth, Tries, Level}
+use Rattle.mas_words.specs.declared.table.Setting.TheVariants.{Workers, Pool, Cycles, Lead, Depth, Tries, Level}
 use Rattle.mas_words.specs.Table.{name_count}
 use Rattle.mas_words.specs.Words.{Said, silence, text_for, words_said}
 use Rattle.mas_words.specs.Apps.{app_for, id_of}
@@ -40,6 +40,7 @@ stands_silent c = record { passes = refl; options = none; names = λ k h. refl }
   where
     none : (o : Setting) → row_in (id_of o) [] ≡ option_map (text_row (id_of o)) (text_for silence.given o)
     none Workers = refl
+    none Pool = refl
     none Cycles = refl
     none Lead = refl
     none Depth = refl

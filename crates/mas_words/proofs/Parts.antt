@@ -5,7 +5,7 @@ use Rattle.std.specs.Bool.{⊤}
 use Rattle.mas_words.specs.declared.table.Command.{Command}
 use Rattle.mas_words.specs.declared.table.Command.TheVariants.{Run, Replay, Check, Demo, Renew, Lint}
 use Rattle.mas_words.specs.declared.table.Setting.{Setting}
-use Rattle.mas_words.specs.declared.table.Setting.TheVariants.{Workers, Cycles, Lead, Depth, Tries, Level}
+use Rattle.mas_words.specs.declared.table.Setting.TheVariants.{Workers, Pool, Cycles, Lead, Depth, Tries, Level}
 use Rattle.mas_words.specs.Table.{key, form, takes, name_count, command_of}
 use Rattle.mas_words.specs.Words.{Said, text_for, with_text, with_name, with_option, word_met, word_said, next_said, words_said}
 use Rattle.mas_words.specs.Plain.{is_undashed, Part, name, option, AreParts, none, bare, apart, joined}
@@ -23,6 +23,7 @@ parts_said c s (p ∷ ps) = parts_said c (option_and_then (λ t. part_said c t p
 -- an option's word by itself
 key_alone : (c : Command) (s : Said) (o : Setting) → s.awaits ≡ None → word_said c s (key o) ≡ Some (record s { awaits = Some o })
 key_alone c s Workers e = ap (word_met c s true (key Workers)) e
+key_alone c s Pool e = ap (word_met c s true (key Pool)) e
 key_alone c s Cycles e = ap (word_met c s true (key Cycles)) e
 key_alone c s Lead e = ap (word_met c s true (key Lead)) e
 key_alone c s Depth e = ap (word_met c s true (key Depth)) e
@@ -32,6 +33,7 @@ key_alone c s Level e = ap (word_met c s true (key Level)) e
 -- an option's word with its text
 key_joined : (c : Command) (s : Said) (o : Setting) (x : ℕ) (v : List ℕ) → s.awaits ≡ None → word_said c s (key o ++ 61 ∷ x ∷ v) ≡ with_option c s o (x ∷ v)
 key_joined c s Workers x v e = ap (word_met c s true (key Workers ++ 61 ∷ x ∷ v)) e
+key_joined c s Pool x v e = ap (word_met c s true (key Pool ++ 61 ∷ x ∷ v)) e
 key_joined c s Cycles x v e = ap (word_met c s true (key Cycles ++ 61 ∷ x ∷ v)) e
 key_joined c s Lead x v e = ap (word_met c s true (key Lead ++ 61 ∷ x ∷ v)) e
 key_joined c s Depth x v e = ap (word_met c s true (key Depth ++ 61 ∷ x ∷ v)) e

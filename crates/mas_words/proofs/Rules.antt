@@ -8,7 +8,7 @@ use Rattle.clap.specs.declared.builder.value_parser.ValueParser.TheVariants as p
 use Rattle.mas_words.specs.declared.table.Command.{Command}
 use Rattle.mas_words.specs.declared.table.Command.TheVariants.{Run, Replay, Check, Demo, Renew, Lint}
 use Rattle.mas_words.specs.declared.table.Setting.{Setting}
-use Rattle.mas_words.specs.declared.table.Setting.TheVariants.{Workers, Cycles, Lead, Depth, Tries, Level}
+use Rattle.mas_words.specs.declared.table.Setting.TheVariants.{Workers, Pool, Cycles, Lead, Depth, Tries, Level}
 use Rattle.mas_words.specs.Table.{takes, name_count, same}
 use Rattle.mas_words.specs.Apps.{app_for, id_of}
 
@@ -48,12 +48,14 @@ simple Lint = refl
 
 pub by_long : (c : Command) (o : Setting) → takes c o ≡ true → arg_by_long (rules_for c) (id_of o) ≡ Some (option_built o)
 by_long Run Workers e = refl
+by_long Run Pool e = refl
 by_long Run Cycles e = refl
 by_long Run Lead e = refl
 by_long Run Depth e = refl
 by_long Run Tries e = refl
 by_long Run Level e = refl
 by_long Replay Workers e = absurd (grind arith)
+by_long Replay Pool e = absurd (grind arith)
 by_long Replay Cycles e = refl
 by_long Replay Lead e = refl
 by_long Replay Depth e = refl
@@ -67,12 +69,14 @@ by_long Lint o e = absurd (grind arith)
 
 pub option_by_id : (c : Command) (o : Setting) → takes c o ≡ true → arg_by_id (rules_for c) (id_of o) ≡ Some (option_built o)
 option_by_id Run Workers e = refl
+option_by_id Run Pool e = refl
 option_by_id Run Cycles e = refl
 option_by_id Run Lead e = refl
 option_by_id Run Depth e = refl
 option_by_id Run Tries e = refl
 option_by_id Run Level e = refl
 option_by_id Replay Workers e = absurd (grind arith)
+option_by_id Replay Pool e = absurd (grind arith)
 option_by_id Replay Cycles e = refl
 option_by_id Replay Lead e = refl
 option_by_id Replay Depth e = refl
@@ -122,6 +126,7 @@ name_by_id Lint (suc k) h = absurd (omega arith)
 
 pub same_id : (o p : Setting) → bytes_eq (id_of o) (id_of p) ≡ same o p
 same_id Workers Workers = refl
+same_id Pool Pool = refl
 same_id Cycles Cycles = refl
 same_id Lead Lead = refl
 same_id Depth Depth = refl
@@ -131,24 +136,28 @@ same_id _ _ = refl
 
 pub option_name : (c : Command) (o : Setting) (k : ℕ) → bytes_eq (id_of o) (name_id c k) ≡ false
 option_name Replay Workers (suc k) = refl
+option_name Replay Pool (suc k) = refl
 option_name Replay Cycles (suc k) = refl
 option_name Replay Lead (suc k) = refl
 option_name Replay Depth (suc k) = refl
 option_name Replay Tries (suc k) = refl
 option_name Replay Level (suc k) = refl
 option_name Check Workers (suc k) = refl
+option_name Check Pool (suc k) = refl
 option_name Check Cycles (suc k) = refl
 option_name Check Lead (suc k) = refl
 option_name Check Depth (suc k) = refl
 option_name Check Tries (suc k) = refl
 option_name Check Level (suc k) = refl
 option_name Renew Workers (suc k) = refl
+option_name Renew Pool (suc k) = refl
 option_name Renew Cycles (suc k) = refl
 option_name Renew Lead (suc k) = refl
 option_name Renew Depth (suc k) = refl
 option_name Renew Tries (suc k) = refl
 option_name Renew Level (suc k) = refl
 option_name _ Workers _ = refl
+option_name _ Pool _ = refl
 option_name _ Cycles _ = refl
 option_name _ Lead _ = refl
 option_name _ Depth _ = refl
@@ -157,24 +166,28 @@ option_name _ Level _ = refl
 
 pub name_option : (c : Command) (o : Setting) (k : ℕ) → bytes_eq (name_id c k) (id_of o) ≡ false
 name_option Replay Workers (suc k) = refl
+name_option Replay Pool (suc k) = refl
 name_option Replay Cycles (suc k) = refl
 name_option Replay Lead (suc k) = refl
 name_option Replay Depth (suc k) = refl
 name_option Replay Tries (suc k) = refl
 name_option Replay Level (suc k) = refl
 name_option Check Workers (suc k) = refl
+name_option Check Pool (suc k) = refl
 name_option Check Cycles (suc k) = refl
 name_option Check Lead (suc k) = refl
 name_option Check Depth (suc k) = refl
 name_option Check Tries (suc k) = refl
 name_option Check Level (suc k) = refl
 name_option Renew Workers (suc k) = refl
+name_option Renew Pool (suc k) = refl
 name_option Renew Cycles (suc k) = refl
 name_option Renew Lead (suc k) = refl
 name_option Renew Depth (suc k) = refl
 name_option Renew Tries (suc k) = refl
 name_option Renew Level (suc k) = refl
 name_option _ Workers _ = refl
+name_option _ Pool _ = refl
 name_option _ Cycles _ = refl
 name_option _ Lead _ = refl
 name_option _ Depth _ = refl
@@ -216,6 +229,7 @@ other_name Lint zero (suc k) e h f = absurd (omega arith)
 
 pub same_self : (o : Setting) → same o o ≡ true
 same_self Workers = refl
+same_self Pool = refl
 same_self Cycles = refl
 same_self Lead = refl
 same_self Depth = refl

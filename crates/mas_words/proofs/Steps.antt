@@ -7,7 +7,7 @@ use Rattle.clap.specs.Walk.{long_met, long_or_other, next, option, option_word, 
 use Rattle.clap.specs.Walk.{settled, short_or_plain, to_positional, trailing, value, walked, walked_from, word_met}
 use Rattle.mas_words.specs.declared.table.Command.{Command}
 use Rattle.mas_words.specs.declared.table.Setting.{Setting}
-use Rattle.mas_words.specs.declared.table.Setting.TheVariants.{Workers, Cycles, Lead, Depth, Tries, Level}
+use Rattle.mas_words.specs.declared.table.Setting.TheVariants.{Workers, Pool, Cycles, Lead, Depth, Tries, Level}
 use Rattle.mas_words.specs.Table.{key}
 use Rattle.mas_words.specs.Plain.{is_undashed}
 use Rattle.mas_words.specs.Apps.{id_of}
@@ -54,6 +54,7 @@ text_met rules id n w h u = ap (λ b. cond b (h, trailing n) (long_or_other rule
 
 pub key_dashes : (o : Setting) → bytes_eq (key o) (45 ∷ 45 ∷ []) ≡ false
 key_dashes Workers = refl
+key_dashes Pool = refl
 key_dashes Cycles = refl
 key_dashes Lead = refl
 key_dashes Depth = refl
@@ -62,6 +63,7 @@ key_dashes Level = refl
 
 pub key_long : (o : Setting) → long_of (key o) ≡ Some (id_of o, None)
 key_long Workers = refl
+key_long Pool = refl
 key_long Cycles = refl
 key_long Lead = refl
 key_long Depth = refl
@@ -70,6 +72,7 @@ key_long Level = refl
 
 pub joined_dashes : (o : Setting) (x : ℕ) (v : Text) → bytes_eq (key o ++ 61 ∷ x ∷ v) (45 ∷ 45 ∷ []) ≡ false
 joined_dashes Workers x v = refl
+joined_dashes Pool x v = refl
 joined_dashes Cycles x v = refl
 joined_dashes Lead x v = refl
 joined_dashes Depth x v = refl
@@ -78,6 +81,7 @@ joined_dashes Level x v = refl
 
 pub joined_long : (o : Setting) (x : ℕ) (v : Text) → long_of (key o ++ 61 ∷ x ∷ v) ≡ Some (id_of o, Some (x ∷ v))
 joined_long Workers x v = refl
+joined_long Pool x v = refl
 joined_long Cycles x v = refl
 joined_long Lead x v = refl
 joined_long Depth x v = refl

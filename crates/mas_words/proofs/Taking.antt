@@ -10,7 +10,7 @@ use Rattle.std.proofs.Common.{true}
 use Rattle.mas_words.specs.declared.table.Command.{Command}
 use Rattle.mas_words.specs.declared.table.Command.TheVariants.{Run, Replay, Check, Demo, Renew, Lint}
 use Rattle.mas_words.specs.declared.table.Setting.{Setting}
-use Rattle.mas_words.specs.declared.table.Setting.TheVariants.{Workers, Cycles, Lead, Depth, Tries, Level}
+use Rattle.mas_words.specs.declared.table.Setting.TheVariants.{Workers, Pool, Cycles, Lead, Depth, Tries, Level}
 use Rattle.mas_words.specs.declared.asked.Asked as code
 use Rattle.mas_words.specs.Table.{name_count}
 use Rattle.mas_words.specs.Asked.{Asked, asked_by, asked_of}
@@ -47,6 +47,7 @@ same_names Lint words t h e = ap (λ m. listed m None) (h.names 0 (omega arith))
 
 text_among : (rows : List Row) (o : Setting) → text_for (given_among rows) o ≡ first_of (id_of o) rows
 text_among rows Workers = refl
+text_among rows Pool = refl
 text_among rows Cycles = refl
 text_among rows Lead = refl
 text_among rows Depth = refl

@@ -5,7 +5,7 @@ use Rattle.std.proofs.lemmas.Bool.Decides.{nat_tests}
 use Rattle.std.specs.List.{slice_get}
 use Rattle.mas_words.specs.declared.table.Command.{Command}
 use Rattle.mas_words.specs.declared.table.Setting.{Setting}
-use Rattle.mas_words.specs.declared.table.Setting.TheVariants.{Workers, Cycles, Lead, Depth, Tries, Level}
+use Rattle.mas_words.specs.declared.table.Setting.TheVariants.{Workers, Pool, Cycles, Lead, Depth, Tries, Level}
 use Rattle.mas_words.specs.Table.{takes, name_count, same}
 use Rattle.mas_words.specs.Words.{Given, Said, silence, text_for, with_text}
 use Rattle.mas_words.specs.Plain.{Part, name, option, names_in, texts_in, most}
@@ -26,6 +26,7 @@ text_more false v ts = ts
 text_given : (g : Given) (o p : Setting) (v : List ℕ) → text_for g o ≡ None
     → list_of (text_for (with_text g o v) p) ≡ list_of (text_for g p) ++ text_more (same o p) v []
 text_given g Workers Workers v e = ap (λ m. list_of m ++ v ∷ []) (sym e)
+text_given g Pool Pool v e = ap (λ m. list_of m ++ v ∷ []) (sym e)
 text_given g Cycles Cycles v e = ap (λ m. list_of m ++ v ∷ []) (sym e)
 text_given g Lead Lead v e = ap (λ m. list_of m ++ v ∷ []) (sym e)
 text_given g Depth Depth v e = ap (λ m. list_of m ++ v ∷ []) (sym e)
@@ -65,6 +66,7 @@ one_text o p v = go (same o p)
 
 pub same_means : (o p : Setting) → same o p ≡ true → p ≡ o
 same_means Workers Workers e = refl
+same_means Pool Pool e = refl
 same_means Cycles Cycles e = refl
 same_means Lead Lead e = refl
 same_means Depth Depth e = refl
@@ -209,6 +211,7 @@ tell c s (option o v ∷ ps) h k = after c s (option o v) (record s { given = wi
 
 silent : (o : Setting) → list_of (text_for silence.given o) ≡ []
 silent Workers = refl
+silent Pool = refl
 silent Cycles = refl
 silent Lead = refl
 silent Depth = refl

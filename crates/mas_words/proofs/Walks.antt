@@ -8,7 +8,7 @@ use Rattle.clap.specs.Takes.{settle_passes}
 use Rattle.clap.specs.Walk.{Held, Row, Rule, Text, arg_by_id, arg_by_index, arg_by_long, settled, used}
 use Rattle.mas_words.specs.declared.table.Command.{Command}
 use Rattle.mas_words.specs.declared.table.Setting.{Setting}
-use Rattle.mas_words.specs.declared.table.Setting.TheVariants.{Workers, Cycles, Lead, Depth, Tries, Level}
+use Rattle.mas_words.specs.declared.table.Setting.TheVariants.{Workers, Pool, Cycles, Lead, Depth, Tries, Level}
 use Rattle.mas_words.specs.Table.{name_count, same, takes}
 use Rattle.mas_words.specs.Words.{Given, Said, text_for, with_text}
 use Rattle.mas_words.specs.Apps.{id_of}
@@ -36,6 +36,7 @@ pub record Stands (c : Command) (rules : List Rule) (again : Bool) (s : Said) (h
 
 text_with : (g : Given) (o p : Setting) (v : Text) → text_for (with_text g o v) p ≡ cond (same o p) (Some v) (text_for g p)
 text_with g Workers Workers v = refl
+text_with g Pool Pool v = refl
 text_with g Cycles Cycles v = refl
 text_with g Lead Lead v = refl
 text_with g Depth Depth v = refl

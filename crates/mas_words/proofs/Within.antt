@@ -11,8 +11,9 @@ use Rattle.mas_words.specs.declared.table.Command.{Command}
 use Rattle.mas_words.specs.declared.table.Command.TheVariants.{Run, Replay, Check, Demo, Renew, Lint}
 use Rattle.mas_words.specs.declared.table.Setting.{Setting}
 use Rattle.mas_words.specs.declared.table.Setting.TheVariants.{Workers, Cycles, Lead, Depth, Tries, Level as OfLevel}
+use Rattle.mas_words.specs.declared.asked.Pool.{Pool}
 use Rattle.mas_words.specs.declared.asked.Asked as code
-use Rattle.mas_words.specs.Asked.{Asked, replay, asked_by, asked_of, run_with, demo_with, options_with, options_for, workers_for, number_for, level_for, IsPermitted}
+use Rattle.mas_words.specs.Asked.{Asked, replay, asked_by, asked_of, run_with, demo_with, options_with, options_for, workers_for, pool_for, number_for, level_for, IsPermitted}
 use Rattle.mas_words.specs.Numbers.{number_in, within, digits_from, starts_number}
 use Rattle.mas_words.specs.Words.{Said, silence, text_for, words_said, finished, asked, asked_after}
 use Rattle.mas_words.specs.Plain.{AreRead}
@@ -59,10 +60,12 @@ options_within text = together (number_for defaults.cycles 1 1000000 (text Cycle
 workers_within : (text : Setting → Option (List ℕ)) → IfSome (workers_for text) (IsFrom 1 64)
 workers_within text = for_within 4 1 64 (text Workers) (omega arith, omega arith)
 
-run_within : (project : List ℕ) (o : Option Options) (w : Option ℕ) → IfSome o IsWithin → IfSome w (IsFrom 1 64) → IfSome (run_with project o w) IsPermitted
-run_within project None w p q = tt
-run_within project (Some o) None p q = tt
-run_within project (Some o) (Some w) p q = (p, q)
+run_within : (project : List ℕ) (o : Option Options) (w : Option ℕ) (l : Option Pool) → IfSome o IsWithin → IfSome w (IsFrom 1 64)
+    → IfSome (run_with project o w l) IsPermitted
+run_within project None w l p q = tt
+run_within project (Some o) None l p q = tt
+run_within project (Some o) (Some w) None p q = tt
+run_within project (Some o) (Some w) (Some l) p q = (p, q)
 
 demo_within : (k w : Option ℕ) → IfSome k (IsFrom 1 200) → IfSome w (IsFrom 1 64) → IfSome (demo_with k w) IsPermitted
 demo_within None w p q = tt
@@ -74,7 +77,7 @@ replay_within project schedule None p = tt
 replay_within project schedule (Some o) p = p
 
 by_within : (c : Command) (ns : List (List ℕ)) (text : Setting → Option (List ℕ)) → IfSome (asked_by c ns text) IsPermitted
-by_within Run (n ∷ []) text = run_within n (options_for text) (workers_for text) (options_within text) (workers_within text)
+by_within Run (n ∷ []) text = run_within n (options_for text) (workers_for text) (pool_for text) (options_within text) (workers_within text)
 by_within Run [] text = tt
 by_within Run (n ∷ m ∷ ns) text = tt
 by_within Replay (n ∷ m ∷ []) text = replay_within n m (options_for text) (options_within text)

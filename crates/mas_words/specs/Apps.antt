@@ -36,6 +36,6 @@ with_rules a (r ∷ rs) = with_rules (with_rule a r) rs
 abbrev pub app_for : Command → App
 app_for c = with_rules (with_rules (bare (form c).word) (map new_rule (name_ids c))) (map option_rule (form c).options)
 
--- the options of a run, but for the number of workers
+-- the options of a run, but for the workers
 abbrev pub run_rules : List Rule
 run_rules = map option_rule (form Replay).options

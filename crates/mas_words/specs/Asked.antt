@@ -8,15 +8,18 @@ use Rattle.mas_report.specs.Limits.{IsFrom, IsWithin, defaults}
 use Rattle.mas_words.specs.declared.table.Command.{Command}
 use Rattle.mas_words.specs.declared.table.Command.TheVariants.{Run, Replay, Check, Demo, Renew, Lint}
 use Rattle.mas_words.specs.declared.table.Setting.{Setting}
-use Rattle.mas_words.specs.declared.table.Setting.TheVariants.{Workers, Cycles, Lead, Depth, Tries, Level as OfLevel}
+use Rattle.mas_words.specs.declared.table.Setting.TheVariants.{Workers, Pool as OfPool, Cycles, Lead, Depth, Tries, Level as OfLevel}
+use Rattle.mas_words.specs.declared.asked.Pool.{Pool}
+use Rattle.mas_words.specs.declared.asked.Pool.TheVariants as pool
 use Rattle.mas_words.specs.declared.asked.Asked as code
 use Rattle.mas_words.specs.declared.asked.Asked.TheVariants as code_variant
 use Rattle.mas_words.specs.Numbers.{number_in}
 
--- a run of a project by so many workers, a replay of it along a schedule, whether a report is that of a run of a project, a
--- demonstration with so many agents and workers, the report of a run of a project anew, and whether a project's goals are covered
+-- a run of a project by so many workers from this pool, a replay of it along a schedule, whether a report is that of a run of a
+-- project, a demonstration with so many agents and workers, the report of a run of a project anew, and whether a project's goals
+-- are covered
 pub data Asked : Type 0 where
-  run : List ℕ → Options → ℕ → Asked
+  run : List ℕ → Options → ℕ → Pool → Asked
   replay : List ℕ → List ℕ → Options → Asked
   check : List ℕ → List ℕ → Asked
   demo : ℕ → ℕ → Asked
@@ -55,11 +58,22 @@ options_for text = options_with
 abbrev pub workers_for : (Setting → Option (List ℕ)) → Option ℕ
 workers_for text = number_for 4 1 64 (text Workers)
 
+abbrev pub pool_of : List ℕ → Option Pool
+pool_of text = if bytes_eq text (codes "ready") then Some pool.Ready else if bytes_eq text (codes "steal") then Some pool.Steal else None
+
+-- the queue where the option does not stand
+abbrev pub pool_by : Option (List ℕ) → Option Pool
+pool_by None = Some pool.Ready
+pool_by (Some text) = pool_of text
+
+abbrev pub pool_for : (Setting → Option (List ℕ)) → Option Pool
+pool_for text = pool_by (text OfPool)
+
 -- ---- what the commands ask for
 
-abbrev pub run_with : List ℕ → Option Options → Option ℕ → Option Asked
-run_with project (Some options) (Some workers) = Some (run project options workers)
-run_with project _ _ = None
+abbrev pub run_with : List ℕ → Option Options → Option ℕ → Option Pool → Option Asked
+run_with project (Some options) (Some workers) (Some pool) = Some (run project options workers pool)
+run_with project _ _ _ = None
 
 abbrev pub demo_with : Option ℕ → Option ℕ → Option Asked
 demo_with (Some count) (Some workers) = Some (demo count workers)
@@ -67,7 +81,7 @@ demo_with _ _ = None
 
 -- None where the names are not the command's, or a text says nothing that is permitted
 abbrev pub asked_by : Command → List (List ℕ) → (Setting → Option (List ℕ)) → Option Asked
-asked_by Run (project ∷ []) text = run_with project (options_for text) (workers_for text)
+asked_by Run (project ∷ []) text = run_with project (options_for text) (workers_for text) (pool_for text)
 asked_by Replay (project ∷ schedule ∷ []) text = option_map (replay project schedule) (options_for text)
 asked_by Check (project ∷ report ∷ []) text = Some (check project report)
 asked_by Demo (count ∷ []) text = demo_with (number_in 1 200 count) (workers_for text)
@@ -77,7 +91,7 @@ asked_by _ _ text = None
 
 -- the numbers are those that the options and names permit
 abbrev pub IsPermitted : Asked → Type 0
-IsPermitted (run project options workers) = IsWithin options × IsFrom 1 64 workers
+IsPermitted (run project options workers pool) = IsWithin options × IsFrom 1 64 workers
 IsPermitted (replay project schedule options) = IsWithin options
 IsPermitted (check project report) = Unit {0}
 IsPermitted (demo count workers) = IsFrom 1 200 count × IsFrom 1 64 workers
@@ -87,7 +101,7 @@ IsPermitted (lint project) = Unit {0}
 -- ---- how the code holds it
 
 abbrev pub asked_of : code.Asked → Asked
-asked_of (code_variant.Run project options workers) = run project.now options workers
+asked_of (code_variant.Run project options workers pool) = run project.now options workers pool
 asked_of (code_variant.Replay project schedule options) = replay project.now schedule.now options
 asked_of (code_variant.Check project report) = check project.now report.now
 asked_of (code_variant.Demo count workers) = demo count workers

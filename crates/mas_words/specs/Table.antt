@@ -4,7 +4,7 @@ use Rattle.std.specs.Str.{bytes_eq}
 use Rattle.mas_words.specs.declared.table.Command.{Command}
 use Rattle.mas_words.specs.declared.table.Command.TheVariants.{Run, Replay, Check, Demo, Renew, Lint}
 use Rattle.mas_words.specs.declared.table.Setting.{Setting}
-use Rattle.mas_words.specs.declared.table.Setting.TheVariants.{Workers, Cycles, Lead, Depth, Tries, Level}
+use Rattle.mas_words.specs.declared.table.Setting.TheVariants.{Workers, Pool, Cycles, Lead, Depth, Tries, Level}
 
 -- a command's word, how many names it has, and its options
 pub record Form : Type 0 where
@@ -13,7 +13,7 @@ pub record Form : Type 0 where
   pub options : List Setting
 
 abbrev pub settings : List Setting
-settings = Workers ∷ Cycles ∷ Lead ∷ Depth ∷ Tries ∷ Level ∷ []
+settings = Workers ∷ Pool ∷ Cycles ∷ Lead ∷ Depth ∷ Tries ∷ Level ∷ []
 
 abbrev pub form : Command → Form
 form Run = record { word = codes "run"; names = 1; options = settings }
@@ -35,6 +35,7 @@ name_count c = (form c).names
 -- an option's word
 abbrev pub key : Setting → List ℕ
 key Workers = codes "--workers"
+key Pool = codes "--pool"
 key Cycles = codes "--cycles"
 key Lead = codes "--lead"
 key Depth = codes "--depth"
@@ -46,6 +47,7 @@ setting_of word = find (λ o. bytes_eq word (key o)) settings
 
 abbrev pub same : Setting → Setting → Bool
 same Workers Workers = true
+same Pool Pool = true
 same Cycles Cycles = true
 same Lead Lead = true
 same Depth Depth = true

@@ -3,7 +3,7 @@ use Rattle.std.specs.Prelude.{ℕ, List, codes, None}
 use Rattle.clap.specs.Walk.{Row, first_of}
 use Rattle.mas_words.specs.declared.table.Command.{Command}
 use Rattle.mas_words.specs.declared.table.Command.TheVariants.{Run, Replay, Check, Demo, Renew, Lint}
-use Rattle.mas_words.specs.declared.table.Setting.TheVariants.{Workers, Cycles, Lead, Depth, Tries, Level}
+use Rattle.mas_words.specs.declared.table.Setting.TheVariants.{Workers, Pool, Cycles, Lead, Depth, Tries, Level}
 use Rattle.mas_words.specs.Apps.{id_of}
 use Rattle.mas_words.specs.Words.{Given, Said, listed}
 
@@ -18,6 +18,7 @@ names_among Lint rows = listed (first_of (codes "project") rows) None
 abbrev pub given_among : List Row → Given
 given_among rows = record {
   workers = first_of (id_of Workers) rows;
+  pool = first_of (id_of Pool) rows;
   cycles = first_of (id_of Cycles) rows;
   lead = first_of (id_of Lead) rows;
   depth = first_of (id_of Depth) rows;

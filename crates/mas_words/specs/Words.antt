@@ -4,7 +4,7 @@ use Rattle.std.specs.Prelude.{Option, None, Some, is_some, option_and_then, opti
 use Rattle.std.specs.List.{prefix_len}
 use Rattle.mas_words.specs.declared.table.Command.{Command}
 use Rattle.mas_words.specs.declared.table.Setting.{Setting}
-use Rattle.mas_words.specs.declared.table.Setting.TheVariants.{Workers, Cycles, Lead, Depth, Tries, Level}
+use Rattle.mas_words.specs.declared.table.Setting.TheVariants.{Workers, Pool, Cycles, Lead, Depth, Tries, Level}
 use Rattle.mas_words.specs.declared.said.Given as code_given
 use Rattle.mas_words.specs.declared.said.Said as code
 use Rattle.mas_words.specs.Table.{name_count, takes, command_of, setting_of}
@@ -13,6 +13,7 @@ use Rattle.mas_words.specs.Asked.{Asked, asked_by}
 -- the texts that were given for settings
 pub record Given : Type 0 where
   pub workers : Option (List ℕ)
+  pub pool : Option (List ℕ)
   pub cycles : Option (List ℕ)
   pub lead : Option (List ℕ)
   pub depth : Option (List ℕ)
@@ -21,6 +22,7 @@ pub record Given : Type 0 where
 
 abbrev pub text_for : Given → Setting → Option (List ℕ)
 text_for g Workers = g.workers
+text_for g Pool = g.pool
 text_for g Cycles = g.cycles
 text_for g Lead = g.lead
 text_for g Depth = g.depth
@@ -29,6 +31,7 @@ text_for g Level = g.level
 
 abbrev pub with_text : Given → Setting → List ℕ → Given
 with_text g Workers text = record g { workers = Some text }
+with_text g Pool text = record g { pool = Some text }
 with_text g Cycles text = record g { cycles = Some text }
 with_text g Lead text = record g { lead = Some text }
 with_text g Depth text = record g { depth = Some text }
@@ -44,7 +47,7 @@ pub record Said : Type 0 where
 abbrev pub silence : Said
 silence = record {
   names = [];
-  given = record { workers = None; cycles = None; lead = None; depth = None; tries = None; level = None };
+  given = record { workers = None; pool = None; cycles = None; lead = None; depth = None; tries = None; level = None };
   awaits = None;
 }
 
@@ -107,6 +110,7 @@ asked (command ∷ words) = option_and_then (asked_after words) (command_of comm
 abbrev pub given_of : code_given.Given → Given
 given_of g = record {
   workers = option_map (λ t. t.now) g.workers;
+  pool = option_map (λ t. t.now) g.pool;
   cycles = option_map (λ t. t.now) g.cycles;
   lead = option_map (λ t. t.now) g.lead;
   depth = option_map (λ t. t.now) g.depth;

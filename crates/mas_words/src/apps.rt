@@ -29,7 +29,7 @@ fn with_option<'a>(alloc: Global, app: App<'a>, id: &'a str) -> Result<App<'a>, 
     app.arg(Arg::new(alloc, id).long(id))
 }
 
-/// The options of a run, but for the number of workers.
+/// The options of a run, but for the workers.
 fn with_options<'a>(alloc: Global, app: App<'a>) -> Result<App<'a>, AllocError>
     ensures { IfOk result (λ a. app_of a ≡ spec.with_rules (app_of app.entry) spec.run_rules) }
 {
@@ -48,6 +48,7 @@ fn run_app<'a>(alloc: Global) -> Result<App<'a>, AllocError>
 {
     let app = with_name(alloc, bare(alloc, "run"), "project")?;
     let app = with_option(alloc, app, "workers")?;
+    let app = with_option(alloc, app, "pool")?;
     match with_options(alloc, app) {
         Ok(app) => Ok(app),
         Err(error) => Err(error),

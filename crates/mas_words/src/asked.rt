@@ -2,14 +2,24 @@
 
 use mas_report::options::Options;
 
+/// Where agents wait for a worker.
+#[derive(Clone, Copy)]
+pub enum Pool {
+    /// In one queue for all workers.
+    Ready,
+    /// In a queue of each worker, from which others steal.
+    Steal,
+}
+
 /// What the words ask for. Names of files are as they stand.
 #[derive(Clone, Copy)]
 pub enum Asked<'a> {
-    /// A run of the project by so many workers.
+    /// A run of the project by so many workers, which take the agents from this pool.
     Run {
         project: &'a [u8],
         options: Options,
         workers: u64,
+        pool: Pool,
     },
     /// A run of the project along the schedule.
     Replay {

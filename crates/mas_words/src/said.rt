@@ -10,6 +10,7 @@ use crate::table::{Command, Setting, name_count, takes};
 #[derive(Clone, Copy)]
 pub struct Given<'a> {
     pub workers: Option<&'a [u8]>,
+    pub pool: Option<&'a [u8]>,
     pub cycles: Option<&'a [u8]>,
     pub lead: Option<&'a [u8]>,
     pub depth: Option<&'a [u8]>,
@@ -32,6 +33,7 @@ fn is_given(given: &Given<'_>, setting: Setting) -> bool
 {
     match setting {
         Setting::Workers => given.workers.is_some(),
+        Setting::Pool => given.pool.is_some(),
         Setting::Cycles => given.cycles.is_some(),
         Setting::Lead => given.lead.is_some(),
         Setting::Depth => given.depth.is_some(),
@@ -47,6 +49,7 @@ fn with_text<'a>(given: Given<'a>, setting: Setting, text: &'a [u8]) -> Given<'a
     let mut given = given;
     match setting {
         Setting::Workers => given.workers = Some(text),
+        Setting::Pool => given.pool = Some(text),
         Setting::Cycles => given.cycles = Some(text),
         Setting::Lead => given.lead = Some(text),
         Setting::Depth => given.depth = Some(text),
@@ -62,6 +65,7 @@ pub fn silence<'a>() -> Said<'a>
 {
     let given = Given {
         workers: None,
+        pool: None,
         cycles: None,
         lead: None,
         depth: None,

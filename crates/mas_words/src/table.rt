@@ -17,6 +17,7 @@ pub enum Command {
 #[derive(Clone, Copy, Debug, PartialEq, Eq)]
 pub enum Setting {
     Workers,
+    Pool,
     Cycles,
     Lead,
     Depth,
@@ -56,6 +57,9 @@ pub fn setting_of(word: &[u8]) -> Option<Setting>
     if word == b"--workers".as_slice() {
         return Some(Setting::Workers);
     }
+    if word == b"--pool".as_slice() {
+        return Some(Setting::Pool);
+    }
     if word == b"--cycles".as_slice() {
         return Some(Setting::Cycles);
     }
@@ -80,7 +84,7 @@ pub fn takes(command: Command, setting: Setting) -> bool
 {
     match command {
         Command::Run => true,
-        Command::Replay => !matches!(setting, Setting::Workers),
+        Command::Replay => !matches!(setting, Setting::Workers | Setting::Pool),
         Command::Check => false,
         Command::Demo => matches!(setting, Setting::Workers),
         Command::Renew => false,

@@ -59,6 +59,7 @@ fn given_by<'a>(matches: &ArgMatches<'a>) -> Given<'a>
 {
     Given {
         workers: text_of(matches, "workers"),
+        pool: text_of(matches, "pool"),
         cycles: text_of(matches, "cycles"),
         lead: text_of(matches, "lead"),
         depth: text_of(matches, "depth"),

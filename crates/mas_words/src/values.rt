@@ -6,7 +6,7 @@ ghost use Rattle.mas_words.specs.Asked.{asked_of};
 ghost use Rattle.mas_words.specs.Numbers.{number_in};
 ghost use Rattle.mas_words.specs.Words.{text_for, given_of, said_of};
 
-use crate::asked::Asked;
+use crate::asked::{Asked, Pool};
 use crate::numbers::number_in;
 use crate::said::{Given, Said};
 use crate::table::Command;
@@ -75,16 +75,40 @@ fn workers_for(given: &Given<'_>) -> Option<u64>
     number_for(4, 1, 64, given.workers)
 }
 
+fn pool_of(text: &[u8]) -> Option<Pool>
+    ensures { result ≡ spec.pool_of text.now }
+{
+    if text == b"ready".as_slice() {
+        return Some(Pool::Ready);
+    }
+    if text == b"steal".as_slice() {
+        return Some(Pool::Steal);
+    }
+    None
+}
+
+/// From which pool workers take agents.
+fn pool_for(given: &Given<'_>) -> Option<Pool>
+    ensures { result ≡ spec.pool_for (text_for (given_of given.now)) }
+{
+    match given.pool {
+        None => Some(Pool::Ready),
+        Some(text) => pool_of(text),
+    }
+}
+
 fn to_run<'a>(project: &'a [u8], given: &Given<'a>) -> Option<Asked<'a>>
     ensures { let text = text_for (given_of given.now) in
-        option_map asked_of result ≡ spec.run_with project.now (spec.options_for text) (spec.workers_for text) }
+        option_map asked_of result ≡ spec.run_with project.now (spec.options_for text) (spec.workers_for text) (spec.pool_for text) }
 {
     let options = options_for(given)?;
     let workers = workers_for(given)?;
+    let pool = pool_for(given)?;
     Some(Asked::Run {
         project,
         options,
         workers,
+        pool,
     })
 }
 

@@ -12,6 +12,7 @@ use mas_board::board::{Board, open_board};
 use mas_core::robin::{Done, round_robin};
 use mas_going::gate::{Gate, OpenGate};
 use mas_pool::pool::run_pool;
+use mas_steal::steal::run_stealing;
 use mas_world::segment::Segment;
 use mas_world::world::{Artifacts, World};
 use std::alloc::Global;
@@ -78,20 +79,6 @@ fn three_minds(alloc: Global, last: u64) -> Result<Seq<Hungry>, Starved>
     Ok(minds)
 }
 
-fn run_three<R: Threads + Wait + Sync, G: Gate + Sync>(
-    rt: &R,
-    alloc: Global,
-    last: u64,
-    workers: u32,
-    gate: &G,
-) -> Result<Done<Hungry, Tally>, Starved>
-    requires { (1 ≤ workers) × (workers ≤ 64) }
-{
-    let minds = three_minds(alloc, last)?;
-    let board = board_of_three(alloc)?;
-    run_pool(rt, alloc, board, minds, workers, gate)
-}
-
 /// Whether each mind is in its place, after its ten cycles.
 fn are_back(done: &Done<Hungry, Tally>) -> bool {
     if done.minds.len() != 3 || done.board.schedule().len() != 63 {
@@ -108,15 +95,33 @@ fn are_back(done: &Done<Hungry, Tally>) -> bool {
     true
 }
 
-/// Whether each mind comes back in its place from its ten cycles, with so many workers.
-fn all_come_back<R: Threads + Wait + Sync>(
+/// How the minds are run: by the round robin, by workers that share a queue, or by workers that steal.
+#[derive(Clone, Copy)]
+enum Way {
+    Alone,
+    Pool,
+    Steal,
+}
+
+/// Runs the minds, of which the second has no memory for its cycle of this number. Whether each came back in its place from
+/// its ten cycles.
+fn all_come_back<R: Threads + Wait + Sync, G: Gate + Sync>(
     rt: &R,
     alloc: Global,
+    way: Way,
+    last: u64,
     workers: u32,
+    gate: &G,
 ) -> Result<bool, Starved>
     requires { (1 ≤ workers) × (workers ≤ 64) }
 {
-    let done = run_three(rt, alloc, 0, workers, &OpenGate)?;
+    let minds = three_minds(alloc, last)?;
+    let board = board_of_three(alloc)?;
+    let done = match way {
+        Way::Alone => round_robin(alloc, board, minds)?,
+        Way::Pool => run_pool(rt, alloc, board, minds, workers, gate)?,
+        Way::Steal => run_stealing(rt, alloc, board, minds, workers, gate)?,
+    };
     let back = are_back(&done);
     drop(done);
     Ok(back)
@@ -125,50 +130,25 @@ fn all_come_back<R: Threads + Wait + Sync>(
 #[test]
 fn every_mind_comes_back(rt: HostRuntime) -> Result<(), Starved> {
     let alloc = rt.alloc();
-    for workers in [1, 2, 4, 64] {
-        assert!(rt; all_come_back(&rt, alloc, workers)?);
+    for way in [Way::Alone, Way::Pool, Way::Steal] {
+        for workers in [1, 2, 3, 4, 64] {
+            assert!(rt; all_come_back(&rt, alloc, way, 0, workers, &OpenGate)?);
+        }
     }
     Ok(())
-}
-
-/// Whether the run answers want of memory where the second mind has none for its cycle of this number.
-fn starves<R: Threads + Wait + Sync>(rt: &R, alloc: Global, last: u64, workers: u32) -> bool
-    requires { (1 ≤ workers) × (workers ≤ 64) }
-{
-    match run_three(rt, alloc, last, workers, &OpenGate) {
-        Ok(done) => {
-            drop(done);
-            false
-        }
-        Err(_) => true,
-    }
-}
-
-/// Whether the round robin answers want of memory where the second mind has none for its cycle of this number.
-fn starves_alone(alloc: Global, last: u64) -> Result<bool, Starved> {
-    let minds = three_minds(alloc, last)?;
-    let board = board_of_three(alloc)?;
-    match round_robin(alloc, board, minds) {
-        Ok(done) => {
-            drop(done);
-            Ok(false)
-        }
-        Err(_) => Ok(true),
-    }
 }
 
 #[test]
 fn a_mind_without_memory_ends_the_run(rt: HostRuntime) -> Result<(), Starved> {
     let alloc = rt.alloc();
-    for last in 1..5u64 {
-        assert!(rt; starves_alone(alloc, last)?);
-        for workers in [1, 2, 3] {
-            assert!(rt; starves(&rt, alloc, last, workers));
+    for way in [Way::Alone, Way::Pool, Way::Steal] {
+        for last in 1..5u64 {
+            for workers in [1, 2, 3] {
+                assert!(rt; all_come_back(&rt, alloc, way, last, workers, &OpenGate).is_err());
+            }
         }
+        assert!(rt; all_come_back(&rt, alloc, way, 11, 2, &OpenGate)?);
     }
-    assert!(rt; !starves_alone(alloc, 0)?);
-    assert!(rt; !starves(&rt, alloc, 0, 2));
-    assert!(rt; !starves(&rt, alloc, 11, 2));
     Ok(())
 }
 
@@ -204,16 +184,27 @@ impl Gate for Holding {
     }
 }
 
-#[test]
-fn two_think_at_once(rt: HostRuntime) -> Result<(), Starved> {
-    let alloc = rt.alloc();
+/// Whether agent 2 thinks while agent 1 is held, with two workers.
+fn meet<R: Threads + Wait + Sync>(rt: &R, alloc: Global, way: Way) -> Result<bool, Starved> {
     let gate = Holding {
         thought: AtomicU64::new(0),
         met: AtomicU64::new(0),
     };
-    let done = run_three(&rt, alloc, 0, 2, &gate)?;
-    drop(done);
-    assert!(rt; gate.met.load(Ordering::SeqCst) == 1);
+    let back = all_come_back(rt, alloc, way, 0, 2, &gate)?;
+    Ok(back && gate.met.load(Ordering::SeqCst) == 1)
+}
+
+#[test]
+fn two_think_at_once(rt: HostRuntime) -> Result<(), Starved> {
+    assert!(rt; meet(&rt, rt.alloc(), Way::Pool)?);
+    Ok(())
+}
+
+/// Agents 1 and 2 lie in the deque of the first worker. As that worker is held in the first thinking of agent 1, only a
+/// thief can have agent 2.
+#[test]
+fn steal_at_once(rt: HostRuntime) -> Result<(), Starved> {
+    assert!(rt; meet(&rt, rt.alloc(), Way::Steal)?);
     Ok(())
 }
 
@@ -256,10 +247,7 @@ fn an_agent_that_is_too_far_ahead_goes_on(rt: HostRuntime) -> Result<(), Starved
         first_came: AtomicU64::new(0),
         second_came: AtomicU64::new(0),
     };
-    let done = run_three(&rt, alloc, 0, 2, &gate)?;
-    let back = are_back(&done);
-    drop(done);
-    assert!(rt; back);
+    assert!(rt; all_come_back(&rt, alloc, Way::Pool, 0, 2, &gate)?);
     assert!(rt; gate.first_came.load(Ordering::SeqCst) == 1);
     assert!(rt; gate.second_came.load(Ordering::SeqCst) == 1);
     Ok(())

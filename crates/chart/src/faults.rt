@@ -1,0 +1,37 @@
+//! Why there is no picture.
+
+ghost use Rattle.std.specs.Prelude.{◌≡◌};
+ghost use Rattle.chart.specs.Refused.{status_of};
+
+use std::alloc::AllocError;
+
+#[derive(Clone, Copy)]
+pub enum Fault {
+    /// The number of the first line that is not as a report has it.
+    Line(u64),
+    Read,
+    Write,
+    Memory,
+}
+
+impl From<AllocError> for Fault {
+    ghost use Rattle.chart.specs.declared.faults.Fault.TheVariants.{Memory};
+
+    ghost from_gives = { λ _ e. e ≡ Memory };
+
+    fn from(_error: AllocError) -> Fault {
+        Fault::Memory
+    }
+}
+
+/// The status of the program.
+pub fn code(fault: Fault) -> u8
+    ensures { result ≡ status_of fault }
+{
+    match fault {
+        Fault::Line(_) => 1,
+        Fault::Read => 4,
+        Fault::Write => 5,
+        Fault::Memory => 9,
+    }
+}

@@ -1,0 +1,67 @@
+//! What a line of a report is.
+
+ghost use Rattle.std.specs.Prelude.{◌≡◌};
+ghost use Rattle.chart.specs.Form as spec;
+
+/// A line by its beginning.
+#[derive(Clone, Copy)]
+pub enum Kind {
+    Head,
+    Options,
+    Agent,
+    Numbered,
+    End,
+    World,
+    Fact,
+    Mail,
+    Letter,
+    Count,
+    Empty,
+    Other,
+}
+
+/// A line that begins with a word and a blank.
+fn kind_by_word(line: &[u8]) -> Kind
+    ensures { result ≡ spec.kind_by_word line.now }
+{
+    if line.starts_with(b"agent ") {
+        Kind::Agent
+    } else if line.starts_with(b"end ") {
+        Kind::End
+    } else if line.starts_with(b"fact ") {
+        Kind::Fact
+    } else if line.starts_with(b"for ") {
+        Kind::Letter
+    } else if line.starts_with(b"schedule ") {
+        Kind::Count
+    } else if line.starts_with(b"cycles ") {
+        Kind::Options
+    } else {
+        Kind::Other
+    }
+}
+
+fn is_head(line: &[u8]) -> bool
+    ensures { result ≡ spec.is_head line.now }
+{
+    line == b"jasonrun 1".as_slice() || line == b"jasonrun 2".as_slice()
+}
+
+pub fn kind_of(line: &[u8]) -> Kind
+    ensures { result ≡ spec.kind_of line.now }
+{
+    let Some(first) = line.first() else {
+        return Kind::Empty;
+    };
+    if *first >= b'0' && *first <= b'9' {
+        Kind::Numbered
+    } else if line == b"world".as_slice() {
+        Kind::World
+    } else if line == b"mail".as_slice() {
+        Kind::Mail
+    } else if is_head(line) {
+        Kind::Head
+    } else {
+        kind_by_word(line)
+    }
+}

@@ -1,0 +1,3 @@
+pub mod Dealings
+pub mod Ways
+mod Sends
