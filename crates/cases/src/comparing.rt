@@ -4,14 +4,15 @@ ghost use Rattle.std.specs.Prelude.{◌≡◌, ◌≢◌, ◌+◌, ◌==◌, ◌
 
 use crate::form::{Desk, Mode, Place, Plain, Wanted};
 use crate::lines::{is_feed, line_of};
-use asl_term::syntax::Text;
+use asl_term::syntax::{Files, Text};
 
-/// What a call did: its status by its code, the fault line, and what was written.
+/// What a call did: its status by its code, the fault line, what was written, and the files of the disk.
 #[derive(Clone, Copy)]
 pub struct Got<'a> {
     pub status: u64,
     pub fault: &'a [u8],
     pub written: &'a [u8],
+    pub files: &'a Files,
 }
 
 /// The first place that differs, with what was wanted there and what came.
@@ -134,7 +135,32 @@ fn order_difference<'a>(lines: &'a [u8], text: &'a [u8]) -> Option<Difference<'a
     })
 }
 
-/// The first place that differs: of the status, the fault line and the output.
+/// The bytes of the file of this name.
+pub fn held<'a>(files: &'a Files, name: &[u8]) -> Option<&'a [u8]> {
+    for file in files.as_slice() {
+        if file.name.as_slice() == name {
+            return Some(file.bytes.as_slice());
+        }
+    }
+    None
+}
+
+/// The first wanted file that is not there or holds other bytes.
+fn disk_difference<'a>(wanted: &'a Files, files: &'a Files) -> Option<Difference<'a>> {
+    for file in wanted.as_slice() {
+        let found = held(files, file.name.as_slice());
+        if found != Some(file.bytes.as_slice()) {
+            return Some(Difference {
+                place: Place::Disk,
+                wanted: file.bytes.as_slice(),
+                got: found.unwrap_or(&[]),
+            });
+        }
+    }
+    None
+}
+
+/// The first place that differs: of the status, the fault line, the output and the files of the disk.
 pub fn first_difference<'a>(
     plain: &Plain,
     wanted: &'a Wanted,
@@ -156,10 +182,14 @@ pub fn first_difference<'a>(
             got: got.fault,
         });
     }
-    match plain.mode {
+    let found = match plain.mode {
         Mode::Whole | Mode::Agents => line_difference(output, got.written),
         Mode::InOrder => order_difference(output, got.written),
+    };
+    if found.is_some() {
+        return found;
     }
+    disk_difference(&wanted.kept, got.files)
 }
 
 /// Whether two places are the same.
@@ -171,6 +201,7 @@ fn is_same(one: &Place, other: &Place) -> bool
         (Place::Fault, Place::Fault) => true,
         (Place::Line(m), Place::Line(n)) => *m == *n,
         (Place::InOrder(m), Place::InOrder(n)) => *m == *n,
+        (Place::Disk, Place::Disk) => true,
         _ => false,
     }
 }

@@ -97,13 +97,14 @@ impl Desk {
     }
 }
 
-/// A place of what is wanted: a line of the output, or the line of a number among those that stand in order.
+/// A place of what is wanted: a line of the output, the line of a number among those that stand in order, or the files of the disk.
 #[derive(Clone, Copy)]
 pub enum Place {
     Status,
     Fault,
     Line(u64),
     InOrder(u64),
+    Disk,
 }
 
 /// What the output has to be: the wanted text; sections of agents; or one that has the wanted lines in order.
@@ -126,39 +127,47 @@ pub struct Plain {
     ghost some: { 1 ≤ short },
 }
 
-/// The files of the shelf, which calls of shelf and sink fail, the words, and the numbers of workers with each of which they are
-/// called; the words alone are called where there is none. Where a file is cut, by its name, they are called once for each proper
-/// prefix of it. Where a line of version 1 is told, the report is renewed from the one that has this line.
+/// The files of the shelf and of the disk, which calls of shelf, sink and disk fail, the words, and the numbers of workers with each
+/// of which they are called; the words alone are called where there is none. Where a file is cut, by its name, they are called once
+/// for each proper prefix of it. Where a line of version 1 is told, the report is renewed from the one that has this line. Where a
+/// number of crashes is told, the run is also recorded on disks that fail, and gone on from what crashes leave.
 #[derive(Drop)]
 pub struct Given {
     pub files: Files,
+    pub disk: Files,
     pub shelf_fails: Numbers,
     pub sink_fails: Numbers,
+    pub disk_fails: Numbers,
     pub words: Vec<String>,
     pub workers: Numbers,
     pub cut: Text,
     pub old: Text,
+    pub crashes: u64,
 }
 
 impl Given {
     pub fn new(alloc: Global) -> Given {
         Given {
             files: Seq::new(alloc),
+            disk: Seq::new(alloc),
             shelf_fails: Seq::new(alloc),
             sink_fails: Seq::new(alloc),
+            disk_fails: Seq::new(alloc),
             words: Vec::new(alloc),
             workers: Seq::new(alloc),
             cut: Seq::new(alloc),
             old: Seq::new(alloc),
+            crashes: 0,
         }
     }
 }
 
-/// The fault line with its line feed, and what is wanted of the output.
+/// The fault line with its line feed, what is wanted of the output, and what files of the disk have to hold.
 #[derive(Drop)]
 pub struct Wanted {
     pub fault: Text,
     pub output: Text,
+    pub kept: Files,
 }
 
 impl Wanted {
@@ -166,6 +175,7 @@ impl Wanted {
         Wanted {
             fault: Seq::new(alloc),
             output: Seq::new(alloc),
+            kept: Seq::new(alloc),
         }
     }
 }

@@ -9,13 +9,13 @@ use asl_term::sequence::Starved;
 const PIECES: [&str; 4] = ["|", "+", "!", "*"];
 
 /// The keys of a case that take a text.
-const TEXT_KEYS: [&str; 12] = [
-    "source", "world", "schedule", "file", "words", "project", "fault", "output", "trace", "facts",
-    "has", "old",
+const TEXT_KEYS: [&str; 14] = [
+    "source", "world", "schedule", "file", "disk", "words", "project", "fault", "output", "trace",
+    "facts", "has", "old", "kept",
 ];
 
 /// The keys of a case that take a number, numbers or a word.
-const PLAIN_KEYS: [&str; 15] = [
+const PLAIN_KEYS: [&str; 17] = [
     "cut",
     "workers",
     "cycles",
@@ -25,6 +25,8 @@ const PLAIN_KEYS: [&str; 15] = [
     "level",
     "shelf_fails",
     "sink_fails",
+    "disk_fails",
+    "crashes",
     "short",
     "room",
     "status",
@@ -159,6 +161,9 @@ pub fn has_word(lines: &[Line<'_>], word: &[u8]) -> bool {
     false
 }
 
+/// The keys that name a file, each of which may stand more than once.
+const FILE_KEYS: [&str; 3] = ["file", "disk", "kept"];
+
 /// Refuses a line that has no known key and is no part of a text, and a key that stands twice.
 fn check_lines(lines: &[Line<'_>], texts: &[&str], plain: &[&str], desk: &mut Desk) {
     let mut takes_text = false;
@@ -169,7 +174,7 @@ fn check_lines(lines: &[Line<'_>], texts: &[&str], plain: &[&str], desk: &mut De
             if !takes_text && !is_among(line.word, plain) {
                 desk.refuse(line.number, "unknown key");
             }
-            let is_file = line.word == b"file".as_slice();
+            let is_file = is_among(line.word, &FILE_KEYS);
             if !is_file && has_word(&lines[..at], line.word) {
                 desk.refuse(line.number, "this key stands twice");
             }

@@ -2,6 +2,7 @@
 #![tactic(auto)]
 
 mod comparing;
+mod crashing;
 mod form;
 mod lines;
 mod reading;

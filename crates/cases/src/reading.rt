@@ -203,6 +203,16 @@ fn files_into(section: &Section<'_>, files: &mut Files, desk: &mut Desk) {
     }
 }
 
+/// The files of the disk under a key.
+fn disk_into(section: &Section<'_>, key: &str, files: &mut Files, desk: &mut Desk) {
+    let lines = section.body;
+    for at in 0..lines.len() {
+        if lines[at].word == key.as_bytes() {
+            put_named_file(&entry_at(lines, at), files, desk);
+        }
+    }
+}
+
 /// The name of the file that is cut, of which there are bytes.
 fn cut_into(section: &Section<'_>, files: &Files, cut: &mut Text, desk: &mut Desk) {
     let Some(entry) = find(section, "cut") else {
@@ -332,6 +342,9 @@ fn differs_of(section: &Section<'_>, desk: &mut Desk) -> Option<Place> {
     if entry.rest == b"fault".as_slice() {
         return Some(Place::Fault);
     }
+    if entry.rest == b"disk".as_slice() {
+        return Some(Place::Disk);
+    }
     if named.word == b"line".as_slice() {
         return Some(Place::Line(number(entry.number, named.rest, 1, 1_000_000_000, desk)));
     }
@@ -374,6 +387,16 @@ pub fn read_case(
         &mut given.sink_fails,
         desk,
     );
+    numbers_into(
+        section,
+        "disk_fails",
+        1_000_000,
+        &mut given.disk_fails,
+        desk,
+    );
+    disk_into(section, "disk", &mut given.disk, desk);
+    disk_into(section, "kept", &mut wanted.kept, desk);
+    given.crashes = number_at(section, "crashes", 0, 8, 0, desk);
     ask_into(section, &mut given.words, desk);
     workers_into(section, &mut given.workers, desk);
     text_at(section, "fault", &mut wanted.fault, desk);

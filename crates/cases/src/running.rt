@@ -1,8 +1,10 @@
 //! The call of a case, over a shelf and a sink in memory.
 
-ghost use Rattle.std.specs.Prelude.{◌≡◌, ◌≤◌, IfOk, OnOk};
+ghost use Rattle.std.specs.Prelude.{◌≡◌, ◌≤◌, true, is_some, IfOk, OnOk};
+ghost use Rattle.mas_keeping.specs.Disks.{IsFree};
 
 use crate::comparing::{Difference, Got, first_difference, passes, put_shown};
+use crate::crashing::survives;
 use crate::form::{Desk, Given, Place, Plain, Section, Wanted};
 use crate::lines::{is_feed, read_lines};
 use crate::reading::{fault_of, read_case, read_refused};
@@ -12,6 +14,8 @@ use asl_term::room::Roomy;
 use asl_term::sequence::{Seq, Starved};
 use asl_term::syntax::{Files, Numbers, Text};
 use mas_artifact::opening::all_kinds;
+use mas_disk::disk::Disk;
+use mas_disks::memory::{MemoryDisk, memory_disk};
 use mas_going::gate::OpenGate;
 use mas_io::memory::{MemoryShelf, MemorySink, memory_shelf, memory_sink};
 use mas_reading::status::{Status, code, fault_line};
@@ -49,18 +53,29 @@ const PRINTED: &str = "the printed schedule";
 const OLD: &str = "the report of version 1";
 
 /// Calls the words, with a tally, a slot and a belt.
-fn make<R: Threads + Wait + Sync>(
+pub fn make<R: Threads + Wait + Sync, D: Disk + Send>(
     rt: &R,
     alloc: Global,
     words: &[String],
     shelf: &mut MemoryShelf,
     sink: &mut MemorySink,
-) -> Result<Status, Starved> {
+    disk: &mut Option<D>,
+) -> Result<Status, Starved>
+    requires { IsFree D.state disk.old }
+{
     let mut all: Vec<Box<dyn Artifact + Send>> = Vec::new(alloc);
     for kind in all_kinds(alloc)? {
         all.push(Box::new(alloc, kind)?)?;
     }
-    Ok(run_words(rt, alloc, words, shelf, sink, &OpenGate, all))
+    Ok(run_words(rt, alloc, words, shelf, sink, &OpenGate, all, disk))
+}
+
+/// The files of a disk after a crash that keeps so many of the changes since the last sync.
+pub fn left(alloc: Global, disk: &Option<MemoryDisk>, kept: u64) -> Result<Files, Starved> {
+    match disk {
+        Some(disk) => disk.crash(alloc, kept),
+        None => Ok(Seq::new(alloc)),
+    }
 }
 
 fn place_of(found: &Option<Difference<'_>>) -> Option<Place> {
@@ -76,6 +91,7 @@ fn judge(
     wanted: &Wanted,
     status: &Status,
     written: &[u8],
+    files: &Files,
     reason: &mut Text,
     desk: &mut Desk,
 ) -> bool {
@@ -89,6 +105,7 @@ fn judge(
         status: u64::from(code(status)),
         fault: fault.as_slice(),
         written: shown.as_slice(),
+        files,
     };
     let found = first_difference(plain, wanted, &got);
     let is_passed = passes(&place_of(&found), &plain.differs);
@@ -100,9 +117,9 @@ fn judge(
 
 /// How a call ended, by its code, and what it wrote.
 #[derive(Clone, Copy)]
-struct Done<'a> {
-    status: u8,
-    written: &'a [u8],
+pub struct Done<'a> {
+    pub status: u8,
+    pub written: &'a [u8],
 }
 
 /// How many bytes of the file of this name the call finds: all, or its first ones alone.
@@ -139,7 +156,7 @@ fn length_of(files: &Files, name: &[u8]) -> u64 {
     0
 }
 
-fn copy_files(files: &Files, desk: &mut Desk) -> Files {
+pub fn copy_files(files: &Files, desk: &mut Desk) -> Files {
     let mut all = Seq::new(desk.alloc);
     for file in files.as_slice() {
         match copy_text(desk.alloc, &file.bytes) {
@@ -200,11 +217,18 @@ fn put_options(options: &[String], words: &mut Vec<String>, desk: &mut Desk) {
     }
 }
 
+/// Whether behind a command that makes a run the project has another name.
+fn has_two_names(command: &str) -> bool {
+    command == "replay" || command == "record" || command == "resume"
+}
+
 /// The words of the replay along the schedule that is printed, of words that name the project first, and then options.
 fn replay_words(words: &[String], desk: &mut Desk) -> Option<Vec<String>> {
     let (project, options) = match words {
         [command, project, options @ ..] if command.as_str() == "run" => (project, options),
-        [command, project, _, options @ ..] if command.as_str() == "replay" => (project, options),
+        [command, project, _, options @ ..] if has_two_names(command.as_str()) => (
+            project, options,
+        ),
         _ => return None,
     };
     if project.as_str().starts_with("-") {
@@ -242,12 +266,13 @@ fn writes<R: Threads + Wait + Sync>(
     let mut room = Roomy::new(desk.alloc);
     room.reserve(wanted.written.len() as u64)?;
     let mut sink = memory_sink(room, 1_000_000, Seq::new(desk.alloc));
-    let status = make(rt, desk.alloc, words, &mut shelf, &mut sink)?;
+    let mut disk = Some(memory_disk(desk.alloc, Seq::new(desk.alloc), Seq::new(desk.alloc))?);
+    let status = make(rt, desk.alloc, words, &mut shelf, &mut sink, &mut disk)?;
     Ok(code(&status) == wanted.status && sink.written() == wanted.written)
 }
 
 /// Whether a run along the schedule that the report prints writes the report again, and ends as the run did; if not, why, in `reason`.
-fn is_again<R: Threads + Wait + Sync>(
+pub fn is_again<R: Threads + Wait + Sync>(
     rt: &R,
     words: &[String],
     files: &Files,
@@ -352,9 +377,13 @@ fn run_once<R: Threads + Wait + Sync>(
     let shelved = copy_files(files, desk);
     let mut shelf = memory_shelf(shelved, copy_numbers(&given.shelf_fails, desk));
     let mut sink = memory_sink(room, plain.short, copy_numbers(&given.sink_fails, desk));
-    let status = make(rt, desk.alloc, words, &mut shelf, &mut sink)?;
+    let held = copy_files(&given.disk, desk);
+    let fails = copy_numbers(&given.disk_fails, desk);
+    let mut disk = Some(memory_disk(desk.alloc, held, fails)?);
+    let status = make(rt, desk.alloc, words, &mut shelf, &mut sink, &mut disk)?;
     let written = sink.written().get(blanks..).unwrap_or(&[]);
-    if !judge(plain, wanted, &status, written, reason, desk) {
+    let after = left(desk.alloc, &disk, u64::MAX)?;
+    if !judge(plain, wanted, &status, written, &after, reason, desk) {
         return Ok(false);
     }
     let done = Done {
@@ -440,7 +469,11 @@ pub fn run_case<R: Threads + Wait + Sync>(
     if desk.fault.is_some() {
         return false;
     }
-    match run(rt, &plain, &given, &wanted, reason, desk) {
+    let passed = match run(rt, &plain, &given, &wanted, reason, desk) {
+        Ok(true) => survives(rt, &given, reason, desk),
+        other => other,
+    };
+    match passed {
         Ok(is_passed) => is_passed,
         Err(starved) => {
             desk.check(Err(starved));

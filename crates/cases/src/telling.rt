@@ -19,6 +19,7 @@ fn put_place(place: &Place, out: &mut Text, desk: &mut Desk) {
         Place::Fault => desk.put(b"fault", out),
         Place::Line(number) => desk.put_named("line ", *number, out),
         Place::InOrder(number) => desk.put_named("has ", *number, out),
+        Place::Disk => desk.put(b"disk", out),
     }
 }
 

@@ -242,7 +242,7 @@ fn put_foot(out: &mut Vec<u8>, report: &Report<'_>, plan: &Plan) -> Result<u64, 
     )
 }
 
-/// What stands on the paper; then its height. Arrows are covered by cycles.
+/// What lies behind all else first, what covers it after; returns the height. Arrows are covered by cycles.
 fn put_all(out: &mut Vec<u8>, alloc: Global, report: &Report<'_>) -> Result<u64, Fault> {
     let plan = place(alloc, report)?;
     put_top(out, report, &plan)?;

@@ -1,8 +1,12 @@
 //! Runs agents written in AgentSpeak and writes the report of their run.
 #![tactic(auto)]
 
+ghost use Rattle.mas_keeping.specs.Disks.{IsFree};
+
 use asl_term::sequence::Starved;
 use mas_artifact::opening::all_kinds;
+use mas_disk::disk::Disk;
+use mas_disks::real::FileDisk;
 use mas_going::gate::OpenGate;
 use mas_io::real::{FileShelf, OutSink};
 use mas_reading::status::{Status, code, fault_line};
@@ -42,10 +46,13 @@ fn tell(rt: &HostRuntime, status: &Status) {
 }
 
 /// Does what the words ask for, over real files and output, with a tally, a slot and a belt, and the gate that lets pass.
-fn run<R: Files + Print + AllocGlobal + Threads + Wait + Sync>(
+fn run<R: Files + Print + AllocGlobal + Threads + Wait + Sync, D: Disk + Send>(
     rt: &R,
     words: &[String],
-) -> Result<Status, Starved> {
+    disk: &mut Option<D>,
+) -> Result<Status, Starved>
+    requires { IsFree D.state disk.old }
+{
     let alloc = rt.alloc();
     let mut all: Vec<Box<dyn Artifact + Send>> = Vec::new(alloc);
     for kind in all_kinds(alloc)? {
@@ -53,12 +60,16 @@ fn run<R: Files + Print + AllocGlobal + Threads + Wait + Sync>(
     }
     let mut shelf = FileShelf::new(rt);
     let mut sink = OutSink::new(rt);
-    Ok(run_words(rt, alloc, words, &mut shelf, &mut sink, &OpenGate, all))
+    Ok(run_words(
+        rt, alloc, words, &mut shelf, &mut sink, &OpenGate, all, disk,
+    ))
 }
 
+/// Runs are recorded in files of the machine.
 fn main(rt: HostRuntime) -> ExitCode {
+    let mut disk = Some(FileDisk::new(&rt));
     let status = match words_of(&rt) {
-        Ok(words) => run(&rt, &words).unwrap_or(Status::Memory),
+        Ok(words) => run(&rt, &words, &mut disk).unwrap_or(Status::Memory),
         Err(error) => unread(&error),
     };
     tell(&rt, &status);

@@ -1,6 +1,6 @@
 //! The files of the machine, of whose bytes nothing is told.
 
-ghost use Rattle.std.specs.Prelude.{◌≡◌, ◌≤◌, List, ℕ, false};
+ghost use Rattle.std.specs.Prelude.{◌≡◌, ◌≤◌, List, ℕ, None, false};
 ghost use Rattle.mas_io.specs.Causes.{Rose};
 ghost use Rattle.mas_disk.specs.Disk.{Image};
 ghost use Rattle.mas_disk.specs.declared.disk.DiskFail.TheVariants.{Failed};
@@ -26,7 +26,8 @@ pub struct FileDisk<'a, R: Files> {
 
 impl<'a, R: Files> FileDisk<'a, R> {
     pub fn new(rt: &'a R) -> Self
-        ensures { result.faults ≡ 0 }
+        ensures faults { result.faults ≡ 0 }
+        ensures name { result.name ≡ None }
     {
         FileDisk {
             rt,

@@ -8,7 +8,7 @@ use Rattle.mas_io.specs.Told.{Told, IsUnwritten}
 use Rattle.mas_io.specs.Writing.{Wrote, IsCut}
 use Rattle.mas_reading.specs.declared.sources.Source.{Source}
 use Rattle.mas_reading.specs.declared.status.Status.{Status}
-use Rattle.mas_reading.specs.declared.status.Status.TheVariants.{Ok, No, Usage, Missing, ReadFault, WriteFault, Refused, Limit, Budget, Memory}
+use Rattle.mas_reading.specs.declared.status.Status.TheVariants.{Ok, No, Usage, Missing, ReadFault, WriteFault, Refused, Limit, Budget, Memory, DiskFault}
 use Rattle.mas_reading.specs.Laws.{Surely}
 use Rattle.mas_reading.specs.Sources.{HasSource, FirstRefused, AreRefused, texts_of}
 use Rattle.mas_reading.specs.Statuses as statuses
@@ -36,6 +36,7 @@ refused_by known word before after (Refused file place why) e r n = record { why
 refused_by known word before after (Limit quantity count) e r n = record { why = r; unwritten = n }
 refused_by known word before after Budget e r n = absurd cc
 refused_by known word before after Memory e r n = n
+refused_by known word before after DiskFault e r n = absurd cc
 
 one_refused : (known : List (List ℕ)) (word : List ℕ) (before after : Told) (status : Status) →
     FirstRefused known usual_cycles before.held word before.shelf_faults after.shelf_faults status → IsUnwritten before after → LintCaused known word before after status
@@ -54,6 +55,7 @@ refused_lint known word before after (Refused file place why) r n = one_refused 
 refused_lint known word before after (Limit quantity count) r n = one_refused known word before after (Limit quantity count) r n
 refused_lint known word before after Budget r n = one_refused known word before after Budget r n
 refused_lint known word before after Memory r n = n
+refused_lint known word before after DiskFault r n = one_refused known word before after DiskFault r n
 
 -- ---- what is written
 
@@ -121,3 +123,4 @@ complete_lint known word before after (Limit quantity count) k files e n f g =
     absurd (not_here known word before after (Limit quantity count) files e n f (λ q. cc) k.why)
 complete_lint known word before after Budget k files e n f g = absurd k
 complete_lint known word before after Memory k files e n f g = inr (inr refl)
+complete_lint known word before after DiskFault k files e n f g = absurd k

@@ -11,7 +11,7 @@ use Rattle.mas_io.specs.Told.{Told, IsUnwritten}
 use Rattle.mas_io.specs.Writing.{Wrote, WroteSome}
 use Rattle.mas_reading.specs.declared.sources.Source.{Source}
 use Rattle.mas_reading.specs.declared.status.Status.{Status}
-use Rattle.mas_reading.specs.declared.status.Status.TheVariants.{Ok, No, Usage, Missing, ReadFault, WriteFault, Refused, Limit, Budget, Memory}
+use Rattle.mas_reading.specs.declared.status.Status.TheVariants.{Ok, No, Usage, Missing, ReadFault, WriteFault, Refused, Limit, Budget, Memory, DiskFault}
 use Rattle.mas_reading.specs.Laws.{Surely}
 use Rattle.mas_reading.specs.Sources.{HasSource, FirstRefused, texts_of}
 
@@ -72,6 +72,7 @@ module _ (known : List (List ℕ)) (word : List ℕ) where
   LintCaused before after (Limit quantity count) = IsRefused before after (Limit quantity count)
   LintCaused before after Budget = ⊥
   LintCaused before after Memory = IsUnwritten before after
+  LintCaused before after DiskFault = ⊥
 
   -- ---- what follows, where the shelf tells its files
 

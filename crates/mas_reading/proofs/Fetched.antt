@@ -23,7 +23,7 @@ use Rattle.mas_reading.specs.Files.{Has, HasFile, Reader, IsRefusal, IsUnfetched
 use Rattle.mas_reading.specs.Faults.{lex_status, text_status, world_status, project_status}
 use Rattle.mas_reading.specs.declared.status.What.TheVariants as what
 use Rattle.mas_reading.specs.declared.status.Status.{Status}
-use Rattle.mas_reading.specs.declared.status.Status.TheVariants.{Ok, No, Usage, Missing, ReadFault, WriteFault, Refused, Limit, Budget, Memory}
+use Rattle.mas_reading.specs.declared.status.Status.TheVariants.{Ok, No, Usage, Missing, ReadFault, WriteFault, Refused, Limit, Budget, Memory, DiskFault}
 
 -- ---- bytes that are not there
 
@@ -42,6 +42,7 @@ unfetched r name held before after (Limit what.Agents count) h = absurd h
 unfetched r name held before after (Limit what.Cycles count) h = absurd h
 unfetched r name held before after Budget h = absurd h
 unfetched r name held before after Memory h = tt
+unfetched r name held before after DiskFault h = absurd h
 
 pub no_agent : (name : List ℕ) (held : Option (List Filed)) (before after : ℕ) (status : Status) → IsUnfetched 1048576 name held before after status →
     IsRefusal spec.agents name held before after status
@@ -72,6 +73,7 @@ refusal_from r name held first before after (Refused file place why) l h = h
 refusal_from r name held first before after (Limit quantity count) l h = h
 refusal_from r name held first before after Budget l h = absurd h
 refusal_from r name held first before after Memory l h = tt
+refusal_from r name held first before after DiskFault l h = absurd h
 
 -- ---- the file of an agent
 

@@ -29,7 +29,7 @@ use Rattle.mas_reading.specs.declared.status.Reason.TheVariants as reason
 use Rattle.mas_reading.specs.declared.status.What.{What}
 use Rattle.mas_reading.specs.declared.status.What.TheVariants as what
 use Rattle.mas_reading.specs.declared.status.Status.{Status}
-use Rattle.mas_reading.specs.declared.status.Status.TheVariants.{Ok, No, Usage, Missing, ReadFault, WriteFault, Refused, Limit, Budget, Memory}
+use Rattle.mas_reading.specs.declared.status.Status.TheVariants.{Ok, No, Usage, Missing, ReadFault, WriteFault, Refused, Limit, Budget, Memory, DiskFault}
 use Rattle.mas_reading.specs.Projects.{is_agent_file, all_cycles, most_cycles}
 use Rattle.mas_reading.specs.Faults.{text_status, world_status, project_status}
 use Rattle.mas_reading.specs.Files.{Reader, agents, worlds, projects, IsRefusal}
@@ -81,6 +81,7 @@ module _ (r : Reader) (Fault : Type 0) (Has : List ℕ → Fault → Type 0) (st
   fault_of f l name bytes (Limit quantity count) h = l name bytes quantity count h
   fault_of f l name bytes Budget h = absurd h
   fault_of f l name bytes Memory h = absurd h
+  fault_of f l name bytes DiskFault h = absurd h
 
   pub one_status : Faulty → Large → ((bytes : List ℕ) (f g : Fault) → Has bytes f → Has bytes g → f ≡ g) → OneStatus r
   one_status f l one name bytes s t h g =
@@ -238,6 +239,7 @@ made r files name before after (Limit what.Agents count) c h = subst (λ x. Made
 made r files name before after (Limit what.Cycles count) c h = subst (λ x. Made r name x (Limit what.Cycles count)) h.has h.are
 made r files name before after Budget c h = absurd h
 made r files name before after Memory c h = absurd (c.no_lack refl)
+made r files name before after DiskFault c h = absurd h
 
 -- ---- so are all of them
 

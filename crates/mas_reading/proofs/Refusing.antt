@@ -2,18 +2,19 @@
 use Rattle.std.proofs.Common.{ℕ, ◌≡◌, inl, inr, Bool, true, false, List, Option, sym, subst, refl}
 use Rattle.asl_term.specs.declared.syntax.Filed.{Filed}
 use Rattle.mas_reading.specs.declared.status.Status.{Status}
-use Rattle.mas_reading.specs.declared.status.Status.TheVariants.{Ok, No, Usage, Missing, ReadFault, WriteFault, Refused, Limit, Budget, Memory}
+use Rattle.mas_reading.specs.declared.status.Status.TheVariants.{Ok, No, Usage, Missing, ReadFault, WriteFault, Refused, Limit, Budget, Memory, DiskFault}
 use Rattle.mas_reading.specs.declared.status.What.TheVariants as what
 use Rattle.mas_reading.specs.Projects.{all_cycles}
 use Rattle.mas_reading.specs.Files.{Reader, IsRefusal, agents, worlds, projects}
 use Rattle.mas_reading.specs.Sources.{FirstRefused, project_refused, cycles_refused, part_refused}
 
--- a status with which nothing was written
+-- a status of a file that is refused, or of want of memory
 abbrev pub refuses : Status → Bool
 refuses Ok = false
 refuses No = false
 refuses Usage = false
 refuses Budget = false
+refuses DiskFault = false
 refuses WriteFault = false
 refuses other = true
 
@@ -29,6 +30,7 @@ no_report r name held before after (Refused file place why) h = refl
 no_report r name held before after (Limit quantity count) h = refl
 no_report r name held before after Budget h = absurd h
 no_report r name held before after Memory h = refl
+no_report r name held before after DiskFault h = absurd h
 
 -- what holds of the status of each file that is refused, and of too many cycles, holds of the first refusal's
 pub first_by : (Is : Status → Type 0) (names : List (List ℕ)) (cycles : ℕ) (held : Option (List Filed)) (word : List ℕ) (before after : ℕ) (status : Status) →

@@ -27,7 +27,7 @@ use Rattle.mas_io.specs.declared.shelf.Fetched.TheVariants.{Bytes, Missing as La
 use Rattle.mas_reading.specs.declared.sources.Role.{Role}
 use Rattle.mas_reading.specs.declared.sources.Source.{Source}
 use Rattle.mas_reading.specs.declared.status.Status.{Status}
-use Rattle.mas_reading.specs.declared.status.Status.TheVariants.{Ok, No, Usage, Missing, ReadFault, WriteFault, Refused, Limit, Budget, Memory}
+use Rattle.mas_reading.specs.declared.status.Status.TheVariants.{Ok, No, Usage, Missing, ReadFault, WriteFault, Refused, Limit, Budget, Memory, DiskFault}
 use Rattle.mas_reading.specs.declared.status.Reason.{Reason}
 use Rattle.mas_reading.specs.declared.status.Reason.TheVariants as reason
 use Rattle.mas_reading.specs.declared.status.What.{What}
@@ -261,6 +261,7 @@ not_refused_file r files name before after (Limit what.Agents count) P h n f c =
 not_refused_file r files name before after (Limit what.Cycles count) P h n f c = absurd (n.large what.Cycles count (with_file r.most files name P (λ x. r.large x what.Cycles count) h c))
 not_refused_file r files name before after Budget P h n f c = absurd c
 not_refused_file r files name before after Memory P h n f c = refl
+not_refused_file r files name before after DiskFault P h n f c = absurd c
 
 -- ---- each of them
 
@@ -327,3 +328,4 @@ not_refused known cycles files word source before after (Refused file place why)
 not_refused known cycles files word source before after (Limit quantity count) h f c = first_not known cycles files word source before after (Limit quantity count) h f c
 not_refused known cycles files word source before after Budget h f c = first_not known cycles files word source before after Budget h f c
 not_refused known cycles files word source before after Memory h f c = refl
+not_refused known cycles files word source before after DiskFault h f c = first_not known cycles files word source before after DiskFault h f c

@@ -1,7 +1,7 @@
 -- What is told where memory may lack.
 use Rattle.std.proofs.Common.{◌≢◌, refl}
 use Rattle.mas_reading.specs.declared.status.Status.{Status}
-use Rattle.mas_reading.specs.declared.status.Status.TheVariants.{Ok, No, Usage, Missing, ReadFault, WriteFault, Refused, Limit, Budget, Memory}
+use Rattle.mas_reading.specs.declared.status.Status.TheVariants.{Ok, No, Usage, Missing, ReadFault, WriteFault, Refused, Limit, Budget, Memory, DiskFault}
 use Rattle.mas_reading.specs.Sources.{UnlessMemory}
 
 pub unless : (Is : Status → Type 0) (s : Status) → Is s → UnlessMemory Is s
@@ -15,6 +15,7 @@ unless Is (Refused file place why) h = h
 unless Is (Limit quantity count) h = h
 unless Is Budget h = h
 unless Is Memory h = tt
+unless Is DiskFault h = h
 
 pub unless_as : (Is Js : Status → Type 0) → ((s : Status) → Is s → Js s) → (s : Status) → UnlessMemory Is s → UnlessMemory Js s
 unless_as Is Js f Ok h = f Ok h
@@ -27,6 +28,7 @@ unless_as Is Js f (Refused file place why) h = f (Refused file place why) h
 unless_as Is Js f (Limit quantity count) h = f (Limit quantity count) h
 unless_as Is Js f Budget h = f Budget h
 unless_as Is Js f Memory h = tt
+unless_as Is Js f DiskFault h = f DiskFault h
 
 pub is_told : (Is : Status → Type 0) (s : Status) → s ≢ Memory → UnlessMemory Is s → Is s
 is_told Is Ok n h = h
@@ -39,3 +41,4 @@ is_told Is (Refused file place why) n h = h
 is_told Is (Limit quantity count) n h = h
 is_told Is Budget n h = h
 is_told Is Memory n h = absurd (n refl)
+is_told Is DiskFault n h = h

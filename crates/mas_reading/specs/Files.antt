@@ -18,7 +18,7 @@ use Rattle.mas_reading.specs.declared.status.Reason.TheVariants as reason
 use Rattle.mas_reading.specs.declared.status.What.{What}
 use Rattle.mas_reading.specs.declared.status.What.TheVariants as what
 use Rattle.mas_reading.specs.declared.status.Status.{Status}
-use Rattle.mas_reading.specs.declared.status.Status.TheVariants.{Ok, No, Usage, Missing, ReadFault, WriteFault, Refused, Limit, Budget, Memory}
+use Rattle.mas_reading.specs.declared.status.Status.TheVariants.{Ok, No, Usage, Missing, ReadFault, WriteFault, Refused, Limit, Budget, Memory, DiskFault}
 
 -- the most bytes of the file of a project, a world or an agent
 abbrev pub most_bytes : ℕ
@@ -137,6 +137,7 @@ IsRefusal r name held before after (Refused file place why) = IsRefusedAt r held
 IsRefusal r name held before after (Limit quantity count) = IsPast r held name quantity count
 IsRefusal r name held before after Budget = ⊥
 IsRefusal r name held before after Memory = Unit {0}
+IsRefusal r name held before after DiskFault = ⊥
 
 -- why its bytes are not there
 abbrev pub IsUnfetched : ℕ → List ℕ → Option (List Filed) → ℕ → ℕ → Status → Type 0

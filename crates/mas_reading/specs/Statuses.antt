@@ -18,6 +18,7 @@ status_code (status.Refused file place why) = 6
 status_code (status.Limit quantity count) = 7
 status_code status.Budget = 8
 status_code status.Memory = 9
+status_code status.DiskFault = 11
 
 -- where the report was written whole: whether an end in it is `budget`
 abbrev pub whole : Bool → Status
@@ -56,7 +57,7 @@ what_word what.Cycles = codes "cycles"
 -- the commands, with what each of them names
 abbrev pub usage : List ℕ
 usage = codes "usage: jasonrun run PROJECT | replay PROJECT SCHEDULE | check PROJECT REPORT | demo K | renew PROJECT REPORT"
-    ++ codes " | lint PROJECT"
+    ++ codes " | record PROJECT FILE | resume PROJECT FILE | lint PROJECT"
 
 -- nothing where the report was written whole and no end in it is `budget`, or it is that of a run, else one line
 abbrev pub fault_text : Status → List ℕ
@@ -70,3 +71,4 @@ fault_text (status.Refused file place why) = line (codes "refused " ++ file ++ c
 fault_text (status.Limit quantity count) = line (codes "limit " ++ what_word quantity ++ codes " " ++ decimal count)
 fault_text status.Budget = line (codes "budget")
 fault_text status.Memory = line (codes "memory")
+fault_text status.DiskFault = line (codes "disk fault")

@@ -65,6 +65,7 @@ pub enum Status {
     Limit { what: What, count: u64 },
     Budget,
     Memory,
+    DiskFault,
 }
 
 impl From<Starved> for Status {
@@ -92,6 +93,7 @@ pub fn code(s: &Status) -> u8
         Status::Limit { .. } => 7,
         Status::Budget => 8,
         Status::Memory => 9,
+        Status::DiskFault => 11,
     }
 }
 
@@ -102,7 +104,7 @@ fn usage_line(alloc: Global) -> Result<Text, Starved>
         alloc,
         b"usage: jasonrun run PROJECT | replay PROJECT SCHEDULE | check PROJECT REPORT | demo K | renew PROJECT REPORT",
     )?;
-    text.append(b" | lint PROJECT")?;
+    text.append(b" | record PROJECT FILE | resume PROJECT FILE | lint PROJECT")?;
     text.push(b'\n')?;
     Ok(text)
 }
@@ -208,5 +210,6 @@ pub fn fault_line(alloc: Global, s: &Status) -> Result<Text, Starved>
         Status::Limit { what, count } => limit_line(alloc, *what, *count),
         Status::Budget => text_of(alloc, b"budget\n"),
         Status::Memory => text_of(alloc, b"memory\n"),
+        Status::DiskFault => text_of(alloc, b"disk fault\n"),
     }
 }

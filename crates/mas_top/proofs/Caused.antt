@@ -6,7 +6,7 @@ use Rattle.mas_io.specs.Sink.{grown}
 use Rattle.mas_io.specs.Told.{Told, IsUnwritten}
 use Rattle.mas_io.specs.Writing.{IsCut}
 use Rattle.mas_reading.specs.declared.status.Status.{Status}
-use Rattle.mas_reading.specs.declared.status.Status.TheVariants.{Ok, No, Usage, Missing, ReadFault, WriteFault, Refused, Limit, Budget, Memory}
+use Rattle.mas_reading.specs.declared.status.Status.TheVariants.{Ok, No, Usage, Missing, ReadFault, WriteFault, Refused, Limit, Budget, Memory, DiskFault}
 use Rattle.mas_reading.specs.declared.status.What.TheVariants as what
 use Rattle.mas_reading.specs.Projects.{all_cycles}
 use Rattle.mas_reading.specs.Files.{Reader, IsRefusal, agents, worlds, projects}
@@ -20,7 +20,7 @@ use Rattle.mas_top.specs.Caused.{Texts, ForFiles, FileCaused}
 
 -- ---- what is refused
 
-file_refuses : (u : Setup) (held : Option (List Filed)) (wanted : Wanted) (before after : ℕ) (status : Status) → FileRefused u held wanted before after status →
+pub file_refuses : (u : Setup) (held : Option (List Filed)) (wanted : Wanted) (before after : ℕ) (status : Status) → FileRefused u held wanted before after status →
     refuses status ≡ true
 file_refuses u held wanted before after status (inl r) =
     first_by (λ s. refuses s ≡ true) (known u.objects) u.options.cycles held wanted.project before after status
@@ -39,6 +39,7 @@ refused_by Is u wanted before after (Refused file place why) e r n = record { wh
 refused_by Is u wanted before after (Limit quantity count) e r n = record { why = r; unwritten = n }
 refused_by Is u wanted before after Budget e r n = absurd cc
 refused_by Is u wanted before after Memory e r n = n
+refused_by Is u wanted before after DiskFault e r n = absurd cc
 
 one_refused : (Is : Texts) (u : Setup) (wanted : Wanted) (before after : Told) (status : Status) →
     FileRefused u before.held wanted before.shelf_faults after.shelf_faults status → IsUnwritten before after → FileCaused Is u wanted before after status
@@ -58,6 +59,7 @@ refused_file Is u wanted before after (Refused file place why) r n = one_refused
 refused_file Is u wanted before after (Limit quantity count) r n = one_refused Is u wanted before after (Limit quantity count) r n
 refused_file Is u wanted before after Budget r n = one_refused Is u wanted before after Budget r n
 refused_file Is u wanted before after Memory r n = n
+refused_file Is u wanted before after DiskFault r n = one_refused Is u wanted before after DiskFault r n
 
 -- ---- what is written
 

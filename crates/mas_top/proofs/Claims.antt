@@ -8,7 +8,7 @@ use Rattle.mas_io.specs.Told.{Told, IsUnwritten}
 use Rattle.mas_io.specs.Writing.{Wrote, IsCut}
 use Rattle.mas_reading.specs.declared.sources.Source.{Source}
 use Rattle.mas_reading.specs.declared.status.Status.{Status}
-use Rattle.mas_reading.specs.declared.status.Status.TheVariants.{Ok, No, Usage, Missing, ReadFault, WriteFault, Refused, Limit, Budget, Memory}
+use Rattle.mas_reading.specs.declared.status.Status.TheVariants.{Ok, No, Usage, Missing, ReadFault, WriteFault, Refused, Limit, Budget, Memory, DiskFault}
 use Rattle.mas_reading.specs.Files.{HasFile}
 use Rattle.mas_reading.specs.Known.{known}
 use Rattle.mas_reading.specs.Laws.{Surely}
@@ -40,6 +40,7 @@ refused_by objects c before after (Refused file place why) e r n = record { why 
 refused_by objects c before after (Limit quantity count) e r n = record { why = r; unwritten = n }
 refused_by objects c before after Budget e r n = absurd cc
 refused_by objects c before after Memory e r n = n
+refused_by objects c before after DiskFault e r n = absurd cc
 
 one_refused : (objects : List Used) (c : Claim) (before after : Told) (status : Status) →
     ClaimRefused objects before.held c before.shelf_faults after.shelf_faults status → IsUnwritten before after → ClaimCaused objects c before after status
@@ -58,6 +59,7 @@ refused_claim objects c before after (Refused file place why) r n = one_refused 
 refused_claim objects c before after (Limit quantity count) r n = one_refused objects c before after (Limit quantity count) r n
 refused_claim objects c before after Budget r n = one_refused objects c before after Budget r n
 refused_claim objects c before after Memory r n = n
+refused_claim objects c before after DiskFault r n = one_refused objects c before after DiskFault r n
 
 -- ---- what is written
 
@@ -122,3 +124,4 @@ complete_claim objects c before after (Limit quantity count) k files e n f g =
     absurd (not_here objects c before after (Limit quantity count) files e n f (λ q. cc) k.why)
 complete_claim objects c before after Budget k files e n f g = absurd k
 complete_claim objects c before after Memory k files e n f g = inr (inr refl)
+complete_claim objects c before after DiskFault k files e n f g = absurd k

@@ -23,7 +23,7 @@ use Rattle.mas_reading.specs.Known.{known}
 use Rattle.mas_reading.specs.Sources.{HasSource, FirstRefused, AreRefused, UnlessMemory}
 use Rattle.mas_reading.specs.declared.sources.Source.{Source}
 use Rattle.mas_reading.specs.declared.status.Status.{Status}
-use Rattle.mas_reading.specs.declared.status.Status.TheVariants.{Ok, No, Usage, Missing, ReadFault, WriteFault, Refused, Limit, Budget, Memory}
+use Rattle.mas_reading.specs.declared.status.Status.TheVariants.{Ok, No, Usage, Missing, ReadFault, WriteFault, Refused, Limit, Budget, Memory, DiskFault}
 use Rattle.mas_top.specs.Demo.{DemoHas, IsToldRun, IsDemo, DemoRefused, DemoCaused, IsDemoComplete}
 use Rattle.mas_report.specs.declared.options.Options.{Options}
 use Rattle.mas_world.specs.Worlds.{Used}
@@ -79,6 +79,7 @@ told_of_file r name held (Refused file place why) h = refl
 told_of_file r name held (Limit quantity count) h = refl
 told_of_file r name held Budget h = absurd h
 told_of_file r name held Memory h = refl
+told_of_file r name held DiskFault h = absurd h
 
 one_refused : (u : Setup) (k : ℕ) (way : Way) (before after : Told) (status : Status) → tells status ≡ true → DemoRefused u k status → IsUnwritten before after →
     DemoCaused u k way before after status
@@ -92,6 +93,7 @@ one_refused u k way before after (Refused file place why) e r w = record { why =
 one_refused u k way before after (Limit quantity count) e r w = record { why = r; unwritten = w }
 one_refused u k way before after Budget e r w = absurd cc
 one_refused u k way before after Memory e r w = w
+one_refused u k way before after DiskFault e r w = absurd cc
 
 by_first : (u : Setup) (k : ℕ) (way : Way) (before after : Told) (status : Status) → DemoRefused u k status → IsUnwritten before after →
     DemoCaused u k way before after status
@@ -113,6 +115,7 @@ unwritten u k way before after (Refused file place why) r w = by_first u k way b
 unwritten u k way before after (Limit quantity count) r w = by_first u k way before after (Limit quantity count) r w
 unwritten u k way before after Budget r w = by_first u k way before after Budget r w
 unwritten u k way before after Memory r w = w
+unwritten u k way before after DiskFault r w = by_first u k way before after DiskFault r w
 
 pub written : (u : Setup) (k : ℕ) (way : Way) (before after : Told) (w : List ℕ) → IsDemo u k way w → after.written ≡ grown before.written w →
     DemoCaused u k way before after Ok
@@ -141,3 +144,4 @@ demo_complete objects k way before after (Refused file place why) l h c t f = in
 demo_complete objects k way before after (Limit quantity count) l h c t f = inr (not_first objects k (Limit quantity count) l h t c.why)
 demo_complete objects k way before after Budget l h c t f = absurd c
 demo_complete objects k way before after Memory l h c t f = inr refl
+demo_complete objects k way before after DiskFault l h c t f = absurd c

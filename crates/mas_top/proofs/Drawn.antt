@@ -9,7 +9,7 @@ use Rattle.mas_io.specs.Writing.{Wrote}
 use Rattle.mas_io.specs.Causes.{Rose}
 use Rattle.mas_reading.specs.declared.sources.Source.{Source}
 use Rattle.mas_reading.specs.declared.status.Status.{Status}
-use Rattle.mas_reading.specs.declared.status.Status.TheVariants.{Ok, No, Usage, Missing, ReadFault, WriteFault, Refused, Limit, Budget, Memory}
+use Rattle.mas_reading.specs.declared.status.Status.TheVariants.{Ok, No, Usage, Missing, ReadFault, WriteFault, Refused, Limit, Budget, Memory, DiskFault}
 use Rattle.mas_reading.specs.Statuses.{whole}
 use Rattle.mas_reading.specs.Files.{HasFile, IsRefusal}
 use Rattle.mas_reading.specs.Known.{known}
@@ -28,7 +28,7 @@ some_same : {A : Type 0} {x y : A} → Some x ≡ Some y → x ≡ y
 some_same e = cc
 
 -- what the sink tells of the text
-put : (a b : Option (List ℕ)) (old new w : List ℕ) → a ≡ Some old → b ≡ Some new → b ≡ grown a w → new ≡ old ++ w
+pub put : (a b : Option (List ℕ)) (old new w : List ℕ) → a ≡ Some old → b ≡ Some new → b ≡ grown a w → new ≡ old ++ w
 put a b old new w e f g = some_same (sym f ∙ g ∙ ap (λ x. grown x w) e)
 
 -- ---- for the files that are asked for
@@ -106,7 +106,7 @@ file_not u files wanted g before after status h f (inr r) =
 
 -- ---- completeness
 
-not_refused_here : (u : Setup) (wanted : Wanted) (before after : Told) (status : Status) (files : List Filed) → before.held ≡ Some files → NoneRefused u files wanted →
+pub not_refused_here : (u : Setup) (wanted : Wanted) (before after : Told) (status : Status) (files : List Filed) → before.held ≡ Some files → NoneRefused u files wanted →
     (Rose before.shelf_faults after.shelf_faults → ⊥) → (status ≡ Memory → ⊥) →
     FileRefused u before.held wanted before.shelf_faults after.shelf_faults status → ⊥
 not_refused_here u wanted before after status files e n f m c = n status (record {
@@ -132,3 +132,4 @@ complete_file Is u wanted before after (Limit quantity count) c files e n f k =
     absurd (not_refused_here u wanted before after (Limit quantity count) files e n f (λ q. cc) c.why)
 complete_file Is u wanted before after Budget c files e n f k = inl (true, refl)
 complete_file Is u wanted before after Memory c files e n f k = inr refl
+complete_file Is u wanted before after DiskFault c files e n f k = absurd c

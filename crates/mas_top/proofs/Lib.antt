@@ -8,5 +8,6 @@ pub mod Followed
 pub mod Refusals
 pub mod Drawn
 pub mod Demos
+pub mod Recorded
 pub mod Said
 pub mod Repeats

@@ -25,7 +25,7 @@ use Rattle.mas_reading.specs.declared.status.Reason.{Reason}
 use Rattle.mas_reading.specs.declared.status.Reason.TheVariants as reason
 use Rattle.mas_reading.specs.declared.status.What.TheVariants as what
 use Rattle.mas_reading.specs.declared.status.Status.{Status}
-use Rattle.mas_reading.specs.declared.status.Status.TheVariants.{Ok, No, Usage, Missing, ReadFault, WriteFault, Refused, Limit, Budget, Memory}
+use Rattle.mas_reading.specs.declared.status.Status.TheVariants.{Ok, No, Usage, Missing, ReadFault, WriteFault, Refused, Limit, Budget, Memory, DiskFault}
 use Rattle.mas_reading.specs.Files.{Has, HasFile, IsRefusal, IsUnfetched}
 use Rattle.mas_reading.specs.Known.{known}
 use Rattle.mas_reading.specs.Sources.{HasWorld, HasRole, HasRoles, HasSource, FirstRefused, AreRefused}
@@ -96,6 +96,7 @@ unread u source name held before after (Limit what.Agents count) h = absurd h.ar
 unread u source name held before after (Limit what.Cycles count) h = absurd h.are
 unread u source name held before after Budget h = absurd h
 unread u source name held before after Memory h = tt
+unread u source name held before after DiskFault h = absurd h
 
 pub followed : (u : Setup) (held : Option (List Filed)) (source : Source) (name names : List ℕ) (spent : Bool) (w : List ℕ) →
     HasFile most_bytes held name (λ bytes. IsSchedule bytes names) → IsReplayed agent_kind u.options (opening u source) names spent w → ForSchedule u held source name spent w

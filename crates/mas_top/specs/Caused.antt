@@ -4,7 +4,7 @@ use Rattle.asl_term.specs.declared.syntax.Filed.{Filed}
 use Rattle.mas_io.specs.Told.{Told, IsUnwritten}
 use Rattle.mas_io.specs.Writing.{Wrote, WroteSome}
 use Rattle.mas_reading.specs.declared.status.Status.{Status}
-use Rattle.mas_reading.specs.declared.status.Status.TheVariants.{Ok, No, Usage, Missing, ReadFault, WriteFault, Refused, Limit, Budget, Memory}
+use Rattle.mas_reading.specs.declared.status.Status.TheVariants.{Ok, No, Usage, Missing, ReadFault, WriteFault, Refused, Limit, Budget, Memory, DiskFault}
 use Rattle.mas_top.specs.Opening.{Setup}
 use Rattle.mas_top.specs.Runs.{Wanted, Given, HasGiven, FileRefused}
 
@@ -40,3 +40,4 @@ FileCaused Is u wanted before after (Refused file place why) = IsRefusedFile u w
 FileCaused Is u wanted before after (Limit quantity count) = IsRefusedFile u wanted before after (Limit quantity count)
 FileCaused Is u wanted before after Budget = Wrote (ForFiles Is u before.held wanted true) before after
 FileCaused Is u wanted before after Memory = IsUnwritten before after
+FileCaused Is u wanted before after DiskFault = ⊥

@@ -16,7 +16,7 @@ use Rattle.mas_report.specs.declared.reading.Told.{Told}
 use Rattle.mas_report.specs.Report.{IsAnyReport, IsRenewal}
 use Rattle.mas_reading.specs.declared.sources.Source.{Source}
 use Rattle.mas_reading.specs.declared.status.Status.{Status}
-use Rattle.mas_reading.specs.declared.status.Status.TheVariants.{Ok, No, Usage, Missing, ReadFault, WriteFault, Refused, Limit, Budget, Memory}
+use Rattle.mas_reading.specs.declared.status.Status.TheVariants.{Ok, No, Usage, Missing, ReadFault, WriteFault, Refused, Limit, Budget, Memory, DiskFault}
 use Rattle.mas_reading.specs.Files.{HasFile, Reader, IsRefusal}
 use Rattle.mas_reading.specs.Known.{known}
 use Rattle.mas_reading.specs.Laws.{Surely}
@@ -138,6 +138,7 @@ ClaimCaused objects c before after (Refused file place why) = IsRefusedClaim obj
 ClaimCaused objects c before after (Limit quantity count) = IsRefusedClaim objects c before after (Limit quantity count)
 ClaimCaused objects c before after Budget = ⊥
 ClaimCaused objects c before after Memory = IsUnwritten before after
+ClaimCaused objects c before after DiskFault = ⊥
 
 -- ---- what follows, where the shelf tells its files
 

@@ -14,7 +14,7 @@ use Rattle.mas_reading.specs.Known.{known}
 use Rattle.mas_reading.specs.Sources.{HasSource, FirstRefused}
 use Rattle.mas_reading.specs.declared.sources.Source.{Source}
 use Rattle.mas_reading.specs.declared.status.Status.{Status}
-use Rattle.mas_reading.specs.declared.status.Status.TheVariants.{Ok, No, Usage, Missing, ReadFault, WriteFault, Refused, Limit, Budget, Memory}
+use Rattle.mas_reading.specs.declared.status.Status.TheVariants.{Ok, No, Usage, Missing, ReadFault, WriteFault, Refused, Limit, Budget, Memory, DiskFault}
 use Rattle.mas_top.specs.Opening.{Setup, opening}
 use Rattle.mas_top.specs.Ways.{Way, IsScheduled, Leads}
 
@@ -65,3 +65,4 @@ DemoCaused u k way before after (Refused file place why) = IsRefusedDemo u k bef
 DemoCaused u k way before after (Limit quantity count) = IsRefusedDemo u k before after (Limit quantity count)
 DemoCaused u k way before after Budget = ⊥
 DemoCaused u k way before after Memory = IsUnwritten before after
+DemoCaused u k way before after DiskFault = ⊥

@@ -21,7 +21,9 @@ use Rattle.mas_world.specs.Worlds.{Used}
 use Rattle.mas_report.specs.Limits.{defaults}
 use Rattle.mas_top.specs.Checking.{whether, anew, Claim, claim, ClaimCaused}
 use Rattle.mas_top.specs.Demo.{DemoCaused}
+use Rattle.mas_keeping.specs.declared.keep.Keeping.TheVariants.{Anew, On}
 use Rattle.mas_top.specs.Opening.{Setup, setup, opening}
+use Rattle.mas_top.specs.Recording.{Recorded, recorded, wanted_of, Lent, RecordCaused}
 use Rattle.mas_top.specs.Runs.{by_workers, by_file, Wanted, wanted, Given, HasGiven, NoneRefused}
 use Rattle.mas_top.specs.Ways.{Way, way_of, IsScheduled}
 
@@ -85,15 +87,40 @@ IsComplete u wanted before after status =
 abbrev pub ForRuns : (Setup → Wanted → Type 0) → List Used → words.Asked → Type 0
 ForRuns Holds objects (words.run project options workers pool) = Holds (setup options objects) (wanted project (by_workers workers))
 ForRuns Holds objects (words.replay project schedule options) = Holds (setup options objects) (wanted project (by_file schedule))
+ForRuns Holds objects (words.record_to project file options workers) = Unit {0}
+ForRuns Holds objects (words.resume_from project file options workers) = Unit {0}
 ForRuns Holds objects (words.check project report) = Unit {0}
 ForRuns Holds objects (words.demo count workers) = Unit {0}
 ForRuns Holds objects (words.renew project report) = Unit {0}
 ForRuns Holds objects (words.lint project) = Unit {0}
 
+-- what holds of a run that is recorded in a file, by `record` and by `resume`
+abbrev pub ForRecords : (Setup → Recorded → Type 0) → List Used → words.Asked → Type 0
+ForRecords Holds objects (words.run project options workers pool) = Unit {0}
+ForRecords Holds objects (words.replay project schedule options) = Unit {0}
+ForRecords Holds objects (words.record_to project file options workers) = Holds (setup options objects) (recorded project file Anew workers)
+ForRecords Holds objects (words.resume_from project file options workers) = Holds (setup options objects) (recorded project file On workers)
+ForRecords Holds objects (words.check project report) = Unit {0}
+ForRecords Holds objects (words.demo count workers) = Unit {0}
+ForRecords Holds objects (words.renew project report) = Unit {0}
+ForRecords Holds objects (words.lint project) = Unit {0}
+
+-- what holds of the files of a run, a replay, and a run that is recorded
+abbrev pub ForReports : (Setup → Wanted → Type 0) → List Used → words.Asked → Type 0
+ForReports Holds objects asked = ForRuns Holds objects asked × ForRecords (λ u r. Holds u (wanted_of r)) objects asked
+
+-- what holds where nothing is recorded
+abbrev pub ForOthers : Type 0 → words.Asked → Type 0
+ForOthers Holds (words.record_to project file options workers) = Unit {0}
+ForOthers Holds (words.resume_from project file options workers) = Unit {0}
+ForOthers Holds asked = Holds
+
 -- what holds of a claim that a report is that of a run, by `check` and by `renew`
 abbrev pub ForClaims : (Claim → Type 0) → words.Asked → Type 0
 ForClaims Holds (words.run project options workers pool) = Unit {0}
 ForClaims Holds (words.replay project schedule options) = Unit {0}
+ForClaims Holds (words.record_to project file options workers) = Unit {0}
+ForClaims Holds (words.resume_from project file options workers) = Unit {0}
 ForClaims Holds (words.check project report) = Holds (claim whether project report)
 ForClaims Holds (words.demo count workers) = Unit {0}
 ForClaims Holds (words.renew project report) = Holds (claim anew project report)
@@ -103,6 +130,8 @@ ForClaims Holds (words.lint project) = Unit {0}
 abbrev pub ForLints : (List ℕ → Type 0) → words.Asked → Type 0
 ForLints Holds (words.run project options workers pool) = Unit {0}
 ForLints Holds (words.replay project schedule options) = Unit {0}
+ForLints Holds (words.record_to project file options workers) = Unit {0}
+ForLints Holds (words.resume_from project file options workers) = Unit {0}
 ForLints Holds (words.check project report) = Unit {0}
 ForLints Holds (words.demo count workers) = Unit {0}
 ForLints Holds (words.renew project report) = Unit {0}
@@ -112,6 +141,8 @@ ForLints Holds (words.lint project) = Holds project
 abbrev pub ForDemos : (Setup → ℕ → Way → Type 0) → List Used → words.Asked → Type 0
 ForDemos Holds objects (words.run project options workers pool) = Unit {0}
 ForDemos Holds objects (words.replay project schedule options) = Unit {0}
+ForDemos Holds objects (words.record_to project file options workers) = Unit {0}
+ForDemos Holds objects (words.resume_from project file options workers) = Unit {0}
 ForDemos Holds objects (words.check project report) = Unit {0}
 ForDemos Holds objects (words.demo count workers) = Holds (setup defaults objects) count (way_of workers)
 ForDemos Holds objects (words.renew project report) = Unit {0}
@@ -120,15 +151,19 @@ ForDemos Holds objects (words.lint project) = Unit {0}
 -- ---- the cause of each status
 
 -- of what the words ask for
-abbrev pub AskedCaused : (Setup → Texts) → List Used → Told → Told → Status → words.Asked → Type 0
-AskedCaused Is objects before after status (words.run project options workers pool) =
+abbrev pub AskedCaused : (Setup → Texts) → List Used → Lent → Told → Told → Status → words.Asked → Type 0
+AskedCaused Is objects l before after status (words.run project options workers pool) =
     let u = setup options objects in FileCaused (Is u) u (wanted project (by_workers workers)) before after status
-AskedCaused Is objects before after status (words.replay project schedule options) =
+AskedCaused Is objects l before after status (words.replay project schedule options) =
     let u = setup options objects in FileCaused (Is u) u (wanted project (by_file schedule)) before after status
-AskedCaused Is objects before after status (words.check project report) = ClaimCaused objects (claim whether project report) before after status
-AskedCaused Is objects before after status (words.demo count workers) = DemoCaused (setup defaults objects) count (way_of workers) before after status
-AskedCaused Is objects before after status (words.renew project report) = ClaimCaused objects (claim anew project report) before after status
-AskedCaused Is objects before after status (words.lint project) = LintCaused (known objects) project before after status
+AskedCaused Is objects l before after status (words.record_to project file options workers) =
+    RecordCaused l (setup options objects) (recorded project file Anew workers) before after status
+AskedCaused Is objects l before after status (words.resume_from project file options workers) =
+    RecordCaused l (setup options objects) (recorded project file On workers) before after status
+AskedCaused Is objects l before after status (words.check project report) = ClaimCaused objects (claim whether project report) before after status
+AskedCaused Is objects l before after status (words.demo count workers) = DemoCaused (setup defaults objects) count (way_of workers) before after status
+AskedCaused Is objects l before after status (words.renew project report) = ClaimCaused objects (claim anew project report) before after status
+AskedCaused Is objects l before after status (words.lint project) = LintCaused (known objects) project before after status
 
 -- the words are not read
 pub record IsUsage (given : List (List ℕ)) (before after : Told) (status : Status) : Type 0 where
@@ -137,12 +172,12 @@ pub record IsUsage (given : List (List ℕ)) (before after : Told) (status : Sta
   pub unwritten : IsUnwritten before after
 
 -- the words ask for this alone, which is the cause
-pub record HasCause (Is : Setup → Texts) (objects : List Used) (given : List (List ℕ)) (before after : Told) (status : Status) : Type 0 where
+pub record HasCause (Is : Setup → Texts) (objects : List Used) (given : List (List ℕ)) (l : Lent) (before after : Told) (status : Status) : Type 0 where
   pub asked : words.Asked
   pub read : AskOnlyFor given asked
   pub permitted : words.IsPermitted asked
-  pub caused : AskedCaused Is objects before after status asked
+  pub caused : AskedCaused Is objects l before after status asked
 
 -- Usage exactly where the words are not read; else the cause for what they ask for
-abbrev pub WordsCaused : (Setup → Texts) → List Used → List (List ℕ) → Told → Told → Status → Type 0
-WordsCaused Is objects given before after status = IsUsage given before after status ⊎ HasCause Is objects given before after status
+abbrev pub WordsCaused : (Setup → Texts) → List Used → List (List ℕ) → Lent → Told → Told → Status → Type 0
+WordsCaused Is objects given l before after status = IsUsage given before after status ⊎ HasCause Is objects given l before after status

@@ -5,6 +5,7 @@ pub mod Runs
 pub mod Caused
 pub mod Demo
 pub mod Checking
+pub mod Recording
 pub mod Headline
 pub mod Playing
 pub mod Laws

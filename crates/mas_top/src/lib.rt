@@ -7,5 +7,6 @@ pub mod laws;
 pub mod linting;
 pub mod minds;
 pub mod playing;
+pub mod recording;
 pub mod running;
 pub mod top;

@@ -1,16 +1,18 @@
 //! The top call: what the words ask for, from the files to the report.
 
-ghost use Rattle.std.specs.Prelude.{◌≡◌, map, string_bytes};
+ghost use Rattle.std.specs.Prelude.{◌≡◌, true, is_some, map, string_bytes};
 ghost use Rattle.mas_io.specs.Told.{told_of, IsKept};
+ghost use Rattle.mas_keeping.specs.Disks.{IsFree};
 ghost use Rattle.mas_lint.specs.Linting.{IsLintComplete, Lints};
 ghost use Rattle.mas_reading.specs.Known.{known};
 ghost use Rattle.mas_report.specs.Limits.{IsWithin};
 ghost use Rattle.mas_top.specs.Caused.{FileCaused};
 ghost use Rattle.mas_top.specs.Checking.{IsClaimComplete, Judges};
 ghost use Rattle.mas_top.specs.Demo.{IsDemoComplete};
-ghost use Rattle.mas_top.specs.Headline.{AskedCaused, ForClaims, ForDemos, ForLints, ForRuns, WordsCaused};
+ghost use Rattle.mas_top.specs.Headline.{AskedCaused, ForClaims, ForDemos, ForLints, ForOthers, ForRecords, ForReports, ForRuns, WordsCaused};
 ghost use Rattle.mas_top.specs.Headline.{IsComplete, IsHeadline, IsRunReportOf, PrintsSchedule};
 ghost use Rattle.mas_top.specs.Opening.{objects_of, setup};
+ghost use Rattle.mas_top.specs.Recording.{lent, HasGoneOn, IsRecordComplete, IsSafelyLeft, KeepsPrinted};
 ghost use Rattle.mas_top.specs.Runs.{wanted, how_of, CanBe};
 ghost use Rattle.mas_words.specs.Asked as said;
 ghost use Rattle.mas_words.specs.Asked.{IsPermitted, asked_of};
@@ -20,10 +22,14 @@ use crate::checking::{Asks, print_answer};
 use crate::demo::print_demo;
 use crate::linting::print_lint;
 use crate::playing::{How, run_files};
+use crate::recording::{Recorded, print_record};
+use mas_disk::disk::Disk;
 use mas_going::gate::Gate;
 use mas_io::shelf::Shelf;
 use mas_io::sink::Sink;
 use mas_io::writing::write_all;
+use mas_keeping::keep::Keeping;
+use mas_keeping::laws::untouched;
 use mas_reading::status::{Status, whole};
 use mas_report::options::Options;
 use mas_words::asked::Asked;
@@ -65,7 +71,14 @@ fn print_files<R: Threads + Wait + Sync, S: Shelf, K: Sink, A: Artifact + Send, 
 }
 
 /// Does what is asked for.
-fn run_asked<R: Threads + Wait + Sync, S: Shelf, K: Sink, A: Artifact + Send, G: Gate + Sync>(
+fn run_asked<
+    R: Threads + Wait + Sync,
+    S: Shelf,
+    K: Sink,
+    A: Artifact + Send,
+    G: Gate + Sync,
+    D: Disk + Send,
+>(
     rt: &R,
     alloc: Global,
     asked: Asked<'_>,
@@ -73,15 +86,24 @@ fn run_asked<R: Threads + Wait + Sync, S: Shelf, K: Sink, A: Artifact + Send, G:
     sink: &mut K,
     gate: &G,
     artifacts: Vec<A>,
+    disk: &mut Option<D>,
 ) -> Status
-    requires { IsPermitted (asked_of asked) }
+    requires permitted { IsPermitted (asked_of asked) }
+    requires free { IsFree D.state disk.old }
+    ensures there { is_some disk.new ≡ true }
+    ensures on { HasGoneOn (lent D.state disk.old disk.new) }
+    ensures idle { ForOthers (disk.new ≡ disk.old) (asked_of asked.entry) }
+    ensures safe { let objects = objects_of A.named A.table A.facts artifacts.items in
+        let l = lent D.state disk.old disk.new in
+        ForRecords (λ u r. IsSafelyLeft l r) objects (asked_of asked.entry) }
     ensures untouched { let objects = objects_of A.named A.table A.facts artifacts.items in
         ForDemos (λ u count way. shelf.new ≡ shelf.old) objects (asked_of asked.entry) }
     ensures kept { let told = told_of S.holds S.faults K.written K.faults in
         IsKept (told shelf.old sink.old) (told shelf.new sink.new) }
     ensures caused { let told = told_of S.holds S.faults K.written K.faults in
         let objects = objects_of A.named A.table A.facts artifacts.items in
-        AskedCaused IsRunReportOf objects (told shelf.old sink.old) (told shelf.new sink.new) result (asked_of asked.entry) }
+        let l = lent D.state disk.old disk.new in
+        AskedCaused IsRunReportOf objects l (told shelf.old sink.old) (told shelf.new sink.new) result (asked_of asked.entry) }
 {
     match asked {
         Asked::Run {
@@ -105,6 +127,34 @@ fn run_asked<R: Threads + Wait + Sync, S: Shelf, K: Sink, A: Artifact + Send, G:
                 rt, alloc, &options, project, how, shelf, sink, gate, artifacts,
             )
         }
+        Asked::Record {
+            project,
+            file,
+            options,
+            workers,
+        } => {
+            let r = Recorded {
+                project,
+                file,
+                keeping: Keeping::Anew,
+                workers: workers as u32,
+            };
+            print_record(rt, alloc, &options, &r, shelf, sink, artifacts, disk)
+        }
+        Asked::Resume {
+            project,
+            file,
+            options,
+            workers,
+        } => {
+            let r = Recorded {
+                project,
+                file,
+                keeping: Keeping::On,
+                workers: workers as u32,
+            };
+            print_record(rt, alloc, &options, &r, shelf, sink, artifacts, disk)
+        }
         Asked::Check { project, report } => {
             let asks = Asks::Whether;
             print_answer(alloc, asks, project, report, shelf, sink, artifacts)
@@ -127,8 +177,15 @@ fn run_asked<R: Threads + Wait + Sync, S: Shelf, K: Sink, A: Artifact + Send, G:
 }
 
 /// Does what the words ask for.
-#[tactic(auto, using(crate::proofs::Said::short_words, crate::proofs::Said::left, crate::proofs::Said::left_by, crate::proofs::Said::unread))]
-fn run_read<R: Threads + Wait + Sync, S: Shelf, K: Sink, A: Artifact + Send, G: Gate + Sync>(
+#[tactic(auto, using(crate::proofs::Said::read_words))]
+fn run_read<
+    R: Threads + Wait + Sync,
+    S: Shelf,
+    K: Sink,
+    A: Artifact + Send,
+    G: Gate + Sync,
+    D: Disk + Send,
+>(
     rt: &R,
     alloc: Global,
     words: &[String],
@@ -136,8 +193,16 @@ fn run_read<R: Threads + Wait + Sync, S: Shelf, K: Sink, A: Artifact + Send, G: 
     sink: &mut K,
     gate: &G,
     artifacts: Vec<A>,
+    disk: &mut Option<D>,
 ) -> Status
-    ensures unread { AskForNothing (map string_bytes words.now) → (shelf.new ≡ shelf.old) × (sink.new ≡ sink.old) }
+    requires free { IsFree D.state disk.old }
+    ensures there { is_some disk.new ≡ true }
+    ensures on { HasGoneOn (lent D.state disk.old disk.new) }
+    ensures idle { (asked : said.Asked) → AskFor (map string_bytes words.now) asked → ForOthers (disk.new ≡ disk.old) asked }
+    ensures safe { let objects = objects_of A.named A.table A.facts artifacts.items in
+        let l = lent D.state disk.old disk.new in
+        (asked : said.Asked) → AskFor (map string_bytes words.now) asked → ForRecords (λ u r. IsSafelyLeft l r) objects asked }
+    ensures unread { AskForNothing (map string_bytes words.now) → (shelf.new ≡ shelf.old) × ((sink.new ≡ sink.old) × (disk.new ≡ disk.old)) }
     ensures untouched { let objects = objects_of A.named A.table A.facts artifacts.items in
         (asked : said.Asked) → AskFor (map string_bytes words.now) asked →
         ForDemos (λ u count way. shelf.new ≡ shelf.old) objects asked }
@@ -146,11 +211,13 @@ fn run_read<R: Threads + Wait + Sync, S: Shelf, K: Sink, A: Artifact + Send, G: 
     ensures caused { let told = told_of S.holds S.faults K.written K.faults in
         let objects = objects_of A.named A.table A.facts artifacts.items in
         let given = map string_bytes words.now in
-        WordsCaused IsRunReportOf objects given (told shelf.old sink.old) (told shelf.new sink.new) result }
+        let l = lent D.state disk.old disk.new in
+        WordsCaused IsRunReportOf objects given l (told shelf.old sink.old) (told shelf.new sink.new) result }
 {
+    untouched(&*disk);
     match take_apart(alloc, words) {
         Ok(None) => Status::Usage,
-        Ok(Some(asked)) => run_asked(rt, alloc, asked, shelf, sink, gate, artifacts),
+        Ok(Some(asked)) => run_asked(rt, alloc, asked, shelf, sink, gate, artifacts, disk),
         Err(_) => Status::Memory,
     }
 }
@@ -159,10 +226,12 @@ fn run_read<R: Threads + Wait + Sync, S: Shelf, K: Sink, A: Artifact + Send, G: 
 /// are started, which is no more than one for each agent. The words leave out the program's own name. For a run or a replay, of
 /// the files and the options that the words name, the clauses say what a report is that was written whole, by `Ok` or `Budget`,
 /// in which order the turns of its schedule are, when no fault may be answered, and the cause of each status; after a write fault
-/// a prefix of the report is written, or nothing. Of a check they are `check`, `checked` and `caused`, of a lint
-/// `lint`, `linted` and `caused`, and of a demo `demo`,
-/// `untouched` and `caused`. Words that are not read, the status of which is `Usage`, leave shelf and sink as they were.
-pub fn run_words<R: Threads + Wait + Sync, S: Shelf, K: Sink, G: Gate + Sync>(
+/// a prefix of the report is written, or nothing. Of a run that is recorded on the disk, or goes on from there, they are
+/// `headline`, `recorded`, `finished`, `safe` and `caused`: its file keeps the schedule that the report prints, and whatever a run
+/// that goes on comes to, no turn is lost that the file told. The disk is given back, and with other words nothing is done with
+/// it. Of a check they are `check`, `checked` and `caused`, of a lint `lint`, `linted` and `caused`, and of a demo `demo`,
+/// `untouched` and `caused`. Words that are not read, the status of which is `Usage`, leave shelf, sink and disk as they were.
+pub fn run_words<R: Threads + Wait + Sync, S: Shelf, K: Sink, G: Gate + Sync, D: Disk + Send>(
     rt: &R,
     alloc: Global,
     words: &[String],
@@ -170,11 +239,15 @@ pub fn run_words<R: Threads + Wait + Sync, S: Shelf, K: Sink, G: Gate + Sync>(
     sink: &mut K,
     gate: &G,
     artifacts: Vec<Box<dyn Artifact + Send>>,
+    disk: &mut Option<D>,
 ) -> Status
+    requires free { IsFree D.state disk.old }
+    ensures there { is_some disk.new ≡ true }
+    ensures on { HasGoneOn (lent D.state disk.old disk.new) }
     ensures headline { let told = told_of S.holds S.faults K.written K.faults in
         let objects = objects_of named table facts artifacts.items in
         (asked : said.Asked) → AskFor (map string_bytes words.now) asked →
-        ForRuns (λ u files. IsHeadline u files (told shelf.old sink.old) (told shelf.new sink.new) result) objects asked }
+        ForReports (λ u files. IsHeadline u files (told shelf.old sink.old) (told shelf.new sink.new) result) objects asked }
     ensures schedule { let told = told_of S.holds S.faults K.written K.faults in
         let objects = objects_of named table facts artifacts.items in
         (asked : said.Asked) → AskFor (map string_bytes words.now) asked →
@@ -183,6 +256,20 @@ pub fn run_words<R: Threads + Wait + Sync, S: Shelf, K: Sink, G: Gate + Sync>(
         let objects = objects_of named table facts artifacts.items in
         (asked : said.Asked) → AskFor (map string_bytes words.now) asked →
         ForRuns (λ u files. IsComplete u files (told shelf.old sink.old) (told shelf.new sink.new) result) objects asked }
+    ensures recorded { let told = told_of S.holds S.faults K.written K.faults in
+        let objects = objects_of named table facts artifacts.items in
+        let l = lent D.state disk.old disk.new in
+        (asked : said.Asked) → AskFor (map string_bytes words.now) asked →
+        ForRecords (λ u r. KeepsPrinted l r (told shelf.old sink.old) (told shelf.new sink.new) result) objects asked }
+    ensures finished { let told = told_of S.holds S.faults K.written K.faults in
+        let objects = objects_of named table facts artifacts.items in
+        let l = lent D.state disk.old disk.new in
+        (asked : said.Asked) → AskFor (map string_bytes words.now) asked →
+        ForRecords (λ u r. IsRecordComplete l u r (told shelf.old sink.old) (told shelf.new sink.new) result) objects asked }
+    ensures safe { let objects = objects_of named table facts artifacts.items in
+        let l = lent D.state disk.old disk.new in
+        (asked : said.Asked) → AskFor (map string_bytes words.now) asked → ForRecords (λ u r. IsSafelyLeft l r) objects asked }
+    ensures idle { (asked : said.Asked) → AskFor (map string_bytes words.now) asked → ForOthers (disk.new ≡ disk.old) asked }
     ensures check { let told = told_of S.holds S.faults K.written K.faults in
         let objects = objects_of named table facts artifacts.items in
         (asked : said.Asked) → AskFor (map string_bytes words.now) asked →
@@ -203,7 +290,7 @@ pub fn run_words<R: Threads + Wait + Sync, S: Shelf, K: Sink, G: Gate + Sync>(
         let objects = objects_of named table facts artifacts.items in
         (asked : said.Asked) → AskFor (map string_bytes words.now) asked →
         ForDemos (λ u count way. IsDemoComplete u (told shelf.old sink.old) (told shelf.new sink.new) result) objects asked }
-    ensures unread { AskForNothing (map string_bytes words.now) → (shelf.new ≡ shelf.old) × (sink.new ≡ sink.old) }
+    ensures unread { AskForNothing (map string_bytes words.now) → (shelf.new ≡ shelf.old) × ((sink.new ≡ sink.old) × (disk.new ≡ disk.old)) }
     ensures untouched { let objects = objects_of named table facts artifacts.items in
         (asked : said.Asked) → AskFor (map string_bytes words.now) asked →
         ForDemos (λ u count way. shelf.new ≡ shelf.old) objects asked }
@@ -212,7 +299,8 @@ pub fn run_words<R: Threads + Wait + Sync, S: Shelf, K: Sink, G: Gate + Sync>(
     ensures caused { let told = told_of S.holds S.faults K.written K.faults in
         let objects = objects_of named table facts artifacts.items in
         let given = map string_bytes words.now in
-        WordsCaused IsRunReportOf objects given (told shelf.old sink.old) (told shelf.new sink.new) result }
+        let l = lent D.state disk.old disk.new in
+        WordsCaused IsRunReportOf objects given l (told shelf.old sink.old) (told shelf.new sink.new) result }
 {
-    run_read(rt, alloc, words, shelf, sink, gate, artifacts)
+    run_read(rt, alloc, words, shelf, sink, gate, artifacts, disk)
 }

@@ -8,7 +8,7 @@ use Rattle.clap.specs.Takes.{default_passes, entered_passes, is_valid, settle_pa
 use Rattle.clap.specs.Walk.{Held, Row, Rule, Text, Walk, default_rows, finished, first_of}
 use Rattle.clap.specs.Walk.{has_row, is_empty, nothing_held, reading_by, settled, walk, walk_from, with_default}
 use Rattle.mas_words.specs.declared.table.Command.{Command}
-use Rattle.mas_words.specs.declared.table.Command.TheVariants.{Run, Replay, Check, Demo, Renew, Lint}
+use Rattle.mas_words.specs.declared.table.Command.TheVariants.{Run, Replay, Check, Demo, Renew, Record, Resume, Lint}
 use Rattle.mas_words.specs.declared.table.Setting.{Setting}
 use Rattle.mas_words.specs.declared.table.Setting.TheVariants.{Workers, Pool, Cycles, Lead, Depth, Tries, Level}
 use Rattle.mas_words.specs.Table.{name_count}
@@ -73,6 +73,8 @@ finished_rows Replay h = defaults_kept (rules_for Replay) (settled (rules_for Re
 finished_rows Check h = defaults_kept (rules_for Check) (settled (rules_for Check) h).rows refl
 finished_rows Demo h = defaults_kept (rules_for Demo) (settled (rules_for Demo) h).rows refl
 finished_rows Renew h = defaults_kept (rules_for Renew) (settled (rules_for Renew) h).rows refl
+finished_rows Record h = defaults_kept (rules_for Record) (settled (rules_for Record) h).rows refl
+finished_rows Resume h = defaults_kept (rules_for Resume) (settled (rules_for Resume) h).rows refl
 finished_rows Lint h = defaults_kept (rules_for Lint) (settled (rules_for Lint) h).rows refl
 
 -- ---- the whole parse
@@ -91,6 +93,8 @@ takes_level Replay words = refl
 takes_level Check words = refl
 takes_level Demo words = refl
 takes_level Renew words = refl
+takes_level Record words = refl
+takes_level Resume words = refl
 takes_level Lint words = refl
 
 level_stand : (c : Command) (words : List Text) (h : Held) (n : ℕ) → level c words (stand h n)
@@ -100,6 +104,8 @@ level_stand Replay words h n = refl
 level_stand Check words h n = refl
 level_stand Demo words h n = refl
 level_stand Renew words h n = refl
+level_stand Record words h n = refl
+level_stand Resume words h n = refl
 level_stand Lint words h n = refl
 
 matches_walk : (c : Command) (words : List Text) → matches_of (app_for c) words ≡ finished (rules_for c) (walk (rules_for c) [] nothing_held words).held
@@ -108,6 +114,8 @@ matches_walk Replay words = refl
 matches_walk Check words = refl
 matches_walk Demo words = refl
 matches_walk Renew words = refl
+matches_walk Record words = refl
+matches_walk Resume words = refl
 matches_walk Lint words = refl
 
 first_text : (id : Text) (m : Option Text) → option_and_then (λ (r : Row). slice_get r.values 0) (option_map (text_row id) m) ≡ m

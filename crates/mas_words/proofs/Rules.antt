@@ -6,7 +6,7 @@ use Rattle.clap.specs.Simple.{built, is_simple, new_rule}
 use Rattle.clap.specs.declared.builder.action.ArgAction.TheVariants.{Set}
 use Rattle.clap.specs.declared.builder.value_parser.ValueParser.TheVariants as parser
 use Rattle.mas_words.specs.declared.table.Command.{Command}
-use Rattle.mas_words.specs.declared.table.Command.TheVariants.{Run, Replay, Check, Demo, Renew, Lint}
+use Rattle.mas_words.specs.declared.table.Command.TheVariants.{Run, Replay, Check, Demo, Renew, Record, Resume, Lint}
 use Rattle.mas_words.specs.declared.table.Setting.{Setting}
 use Rattle.mas_words.specs.declared.table.Setting.TheVariants.{Workers, Pool, Cycles, Lead, Depth, Tries, Level}
 use Rattle.mas_words.specs.Table.{takes, name_count, same}
@@ -30,6 +30,8 @@ name_id Replay (suc k) = codes "schedule"
 name_id Check (suc k) = codes "report"
 name_id Demo k = codes "count"
 name_id Renew (suc k) = codes "report"
+name_id Record (suc k) = codes "file"
+name_id Resume (suc k) = codes "file"
 name_id _ _ = codes "project"
 
 abbrev pub name_built : Command → ℕ → Rule
@@ -44,6 +46,8 @@ simple Replay = refl
 simple Check = refl
 simple Demo = refl
 simple Renew = refl
+simple Record = refl
+simple Resume = refl
 simple Lint = refl
 
 pub by_long : (c : Command) (o : Setting) → takes c o ≡ true → arg_by_long (rules_for c) (id_of o) ≡ Some (option_built o)
@@ -65,6 +69,20 @@ by_long Check o e = absurd (grind arith)
 by_long Demo Workers e = refl
 by_long Demo o e = absurd (grind arith)
 by_long Renew o e = absurd (grind arith)
+by_long Record Workers e = refl
+by_long Record Pool e = absurd (grind arith)
+by_long Record Cycles e = refl
+by_long Record Lead e = refl
+by_long Record Depth e = refl
+by_long Record Tries e = refl
+by_long Record Level e = refl
+by_long Resume Workers e = refl
+by_long Resume Pool e = absurd (grind arith)
+by_long Resume Cycles e = refl
+by_long Resume Lead e = refl
+by_long Resume Depth e = refl
+by_long Resume Tries e = refl
+by_long Resume Level e = refl
 by_long Lint o e = absurd (grind arith)
 
 pub option_by_id : (c : Command) (o : Setting) → takes c o ≡ true → arg_by_id (rules_for c) (id_of o) ≡ Some (option_built o)
@@ -86,6 +104,20 @@ option_by_id Check o e = absurd (grind arith)
 option_by_id Demo Workers e = refl
 option_by_id Demo o e = absurd (grind arith)
 option_by_id Renew o e = absurd (grind arith)
+option_by_id Record Workers e = refl
+option_by_id Record Pool e = absurd (grind arith)
+option_by_id Record Cycles e = refl
+option_by_id Record Lead e = refl
+option_by_id Record Depth e = refl
+option_by_id Record Tries e = refl
+option_by_id Record Level e = refl
+option_by_id Resume Workers e = refl
+option_by_id Resume Pool e = absurd (grind arith)
+option_by_id Resume Cycles e = refl
+option_by_id Resume Lead e = refl
+option_by_id Resume Depth e = refl
+option_by_id Resume Tries e = refl
+option_by_id Resume Level e = refl
 option_by_id Lint o e = absurd (grind arith)
 
 pub by_index : (c : Command) (k : ℕ) → k < name_count c → arg_by_index (rules_for c) (1 + k) ≡ Some (name_built c k)
@@ -102,6 +134,12 @@ by_index Demo (suc k) h = absurd (omega arith)
 by_index Renew zero h = refl
 by_index Renew (suc zero) h = refl
 by_index Renew (suc (suc k)) h = absurd (omega arith)
+by_index Record zero h = refl
+by_index Record (suc zero) h = refl
+by_index Record (suc (suc k)) h = absurd (omega arith)
+by_index Resume zero h = refl
+by_index Resume (suc zero) h = refl
+by_index Resume (suc (suc k)) h = absurd (omega arith)
 by_index Lint zero h = refl
 by_index Lint (suc k) h = absurd (omega arith)
 
@@ -119,6 +157,12 @@ name_by_id Demo (suc k) h = absurd (omega arith)
 name_by_id Renew zero h = refl
 name_by_id Renew (suc zero) h = refl
 name_by_id Renew (suc (suc k)) h = absurd (omega arith)
+name_by_id Record zero h = refl
+name_by_id Record (suc zero) h = refl
+name_by_id Record (suc (suc k)) h = absurd (omega arith)
+name_by_id Resume zero h = refl
+name_by_id Resume (suc zero) h = refl
+name_by_id Resume (suc (suc k)) h = absurd (omega arith)
 name_by_id Lint zero h = refl
 name_by_id Lint (suc k) h = absurd (omega arith)
 
@@ -156,6 +200,20 @@ option_name Renew Lead (suc k) = refl
 option_name Renew Depth (suc k) = refl
 option_name Renew Tries (suc k) = refl
 option_name Renew Level (suc k) = refl
+option_name Record Workers (suc k) = refl
+option_name Record Pool (suc k) = refl
+option_name Record Cycles (suc k) = refl
+option_name Record Lead (suc k) = refl
+option_name Record Depth (suc k) = refl
+option_name Record Tries (suc k) = refl
+option_name Record Level (suc k) = refl
+option_name Resume Workers (suc k) = refl
+option_name Resume Pool (suc k) = refl
+option_name Resume Cycles (suc k) = refl
+option_name Resume Lead (suc k) = refl
+option_name Resume Depth (suc k) = refl
+option_name Resume Tries (suc k) = refl
+option_name Resume Level (suc k) = refl
 option_name _ Workers _ = refl
 option_name _ Pool _ = refl
 option_name _ Cycles _ = refl
@@ -186,6 +244,20 @@ name_option Renew Lead (suc k) = refl
 name_option Renew Depth (suc k) = refl
 name_option Renew Tries (suc k) = refl
 name_option Renew Level (suc k) = refl
+name_option Record Workers (suc k) = refl
+name_option Record Pool (suc k) = refl
+name_option Record Cycles (suc k) = refl
+name_option Record Lead (suc k) = refl
+name_option Record Depth (suc k) = refl
+name_option Record Tries (suc k) = refl
+name_option Record Level (suc k) = refl
+name_option Resume Workers (suc k) = refl
+name_option Resume Pool (suc k) = refl
+name_option Resume Cycles (suc k) = refl
+name_option Resume Lead (suc k) = refl
+name_option Resume Depth (suc k) = refl
+name_option Resume Tries (suc k) = refl
+name_option Resume Level (suc k) = refl
 name_option _ Workers _ = refl
 name_option _ Pool _ = refl
 name_option _ Cycles _ = refl
@@ -223,6 +295,20 @@ other_name Renew (suc zero) zero e h f = refl
 other_name Renew (suc zero) (suc zero) e h f = absurd (grind arith)
 other_name Renew (suc zero) (suc (suc k)) e h f = absurd (omega arith)
 other_name Renew (suc (suc j)) k e h f = absurd (omega arith)
+other_name Record zero zero e h f = absurd (grind arith)
+other_name Record zero (suc zero) e h f = refl
+other_name Record zero (suc (suc k)) e h f = absurd (omega arith)
+other_name Record (suc zero) zero e h f = refl
+other_name Record (suc zero) (suc zero) e h f = absurd (grind arith)
+other_name Record (suc zero) (suc (suc k)) e h f = absurd (omega arith)
+other_name Record (suc (suc j)) k e h f = absurd (omega arith)
+other_name Resume zero zero e h f = absurd (grind arith)
+other_name Resume zero (suc zero) e h f = refl
+other_name Resume zero (suc (suc k)) e h f = absurd (omega arith)
+other_name Resume (suc zero) zero e h f = refl
+other_name Resume (suc zero) (suc zero) e h f = absurd (grind arith)
+other_name Resume (suc zero) (suc (suc k)) e h f = absurd (omega arith)
+other_name Resume (suc (suc j)) k e h f = absurd (omega arith)
 other_name Lint zero zero e h f = absurd (grind arith)
 other_name Lint (suc j) k e h f = absurd (omega arith)
 other_name Lint zero (suc k) e h f = absurd (omega arith)
@@ -245,4 +331,8 @@ same_name Check (suc k) = refl
 same_name Demo k = refl
 same_name Renew zero = refl
 same_name Renew (suc k) = refl
+same_name Record zero = refl
+same_name Record (suc k) = refl
+same_name Resume zero = refl
+same_name Resume (suc k) = refl
 same_name Lint k = refl

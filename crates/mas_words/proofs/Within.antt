@@ -8,12 +8,12 @@ use Rattle.mas_mind.specs.declared.mind.Level.{Level}
 use Rattle.mas_report.specs.declared.options.Options.{Options}
 use Rattle.mas_report.specs.Limits.{IsFrom, IsWithin, defaults}
 use Rattle.mas_words.specs.declared.table.Command.{Command}
-use Rattle.mas_words.specs.declared.table.Command.TheVariants.{Run, Replay, Check, Demo, Renew, Lint}
+use Rattle.mas_words.specs.declared.table.Command.TheVariants.{Run, Replay, Check, Demo, Renew, Record, Resume, Lint}
 use Rattle.mas_words.specs.declared.table.Setting.{Setting}
 use Rattle.mas_words.specs.declared.table.Setting.TheVariants.{Workers, Cycles, Lead, Depth, Tries, Level as OfLevel}
 use Rattle.mas_words.specs.declared.asked.Pool.{Pool}
 use Rattle.mas_words.specs.declared.asked.Asked as code
-use Rattle.mas_words.specs.Asked.{Asked, replay, asked_by, asked_of, run_with, demo_with, options_with, options_for, workers_for, pool_for, number_for, level_for, IsPermitted}
+use Rattle.mas_words.specs.Asked.{Asked, replay, record_to, resume_from, asked_by, asked_of, run_with, recorded_with, demo_with, options_with, options_for, workers_for, pool_for, number_for, level_for, IsPermitted}
 use Rattle.mas_words.specs.Numbers.{number_in, within, digits_from, starts_number}
 use Rattle.mas_words.specs.Words.{Said, silence, text_for, words_said, finished, asked, asked_after}
 use Rattle.mas_words.specs.Plain.{AreRead}
@@ -67,6 +67,13 @@ run_within project (Some o) None l p q = tt
 run_within project (Some o) (Some w) None p q = tt
 run_within project (Some o) (Some w) (Some l) p q = (p, q)
 
+recorded_within : (ask : Options → ℕ → Asked) (o : Option Options) (w : Option ℕ)
+    → ((options : Options) (workers : ℕ) → IsWithin options × IsFrom 1 64 workers → IsPermitted (ask options workers))
+    → IfSome o IsWithin → IfSome w (IsFrom 1 64) → IfSome (recorded_with ask o w) IsPermitted
+recorded_within ask None w h p q = tt
+recorded_within ask (Some o) None h p q = tt
+recorded_within ask (Some o) (Some w) h p q = h o w (p, q)
+
 demo_within : (k w : Option ℕ) → IfSome k (IsFrom 1 200) → IfSome w (IsFrom 1 64) → IfSome (demo_with k w) IsPermitted
 demo_within None w p q = tt
 demo_within (Some k) None p q = tt
@@ -95,6 +102,14 @@ by_within Renew (n ∷ m ∷ []) text = tt
 by_within Renew [] text = tt
 by_within Renew (n ∷ []) text = tt
 by_within Renew (n ∷ m ∷ k ∷ ns) text = tt
+by_within Record (n ∷ m ∷ []) text = recorded_within (record_to n m) (options_for text) (workers_for text) (λ o w p. p) (options_within text) (workers_within text)
+by_within Record [] text = tt
+by_within Record (n ∷ []) text = tt
+by_within Record (n ∷ m ∷ k ∷ ns) text = tt
+by_within Resume (n ∷ m ∷ []) text = recorded_within (resume_from n m) (options_for text) (workers_for text) (λ o w p. p) (options_within text) (workers_within text)
+by_within Resume [] text = tt
+by_within Resume (n ∷ []) text = tt
+by_within Resume (n ∷ m ∷ k ∷ ns) text = tt
 by_within Lint (n ∷ []) text = tt
 by_within Lint [] text = tt
 by_within Lint (n ∷ m ∷ ns) text = tt

@@ -3,9 +3,9 @@ use Rattle.std.specs.Prelude.{ℕ, true, List, [], ◌∷◌, codes, drop, map, 
 use Rattle.clap.specs.Walk.{Rule}
 use Rattle.clap.specs.Simple.{App, new_app, new_rule, with_rule, on_top}
 use Rattle.mas_words.specs.declared.table.Command.{Command}
-use Rattle.mas_words.specs.declared.table.Command.TheVariants.{Run, Replay, Check, Demo, Renew, Lint}
+use Rattle.mas_words.specs.declared.table.Command.TheVariants.{Run, Replay, Check, Demo, Renew, Record, Resume, Lint}
 use Rattle.mas_words.specs.declared.table.Setting.{Setting}
-use Rattle.mas_words.specs.Table.{key, form}
+use Rattle.mas_words.specs.Table.{key, form, run_settings}
 
 -- an option's word without its two hyphens
 abbrev pub id_of : Setting → List ℕ
@@ -24,6 +24,8 @@ name_ids Replay = codes "project" ∷ codes "schedule" ∷ []
 name_ids Check = codes "project" ∷ codes "report" ∷ []
 name_ids Demo = codes "count" ∷ []
 name_ids Renew = codes "project" ∷ codes "report" ∷ []
+name_ids Record = codes "project" ∷ codes "file" ∷ []
+name_ids Resume = codes "project" ∷ codes "file" ∷ []
 name_ids Lint = codes "project" ∷ []
 
 abbrev pub bare : List ℕ → App
@@ -33,9 +35,12 @@ abbrev pub with_rules : App → List Rule → App
 with_rules a [] = a
 with_rules a (r ∷ rs) = with_rules (with_rule a r) rs
 
-abbrev pub app_for : Command → App
-app_for c = with_rules (with_rules (bare (form c).word) (map new_rule (name_ids c))) (map option_rule (form c).options)
+-- a command with the names and the options of this one
+abbrev pub app_like : Command → List ℕ → App
+app_like c word = with_rules (with_rules (bare word) (map new_rule (name_ids c))) (map option_rule (form c).options)
 
--- the options of a run, but for the workers
+abbrev pub app_for : Command → App
+app_for c = app_like c (form c).word
+
 abbrev pub run_rules : List Rule
-run_rules = map option_rule (form Replay).options
+run_rules = map option_rule run_settings

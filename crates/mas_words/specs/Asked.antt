@@ -6,7 +6,7 @@ use Rattle.mas_mind.specs.declared.mind.Level.TheVariants as level
 use Rattle.mas_report.specs.declared.options.Options.{Options}
 use Rattle.mas_report.specs.Limits.{IsFrom, IsWithin, defaults}
 use Rattle.mas_words.specs.declared.table.Command.{Command}
-use Rattle.mas_words.specs.declared.table.Command.TheVariants.{Run, Replay, Check, Demo, Renew, Lint}
+use Rattle.mas_words.specs.declared.table.Command.TheVariants.{Run, Replay, Check, Demo, Renew, Record, Resume, Lint}
 use Rattle.mas_words.specs.declared.table.Setting.{Setting}
 use Rattle.mas_words.specs.declared.table.Setting.TheVariants.{Workers, Pool as OfPool, Cycles, Lead, Depth, Tries, Level as OfLevel}
 use Rattle.mas_words.specs.declared.asked.Pool.{Pool}
@@ -16,14 +16,16 @@ use Rattle.mas_words.specs.declared.asked.Asked.TheVariants as code_variant
 use Rattle.mas_words.specs.Numbers.{number_in}
 
 -- a run of a project by so many workers from this pool, a replay of it along a schedule, whether a report is that of a run of a
--- project, a demonstration with so many agents and workers, the report of a run of a project anew, and whether a project's goals
--- are covered
+-- project, a demonstration with so many agents and workers, the report of a run of a project anew, a run whose turns are written to
+-- a file, the run of which a file has the first turns, and whether a project's goals are covered
 pub data Asked : Type 0 where
   run : List ℕ → Options → ℕ → Pool → Asked
   replay : List ℕ → List ℕ → Options → Asked
   check : List ℕ → List ℕ → Asked
   demo : ℕ → ℕ → Asked
   renew : List ℕ → List ℕ → Asked
+  record_to : List ℕ → List ℕ → Options → ℕ → Asked
+  resume_from : List ℕ → List ℕ → Options → ℕ → Asked
   lint : List ℕ → Asked
 
 -- ---- what the texts of options say; None where it is not permitted
@@ -75,6 +77,10 @@ abbrev pub run_with : List ℕ → Option Options → Option ℕ → Option Pool
 run_with project (Some options) (Some workers) (Some pool) = Some (run project options workers pool)
 run_with project _ _ _ = None
 
+abbrev pub recorded_with : (Options → ℕ → Asked) → Option Options → Option ℕ → Option Asked
+recorded_with ask (Some options) (Some workers) = Some (ask options workers)
+recorded_with ask _ _ = None
+
 abbrev pub demo_with : Option ℕ → Option ℕ → Option Asked
 demo_with (Some count) (Some workers) = Some (demo count workers)
 demo_with _ _ = None
@@ -86,6 +92,8 @@ asked_by Replay (project ∷ schedule ∷ []) text = option_map (replay project 
 asked_by Check (project ∷ report ∷ []) text = Some (check project report)
 asked_by Demo (count ∷ []) text = demo_with (number_in 1 200 count) (workers_for text)
 asked_by Renew (project ∷ report ∷ []) text = Some (renew project report)
+asked_by Record (project ∷ file ∷ []) text = recorded_with (record_to project file) (options_for text) (workers_for text)
+asked_by Resume (project ∷ file ∷ []) text = recorded_with (resume_from project file) (options_for text) (workers_for text)
 asked_by Lint (project ∷ []) text = Some (lint project)
 asked_by _ _ text = None
 
@@ -96,6 +104,8 @@ IsPermitted (replay project schedule options) = IsWithin options
 IsPermitted (check project report) = Unit {0}
 IsPermitted (demo count workers) = IsFrom 1 200 count × IsFrom 1 64 workers
 IsPermitted (renew project report) = Unit {0}
+IsPermitted (record_to project file options workers) = IsWithin options × IsFrom 1 64 workers
+IsPermitted (resume_from project file options workers) = IsWithin options × IsFrom 1 64 workers
 IsPermitted (lint project) = Unit {0}
 
 -- ---- how the code holds it
@@ -106,4 +116,6 @@ asked_of (code_variant.Replay project schedule options) = replay project.now sch
 asked_of (code_variant.Check project report) = check project.now report.now
 asked_of (code_variant.Demo count workers) = demo count workers
 asked_of (code_variant.Renew project report) = renew project.now report.now
+asked_of (code_variant.Record project file options workers) = record_to project.now file.now options workers
+asked_of (code_variant.Resume project file options workers) = resume_from project.now file.now options workers
 asked_of (code_variant.Lint project) = lint project.now

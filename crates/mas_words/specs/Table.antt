@@ -2,7 +2,7 @@
 use Rattle.std.specs.Prelude.{ℕ, Bool, true, false, List, [], ◌∷◌, codes, if◌then◌else◌, Option, find}
 use Rattle.std.specs.Str.{bytes_eq}
 use Rattle.mas_words.specs.declared.table.Command.{Command}
-use Rattle.mas_words.specs.declared.table.Command.TheVariants.{Run, Replay, Check, Demo, Renew, Lint}
+use Rattle.mas_words.specs.declared.table.Command.TheVariants.{Run, Replay, Check, Demo, Renew, Record, Resume, Lint}
 use Rattle.mas_words.specs.declared.table.Setting.{Setting}
 use Rattle.mas_words.specs.declared.table.Setting.TheVariants.{Workers, Pool, Cycles, Lead, Depth, Tries, Level}
 
@@ -12,19 +12,25 @@ pub record Form : Type 0 where
   pub names : ℕ
   pub options : List Setting
 
+-- the options of each run, whoever makes its turns
+abbrev pub run_settings : List Setting
+run_settings = Cycles ∷ Lead ∷ Depth ∷ Tries ∷ Level ∷ []
+
 abbrev pub settings : List Setting
-settings = Workers ∷ Pool ∷ Cycles ∷ Lead ∷ Depth ∷ Tries ∷ Level ∷ []
+settings = Workers ∷ Pool ∷ run_settings
 
 abbrev pub form : Command → Form
 form Run = record { word = codes "run"; names = 1; options = settings }
-form Replay = record { word = codes "replay"; names = 2; options = Cycles ∷ Lead ∷ Depth ∷ Tries ∷ Level ∷ [] }
+form Replay = record { word = codes "replay"; names = 2; options = run_settings }
 form Check = record { word = codes "check"; names = 2; options = [] }
 form Demo = record { word = codes "demo"; names = 1; options = Workers ∷ [] }
 form Renew = record { word = codes "renew"; names = 2; options = [] }
+form Record = record { word = codes "record"; names = 2; options = Workers ∷ run_settings }
+form Resume = record { word = codes "resume"; names = 2; options = Workers ∷ run_settings }
 form Lint = record { word = codes "lint"; names = 1; options = [] }
 
 abbrev pub commands : List Command
-commands = Run ∷ Replay ∷ Check ∷ Demo ∷ Renew ∷ Lint ∷ []
+commands = Run ∷ Replay ∷ Check ∷ Demo ∷ Renew ∷ Record ∷ Resume ∷ Lint ∷ []
 
 abbrev pub command_of : List ℕ → Option Command
 command_of word = find (λ c. bytes_eq word (form c).word) commands

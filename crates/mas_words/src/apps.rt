@@ -29,7 +29,7 @@ fn with_option<'a>(alloc: Global, app: App<'a>, id: &'a str) -> Result<App<'a>, 
     app.arg(Arg::new(alloc, id).long(id))
 }
 
-/// The options of a run, but for the workers.
+/// The options of each run.
 fn with_options<'a>(alloc: Global, app: App<'a>) -> Result<App<'a>, AllocError>
     ensures { IfOk result (λ a. app_of a ≡ spec.with_rules (app_of app.entry) spec.run_rules) }
 {
@@ -96,6 +96,19 @@ fn renew_app<'a>(alloc: Global) -> Result<App<'a>, AllocError>
     }
 }
 
+/// The command of this word, for a run whose turns are on a file.
+fn recorded_app<'a>(alloc: Global, word: &'a str) -> Result<App<'a>, AllocError>
+    ensures { IfOk result (λ a. app_of a ≡ spec.app_like Command.Record word.entry.now) }
+{
+    let app = with_name(alloc, bare(alloc, word), "project")?;
+    let app = with_name(alloc, app, "file")?;
+    let app = with_option(alloc, app, "workers")?;
+    match with_options(alloc, app) {
+        Ok(app) => Ok(app),
+        Err(error) => Err(error),
+    }
+}
+
 fn lint_app<'a>(alloc: Global) -> Result<App<'a>, AllocError>
     ensures { IfOk result (λ a. app_of a ≡ spec.app_for Command.Lint) }
 {
@@ -115,6 +128,8 @@ pub fn app_for<'a>(alloc: Global, command: Command) -> Result<App<'a>, AllocErro
         Command::Check => check_app(alloc),
         Command::Demo => demo_app(alloc),
         Command::Renew => renew_app(alloc),
+        Command::Record => recorded_app(alloc, "record"),
+        Command::Resume => recorded_app(alloc, "resume"),
         Command::Lint => lint_app(alloc),
     }
 }

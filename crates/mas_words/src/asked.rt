@@ -42,6 +42,20 @@ pub enum Asked<'a> {
         project: &'a [u8],
         report: &'a [u8],
     },
+    /// A run of the project by so many workers, each turn of which is written to the file.
+    Record {
+        project: &'a [u8],
+        file: &'a [u8],
+        options: Options,
+        workers: u64,
+    },
+    /// The run of the project of which the file has the first turns, to its end.
+    Resume {
+        project: &'a [u8],
+        file: &'a [u8],
+        options: Options,
+        workers: u64,
+    },
     /// Whether each goal of the project has a plan that covers it.
     Lint {
         project: &'a [u8],

@@ -10,6 +10,8 @@ pub enum Command {
     Check,
     Demo,
     Renew,
+    Record,
+    Resume,
     Lint,
 }
 
@@ -43,6 +45,12 @@ pub fn command_of(word: &[u8]) -> Option<Command>
     }
     if word == b"renew".as_slice() {
         return Some(Command::Renew);
+    }
+    if word == b"record".as_slice() {
+        return Some(Command::Record);
+    }
+    if word == b"resume".as_slice() {
+        return Some(Command::Resume);
     }
     if word == b"lint".as_slice() {
         return Some(Command::Lint);
@@ -88,6 +96,8 @@ pub fn takes(command: Command, setting: Setting) -> bool
         Command::Check => false,
         Command::Demo => matches!(setting, Setting::Workers),
         Command::Renew => false,
+        Command::Record => !matches!(setting, Setting::Pool),
+        Command::Resume => !matches!(setting, Setting::Pool),
         Command::Lint => false,
     }
 }
@@ -102,6 +112,8 @@ pub fn name_count(command: Command) -> u64
         Command::Check => 2,
         Command::Demo => 1,
         Command::Renew => 2,
+        Command::Record => 2,
+        Command::Resume => 2,
         Command::Lint => 1,
     }
 }

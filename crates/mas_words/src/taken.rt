@@ -78,6 +78,8 @@ fn said_by<'a>(command: Command, matches: &ArgMatches<'a>) -> Said<'a>
         Command::Check => (text_of(matches, "project"), text_of(matches, "report")),
         Command::Demo => (text_of(matches, "count"), None),
         Command::Renew => (text_of(matches, "project"), text_of(matches, "report")),
+        Command::Record => (text_of(matches, "project"), text_of(matches, "file")),
+        Command::Resume => (text_of(matches, "project"), text_of(matches, "file")),
         Command::Lint => (text_of(matches, "project"), None),
     };
     Said {

@@ -123,6 +123,34 @@ fn to_replay<'a>(project: &'a [u8], schedule: &'a [u8], given: &Given<'a>) -> Op
     })
 }
 
+fn to_record<'a>(project: &'a [u8], file: &'a [u8], given: &Given<'a>) -> Option<Asked<'a>>
+    ensures { let text = text_for (given_of given.now) in
+        option_map asked_of result ≡ spec.recorded_with (spec.record_to project.now file.now) (spec.options_for text) (spec.workers_for text) }
+{
+    let options = options_for(given)?;
+    let workers = workers_for(given)?;
+    Some(Asked::Record {
+        project,
+        file,
+        options,
+        workers,
+    })
+}
+
+fn to_resume<'a>(project: &'a [u8], file: &'a [u8], given: &Given<'a>) -> Option<Asked<'a>>
+    ensures { let text = text_for (given_of given.now) in
+        option_map asked_of result ≡ spec.recorded_with (spec.resume_from project.now file.now) (spec.options_for text) (spec.workers_for text) }
+{
+    let options = options_for(given)?;
+    let workers = workers_for(given)?;
+    Some(Asked::Resume {
+        project,
+        file,
+        options,
+        workers,
+    })
+}
+
 fn to_demo<'a>(count: &[u8], given: &Given<'a>) -> Option<Asked<'a>>
     ensures { option_map asked_of result ≡ spec.demo_with (number_in 1 200 count.now) (spec.workers_for (text_for (given_of given.now))) }
 {
@@ -143,6 +171,8 @@ pub fn asked_by<'a>(command: Command, said: &Said<'a>) -> Option<Asked<'a>>
         (Command::Check, Some(project), Some(report)) => Some(Asked::Check { project, report }),
         (Command::Demo, Some(count), None) => to_demo(count, &said.given),
         (Command::Renew, Some(project), Some(report)) => Some(Asked::Renew { project, report }),
+        (Command::Record, Some(project), Some(file)) => to_record(project, file, &said.given),
+        (Command::Resume, Some(project), Some(file)) => to_resume(project, file, &said.given),
         (Command::Lint, Some(project), None) => Some(Asked::Lint { project }),
         _ => None,
     }

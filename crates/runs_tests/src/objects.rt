@@ -6,6 +6,7 @@ use asl_term::room::Roomy;
 use asl_term::sequence::{Seq, Starved};
 use asl_term::syntax::{Filed, Files, Text};
 use env_file::fault::WorldFault;
+use mas_disks::memory::memory_disk;
 use mas_going::gate::OpenGate;
 use mas_io::memory::{memory_shelf, memory_sink};
 use mas_reading::status::fault_line;
@@ -75,7 +76,10 @@ fn told<R: Threads + Wait + Sync>(
     let mut room = Roomy::new(alloc);
     room.reserve(10_000)?;
     let mut sink = memory_sink(room, 10_000, Seq::new(alloc));
-    let status = run_words(rt, alloc, &words, &mut shelf, &mut sink, &OpenGate, all);
+    let mut disk = Some(memory_disk(alloc, Seq::new(alloc), Seq::new(alloc))?);
+    let status = run_words(
+        rt, alloc, &words, &mut shelf, &mut sink, &OpenGate, all, &mut disk,
+    );
     let mut out = text_of(alloc, sink.written())?;
     out.append(fault_line(alloc, &status)?.as_slice())?;
     Ok(out)

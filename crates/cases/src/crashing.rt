@@ -1,0 +1,125 @@
+//! Runs that are recorded on disks that fail, and gone on from what crashes leave.
+
+use crate::comparing::held;
+use crate::form::{Desk, Given};
+use crate::running::{Done, copy_files, is_again, left, make};
+use asl_term::copying::text_of;
+use asl_term::room::Roomy;
+use asl_term::sequence::{Seq, Starved};
+use asl_term::syntax::{Files, Text};
+use mas_disks::memory::{MemoryDisk, memory_disk};
+use mas_io::memory::{memory_shelf, memory_sink};
+use mas_reading::status::code;
+use std::sync::Wait;
+use std::thread::Threads;
+
+/// How a recorded run ended, by its code, what it wrote, and its disk.
+#[derive(Drop)]
+struct Came {
+    status: u8,
+    written: Text,
+    disk: Option<MemoryDisk>,
+}
+
+/// Calls these words over these files and a disk of these, whose call of that number fails; none fails where it is 0.
+fn call<R: Threads + Wait + Sync>(
+    rt: &R,
+    words: &[String],
+    files: &Files,
+    disk: Files,
+    fails: u64,
+    desk: &mut Desk,
+) -> Result<Came, Starved> {
+    let mut numbers = Seq::new(desk.alloc);
+    if fails > 0 {
+        numbers.push(fails)?;
+    }
+    let mut disk = Some(memory_disk(desk.alloc, disk, numbers)?);
+    let mut shelf = memory_shelf(copy_files(files, desk), Seq::new(desk.alloc));
+    let mut room = Roomy::new(desk.alloc);
+    room.reserve(1_000_000)?;
+    let mut sink = memory_sink(room, 1_000_000, Seq::new(desk.alloc));
+    let status = make(rt, desk.alloc, words, &mut shelf, &mut sink, &mut disk)?;
+    let written = text_of(desk.alloc, sink.written())?;
+    Ok(Came {
+        status: code(&status),
+        written,
+        disk,
+    })
+}
+
+fn is_whole(came: &Came) -> bool {
+    came.status == 0 || came.status == 8
+}
+
+/// These words with another command.
+fn with_command(words: &[String], command: &str, desk: &mut Desk) -> Vec<String> {
+    let mut all = Vec::new(desk.alloc);
+    desk.put_word(command, &mut all);
+    for word in words.iter().skip(1) {
+        desk.put_word(word.as_str(), &mut all);
+    }
+    all
+}
+
+/// Whether a run that goes on from these files of a disk comes to its end, its schedule is legal, and its file tells it whole: what
+/// goes on from there writes the same. Where the file has no whole header, the run is refused.
+fn goes_on<R: Threads + Wait + Sync>(
+    rt: &R,
+    words: &[String],
+    files: &Files,
+    disk: Files,
+    reason: &mut Text,
+    desk: &mut Desk,
+) -> Result<bool, Starved> {
+    let name = match words.get(2) {
+        Some(name) => name.as_str().as_bytes(),
+        None => &[],
+    };
+    let begun = held(&disk, name).unwrap_or(&[]).starts_with(b"JASREC1\n");
+    let came = call(rt, words, files, disk, 0, desk)?;
+    if !is_whole(&came) {
+        return Ok(!begun && (came.status == 3 || came.status == 6));
+    }
+    let done = Done {
+        status: came.status,
+        written: came.written.as_slice(),
+    };
+    if !is_again(rt, words, files, &done, reason, desk)? {
+        return Ok(false);
+    }
+    let kept = left(desk.alloc, &came.disk, 0)?;
+    let again = call(rt, words, files, kept, 0, desk)?;
+    Ok(again.status == came.status && again.written.as_slice() == came.written.as_slice())
+}
+
+/// Whether the recorded run of a case outlives a fault of each call of its disk: it goes on from what a crash leaves, whatever of the
+/// last changes the crash keeps, up to the number that the case tells. If not, why, in `reason`.
+pub fn survives<R: Threads + Wait + Sync>(
+    rt: &R,
+    given: &Given,
+    reason: &mut Text,
+    desk: &mut Desk,
+) -> Result<bool, Starved> {
+    if given.crashes == 0 {
+        return Ok(true);
+    }
+    let record = given.words.as_slice();
+    let resume = with_command(record, "resume", desk);
+    for fails in 1..1_000_000u64 {
+        let came = call(rt, record, &given.files, Seq::new(desk.alloc), fails, desk)?;
+        if is_whole(&came) {
+            return Ok(true);
+        }
+        for kept in 0..given.crashes {
+            let disk = left(desk.alloc, &came.disk, kept)?;
+            reason.truncate(0);
+            if !goes_on(rt, resume.as_slice(), &given.files, disk, reason, desk)? {
+                desk.put_named(" call ", fails, reason);
+                desk.put_named(" of the disk fails, changes kept: ", kept, reason);
+                return Ok(false);
+            }
+        }
+    }
+    Ok(false)
+}

@@ -1,0 +1,4 @@
+//! The reports of recorded runs.
+#![tactic(auto)]
+
+pub mod report;
