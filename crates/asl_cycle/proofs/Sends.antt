@@ -96,7 +96,7 @@ library_send = view_send library_inside.the_row _ _ _ _ (declared_send library_i
 store_send : IsSend store.the_row
 store_send = view_send store_inside.the_row _ _ _ _ (declared_send store_inside.the_type (
   search (sendable, as_row_send, seq_send, literal.the_field_send, literal.the_send, term_send) depth 14,
-  (frames_send, (keys_send, (search sendable, tt))),
+  (frames_send, (keys_send, (search sendable, (search (sendable, as_row_send, seq_send) depth 14, tt)))),
 ))
 
 indexed_send : IsSend indexed.the_row

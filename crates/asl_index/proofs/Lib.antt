@@ -7,3 +7,4 @@ pub mod Walking
 pub mod Forgetting
 pub mod Packs
 pub mod Quiet
+pub mod Perceiving

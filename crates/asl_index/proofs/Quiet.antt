@@ -13,10 +13,10 @@ use Rattle.asl_beliefs.specs.Laws.{perceived, all_same_belief, are_perceived}
 use Rattle.asl_index.specs.Hits.{IsPassed}
 use Rattle.asl_index.proofs.Filing.{Slots}
 
-abbrev Ls : Type 0
+abbrev pub Ls : Type 0
 Ls = List (LiteralOf Term)
 
-drop_next : (ps : Ls) (n : ℕ) (p : LiteralOf Term) → slice_get ps n ≡ Some p → drop n ps ≡ p ∷ drop (suc n) ps
+pub drop_next : (ps : Ls) (n : ℕ) (p : LiteralOf Term) → slice_get ps n ≡ Some p → drop n ps ≡ p ∷ drop (suc n) ps
 drop_next [] n p e = cc
 drop_next (q ∷ ps) zero p e = let is : q ≡ p = cc in ap (λ w. w ∷ ps) is
 drop_next (q ∷ ps) (suc n) p e = drop_next ps n p e

@@ -1,4 +1,5 @@
 pub mod Store
+pub mod Noted
 pub mod Rules
 pub mod Hits
 pub mod Packing

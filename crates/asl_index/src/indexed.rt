@@ -8,14 +8,14 @@ use crate::finding::{body_of, count_of, head_pairs_of, heads_of, is_rule_at};
 use crate::rules::file_rules;
 use crate::store::Store;
 use crate::taking::{abolish_from, remove_from};
-use crate::updating::{add_initial, replace_in, update_in};
+use crate::updating::{add_initial, are_known, replace_in, update_in};
 use asl_beliefs::base::BeliefBase;
 use asl_beliefs::clauses::{are_ground, copy_clauses};
 use asl_beliefs::removed::{BeliefFault, Removed};
 use asl_beliefs::updating::as_percepts;
 use asl_places::frames::Frames;
 use asl_term::measure::ground_literal;
-use asl_term::sequence::Starved;
+use asl_term::sequence::{Seq, Starved};
 use asl_term::syntax::{AgentText, Clauses, Expr, Literal, Literals, Trigger, Triggers};
 use asl_unify::facts::Facts;
 use asl_unify::matching::Substs;
@@ -187,6 +187,14 @@ impl BeliefBase for Indexed {
         percepts: &Literals,
     ) -> Result<Triggers, BeliefFault> {
         let own = &mut self.store;
+        match are_known(alloc, own, percepts.as_slice()) {
+            Ok(known) => {
+                if known {
+                    return Ok(Seq::new(alloc));
+                }
+            }
+            Err(_) => return Err(BeliefFault::Memory),
+        }
         let Ok(marked) = as_percepts(alloc, percepts.as_slice()) else {
             return Err(BeliefFault::Memory);
         };

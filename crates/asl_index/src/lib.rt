@@ -4,6 +4,7 @@
 pub mod adding;
 pub mod finding;
 pub mod indexed;
+pub mod noted;
 pub mod opening;
 pub mod rules;
 pub mod slots;

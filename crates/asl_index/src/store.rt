@@ -1,6 +1,6 @@
 //! Beliefs in their order, found by sign, functor and number of arguments, or by sign, functor and arguments.
 
-ghost use Rattle.std.specs.Prelude.{◌≡◌, ◌<◌, ◌-◌, ◌^◌, ◌++◌, ◌∷◌, [], true, false, Some, None, length, filter, slice_get, slice_set, OnOk, OnErr};
+ghost use Rattle.std.specs.Prelude.{◌≡◌, ◌<◌, ◌-◌, ◌^◌, ◌++◌, ◌∷◌, [], true, false, Some, None, length, filter, slice_get, slice_set, IfSome, OnOk, OnErr};
 ghost use Rattle.std.specs.Option.{option_copied, option_map_or, is_some};
 ghost use Rattle.asl_term.specs.declared.syntax.LiteralOf.{LiteralOf};
 ghost use Rattle.asl_term.specs.declared.syntax.Term.{Term};
@@ -9,14 +9,16 @@ ghost use Rattle.asl_beliefs.specs.Changes as spec;
 ghost use Rattle.asl_beliefs.specs.Sources.{with_annots};
 ghost use Rattle.asl_places.specs.Slots.{at_slot, kept, places};
 ghost use Rattle.asl_index.specs.Store.{AreFiled, AreListed, IsHeld};
+ghost use Rattle.asl_index.specs.Noted.{is_perceived};
 
+use crate::noted::{either, may_be_perceived, may_hold, perceived_places, unless};
 use crate::slots::{Slots, filed_again, held, pack};
 use asl_beliefs::same::same_belief;
 use asl_places::frames::Frames;
 use asl_places::keys::Keys;
 use asl_places::prints::literal_print;
 use asl_term::sequence::{Seq, Starved};
-use asl_term::syntax::{Literal, Terms};
+use asl_term::syntax::{Literal, Numbers, Terms};
 use std::alloc::Global;
 use std::marker::Model;
 
@@ -30,6 +32,8 @@ pub struct Store {
     frames: Frames,
     keys: Keys,
     emptied: u64,
+    /// The places of what was perceived, as long as nothing of it has changed since they were noted.
+    noted: Option<Numbers>,
 }
 
 impl Model for Store {
@@ -38,6 +42,7 @@ impl Model for Store {
     ghost use Rattle.asl_term.specs.declared.syntax.Term.{Term};
     ghost use Rattle.asl_term.specs.contracts.syntax.Term as term;
     ghost use Rattle.asl_index.specs.Store.{AreFiled, AreListed};
+    ghost use Rattle.asl_index.specs.Noted.{AreNoted};
     ghost use Rattle.std.specs.Coded.{codes};
 
     ghost Value = { List (Option (LiteralOf Term)) };
@@ -46,7 +51,7 @@ impl Model for Store {
 
     ghost view = { λ s. s.slots };
 
-    ghost invariant = { λ s. AreFiled s.slots s.frames × AreListed s.slots s.keys };
+    ghost invariant = { λ s. AreFiled s.slots s.frames × (AreListed s.slots s.keys × AreNoted s.slots s.noted) };
 }
 
 impl Store {
@@ -59,6 +64,7 @@ impl Store {
             frames: Frames::new(alloc),
             keys: Keys::new(alloc),
             emptied: 0,
+            noted: None,
         }
     }
 
@@ -126,6 +132,7 @@ impl Store {
             &mut self.keys,
             &b,
         )?;
+        self.noted = unless(self.noted.take(), may_hold(b.annots.as_slice()));
         *self.slots.at_mut(place) = Some(b);
         Ok(())
     }
@@ -135,9 +142,12 @@ impl Store {
         requires { is_some (at_slot self.old k) ≡ true }
         ensures { (b : LiteralOf Term) → at_slot self.old k ≡ Some b → self.new ≡ slice_set self.old k (Some (with_annots b annots)) }
     {
+        let after = may_hold(annots.as_slice());
         match self.slots.at_mut(k) {
             Some(b) => {
+                let before = may_hold(b.annots.as_slice());
                 b.annots = annots;
+                self.noted = unless(self.noted.take(), either(before, after));
             }
             None => unreachable!(),
         }
@@ -151,7 +161,13 @@ impl Store {
         ensures err { OnErr result (self.new ≡ self.old) }
     {
         match self.slots.at_mut(k) {
-            Some(b) => b.annots.append_all(more),
+            Some(b) => {
+                let before = may_hold(b.annots.as_slice());
+                let grown = b.annots.append_all(more);
+                let after = may_hold(b.annots.as_slice());
+                self.noted = unless(self.noted.take(), either(before, after));
+                grown
+            }
             None => unreachable!(),
         }
     }
@@ -162,9 +178,29 @@ impl Store {
         ensures belief { result ≡ at_slot self.old k }
         ensures slots { self.new ≡ slice_set self.old k None }
     {
+        let changed = may_be_perceived(self.slots.as_slice(), k);
         unfile(self.slots.as_slice(), &mut self.frames, &mut self.keys, k);
+        self.noted = unless(self.noted.take(), changed);
         self.emptied = self.emptied.saturating_add(1);
         self.slots.at_mut(k).take()
+    }
+
+    /// Notes the places of what was perceived, where they are not noted. Where memory is wanting nothing is noted.
+    pub fn note(&mut self, alloc: Global)
+        ensures { self.new ≡ self.old }
+    {
+        if self.noted.is_none() {
+            if let Ok(ps) = perceived_places(alloc, self.slots.as_slice()) {
+                self.noted = Some(ps);
+            }
+        }
+    }
+
+    /// The places of what was perceived, where they are noted.
+    pub fn noted(&self) -> Option<&Numbers>
+        ensures { IfSome result (λ ps. ps.now ≡ places is_perceived 0 self.now) }
+    {
+        self.noted.as_ref()
     }
 
     /// Takes the empty slots out where they are more than `FEW` and than the beliefs. That costs one step for each
@@ -179,6 +215,7 @@ impl Store {
         if let Ok((frames, keys)) = filed_again(alloc, self.slots.as_slice()) {
             self.frames = frames;
             self.keys = keys;
+            self.noted = None;
             pack(alloc, &mut self.slots);
         }
     }

@@ -8,7 +8,8 @@ ghost use Rattle.asl_beliefs.specs.Bases.{AreBeliefs, all_ground};
 ghost use Rattle.asl_beliefs.specs.Changes as spec;
 ghost use Rattle.asl_beliefs.specs.Laws as laws;
 ghost use Rattle.asl_beliefs.specs.Sources as sources;
-ghost use Rattle.asl_places.specs.Slots.{kept};
+ghost use Rattle.asl_places.specs.Slots.{at_slot, kept, places};
+ghost use Rattle.asl_index.specs.Noted.{is_perceived};
 ghost use Rattle.asl_index.specs.Store.{AreListed};
 ghost use Rattle.asl_index.specs.Hits.{IsPassed, is_unseen_at};
 
@@ -143,8 +144,8 @@ fn passed(slot: Option<&Literal>, percepts: &[Literal], next: usize, mark: &Term
     }
 }
 
-/// Whether the percepts, one by one, are the beliefs that hold `source(percept)`. One pass over both.
-fn are_perceived(percepts: &[Literal], store: &Store, mark: &Term) -> bool
+/// Whether the percepts, one by one, are the beliefs that hold `source(percept)`, by one pass over both.
+fn pass_over(percepts: &[Literal], store: &Store, mark: &Term) -> bool
     requires { mark.now ≡ sources.source_percept }
     ensures { result ≡ laws.are_perceived percepts.now (kept store.now) }
 {
@@ -158,8 +159,57 @@ fn are_perceived(percepts: &[Literal], store: &Store, mark: &Term) -> bool
     next == percepts.len()
 }
 
+/// Whether the belief of a slot is this one.
+fn is_in_slot(store: &Store, k: u64, b: &Literal) -> bool
+    ensures { result ≡ option_map_or (λ c. spec.same_belief c b.now) (at_slot store.now k) false }
+{
+    match store.at(k) {
+        Some(c) => same_belief(c, b),
+        None => false,
+    }
+}
+
+/// Whether the percepts, one by one, are the beliefs of these places, which are those of all that was perceived.
+fn are_at(percepts: &[Literal], store: &Store, ps: &[u64]) -> bool
+    requires { ps.now ≡ places is_perceived 0 store.now }
+    ensures { result ≡ laws.are_perceived percepts.now (kept store.now) }
+{
+    if ps.len() != percepts.len() {
+        return false;
+    }
+    for i in 0..ps.len() {
+        if !is_in_slot(store, ps[i], &percepts[i]) {
+            return false;
+        }
+    }
+    true
+}
+
+/// The same, by the places of what was perceived where they are noted.
+fn are_perceived(percepts: &[Literal], store: &Store, mark: &Term) -> bool
+    requires { mark.now ≡ sources.source_percept }
+    ensures { result ≡ laws.are_perceived percepts.now (kept store.now) }
+{
+    match store.noted() {
+        Some(ps) => are_at(percepts, store, ps.as_slice()),
+        None => pass_over(percepts, store, mark),
+    }
+}
+
+/// Whether the percepts, one by one, are what was perceived already. The places of that are noted, so that where nothing of it
+/// changes the next answer takes a look at the percepts alone.
+pub fn are_known(alloc: Global, store: &mut Store, percepts: &[Literal]) -> Result<bool, Starved>
+    ensures known { IfOk result (λ r. r ≡ laws.are_perceived percepts.now (kept store.old)) }
+    ensures same { store.new ≡ store.old }
+{
+    let mark = source_percept(alloc)?;
+    store.note(alloc);
+    let known = are_perceived(percepts, store, &mark);
+    drop(mark);
+    Ok(known)
+}
+
 /// Forgets what is no longer perceived, and adds the percepts. They are handed in a second time with their mark.
-/// Where they are perceived already, one by one, nothing is done.
 pub fn update_in(
     alloc: Global,
     store: &mut Store,
@@ -175,9 +225,6 @@ pub fn update_in(
 {
     let mut marks = Seq::new(alloc);
     marks.push(source_percept(alloc)?)?;
-    if are_perceived(percepts, store, &marks.as_slice()[0]) {
-        return Ok(Seq::new(alloc));
-    }
     let mut events = forget(alloc, store, percepts, marks.as_slice())?;
     add_all(alloc, store, marked, &mut events)?;
     Ok(events)

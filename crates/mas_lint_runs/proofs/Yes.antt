@@ -27,7 +27,7 @@ use Rattle.mas_reading.specs.Sources.{HasWorld, HasRoles, HasSource, texts_of}
 use Rattle.mas_reading.specs.Known.{known}
 use Rattle.mas_reading.proofs.Single.{one_source}
 use Rattle.mas_lint.specs.Linting.{usual_cycles, is_yes}
-use Rattle.mas_top.specs.Opening.{budgets_of, opening_board, opening_world, mind_of, minds_from}
+use Rattle.mas_opening.specs.Opening.{budgets_of, opening_board, opening_world, mind_of, minds_from}
 use Rattle.mas_lint_runs.specs.Never.{ShowFacts, YesMeansNever, OkMeansNever}
 
 -- ---- the world at the start

@@ -13,7 +13,7 @@ use Rattle.mas_reading.specs.declared.status.Status.TheVariants.{Ok}
 use Rattle.mas_reading.specs.Known.{known}
 use Rattle.mas_reading.specs.Sources.{HasSource, texts_of}
 use Rattle.mas_lint.specs.Linting.{usual_cycles, LintCaused}
-use Rattle.mas_top.specs.Opening.{Setup, opening}
+use Rattle.mas_opening.specs.Opening.{Setup, opening}
 
 -- what each artifact shows has no variables and no arithmetic, and nothing stands twice
 abbrev pub ShowFacts : List Used → Type 0

@@ -28,7 +28,7 @@ of_no_file held word before after status e r = unless (ProjectRefused held word 
 
 -- ---- which refusal comes first
 
-refused_from : (known : List (List ℕ)) (held : Option (List Filed)) (p : ProjectText) (first before after : ℕ) (status : Status) → first ≤ before → PartRefused known p held before after status →
+pub refused_from : (known : List (List ℕ)) (held : Option (List Filed)) (p : ProjectText) (first before after : ℕ) (status : Status) → first ≤ before → PartRefused known p held before after status →
     PartRefused known p held first after status
 refused_from known held p first before after status l (inl w) =
     inl (record { name = w.name; named_is = w.named_is; why = refusal_from (worlds known) w.name held first before after status l w.why })

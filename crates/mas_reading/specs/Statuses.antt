@@ -57,7 +57,7 @@ what_word what.Cycles = codes "cycles"
 -- the commands, with what each of them names
 abbrev pub usage : List ℕ
 usage = codes "usage: jasonrun run PROJECT | replay PROJECT SCHEDULE | check PROJECT REPORT | demo K | renew PROJECT REPORT"
-    ++ codes " | record PROJECT FILE | resume PROJECT FILE | lint PROJECT"
+    ++ codes " | record PROJECT FILE | resume PROJECT FILE | sites P Q | lint PROJECT"
 
 -- nothing where the report was written whole and no end in it is `budget`, or it is that of a run, else one line
 abbrev pub fault_text : Status → List ℕ

@@ -20,7 +20,7 @@ use mas_world::acts::WorldText;
 use std::alloc::Global;
 
 /// The most cycles of all agents together.
-const MOST_CYCLES: u64 = 2_000_000;
+pub const MOST_CYCLES: u64 = 2_000_000;
 
 /// The source of as many agents as a line of a project counts.
 #[derive(Drop)]
@@ -113,7 +113,7 @@ fn world_if<S: Shelf>(
 /// What the files of a project describe, its agents having these names, where there are artifacts of the known names;
 /// that of the world is read first.
 #[tactic(auto, using(crate::proofs::Parts::world_first, crate::proofs::Parts::then_agents))]
-fn described<S: Shelf>(
+pub fn described<S: Shelf>(
     alloc: Global,
     known: &Names,
     p: &ProjectText,

@@ -104,7 +104,7 @@ fn usage_line(alloc: Global) -> Result<Text, Starved>
         alloc,
         b"usage: jasonrun run PROJECT | replay PROJECT SCHEDULE | check PROJECT REPORT | demo K | renew PROJECT REPORT",
     )?;
-    text.append(b" | record PROJECT FILE | resume PROJECT FILE | lint PROJECT")?;
+    text.append(b" | record PROJECT FILE | resume PROJECT FILE | sites P Q | lint PROJECT")?;
     text.push(b'\n')?;
     Ok(text)
 }

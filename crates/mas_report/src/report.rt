@@ -231,7 +231,8 @@ fn put_content(out: &mut Text, m: &Message) -> Result<(), Starved>
     out.append(b"\n")
 }
 
-fn put_message(out: &mut Text, names: &Names, m: &Message) -> Result<(), Starved>
+/// Appends the line of a message that is on its way.
+pub fn put_message(out: &mut Text, names: &Names, m: &Message) -> Result<(), Starved>
     ensures { OnOk result (out.new ≡ out.old ++ spec.message_line names.now m.now) }
 {
     put_route(out, names, m)?;

@@ -7,13 +7,9 @@ use Rattle.mas_io.specs.Told.{Told, IsUnwritten}
 use Rattle.mas_io.specs.Writing.{IsCut}
 use Rattle.mas_reading.specs.declared.status.Status.{Status}
 use Rattle.mas_reading.specs.declared.status.Status.TheVariants.{Ok, No, Usage, Missing, ReadFault, WriteFault, Refused, Limit, Budget, Memory, DiskFault}
-use Rattle.mas_reading.specs.declared.status.What.TheVariants as what
-use Rattle.mas_reading.specs.Projects.{all_cycles}
-use Rattle.mas_reading.specs.Files.{Reader, IsRefusal, agents, worlds, projects}
-use Rattle.mas_reading.specs.Sources.{FirstRefused, project_refused, cycles_refused, part_refused}
 use Rattle.mas_reading.specs.Statuses.{whole}
 use Rattle.mas_reading.proofs.Refusing.{refuses, no_report, first_by}
-use Rattle.mas_top.specs.Opening.{Setup}
+use Rattle.mas_opening.specs.Opening.{Setup}
 use Rattle.mas_reading.specs.Known.{known}
 use Rattle.mas_top.specs.Runs.{Wanted, schedules, FileRefused, GivenRefused}
 use Rattle.mas_top.specs.Caused.{Texts, ForFiles, FileCaused}

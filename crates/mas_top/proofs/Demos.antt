@@ -27,7 +27,7 @@ use Rattle.mas_reading.specs.declared.status.Status.TheVariants.{Ok, No, Usage, 
 use Rattle.mas_top.specs.Demo.{DemoHas, IsToldRun, IsDemo, DemoRefused, DemoCaused, IsDemoComplete}
 use Rattle.mas_report.specs.declared.options.Options.{Options}
 use Rattle.mas_world.specs.Worlds.{Used}
-use Rattle.mas_top.specs.Opening.{Setup, setup, opening}
+use Rattle.mas_opening.specs.Opening.{Setup, setup, opening}
 use Rattle.mas_top.specs.Ways.{Way, way_of}
 use Rattle.mas_reading.proofs.Refusing.{first_by}
 use Rattle.mas_top.proofs.Runs.{by_workers}

@@ -16,7 +16,7 @@ use Rattle.mas_reading.specs.Known.{known}
 use Rattle.mas_reading.specs.Sources.{FirstRefused}
 use Rattle.mas_reading.proofs.Unless.{unless}
 use Rattle.mas_reading.proofs.Single.{with_file, one_source, not_refused, not_refused_file}
-use Rattle.mas_top.specs.Opening.{Setup, opening}
+use Rattle.mas_opening.specs.Opening.{Setup, opening}
 use Rattle.mas_top.specs.Runs.{How, by_workers, by_file, Wanted, Given, given, most_bytes, IsFollowed, HasWay, HasGiven, schedules, FileRefused, NoneRefused}
 use Rattle.mas_top.specs.Ways.{Way, alone, shared, along, IsScheduled}
 use Rattle.mas_top.specs.Caused.{Texts, ForFiles, FileCaused}

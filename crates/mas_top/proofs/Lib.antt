@@ -1,4 +1,3 @@
-pub mod Opened
 pub mod Runs
 pub mod Played
 pub mod Caused

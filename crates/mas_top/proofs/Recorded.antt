@@ -28,7 +28,7 @@ use Rattle.mas_keeping.specs.declared.keep.Keeping.TheVariants.{Anew, On}
 use Rattle.mas_keeping.specs.Keeping.{IsKept, IsFaulty, FileRefused as FileFaulty, FileRefusedBy, KeepRefused}
 use Rattle.mas_top.specs.Caused.{ForFiles}
 use Rattle.mas_top.specs.Headline.{IsHeadline}
-use Rattle.mas_top.specs.Opening.{Setup, setup, opening}
+use Rattle.mas_opening.specs.Opening.{Setup, setup, opening}
 use Rattle.mas_top.specs.Recording.{Recorded, wanted_of, Lent, before_of, after_of, IsLeft, IsRecordedReport, RecordRefused, AnswerRefused}
 use Rattle.mas_top.specs.Recording.{RecordCaused, KeepsSchedule, KeepsPrinted, IsJournalOf, CanGoOn, IsRecordComplete}
 use Rattle.mas_top.specs.Runs.{given, HasGiven, NoneRefused}

@@ -18,7 +18,7 @@ use Rattle.mas_reading.specs.Sources.{HasSource, FirstRefused, AreRefused}
 use Rattle.mas_reading.proofs.Unless.{unless}
 use Rattle.mas_reading.proofs.Single.{some_same, one_source, not_refused}
 use Rattle.mas_reading.proofs.Refusals.{OneStatus, Faulty, Large, FaultOf, there, one_status, file_one, calm, one_refusal as one_of_project}
-use Rattle.mas_top.specs.Opening.{Setup, opening}
+use Rattle.mas_opening.specs.Opening.{Setup, opening}
 use Rattle.mas_top.specs.Runs.{Wanted, IsIllegal, IsUnended, schedules, FileRefused, ScheduleRefused}
 use Rattle.mas_top.specs.Laws.{OneRefusal}
 use Rattle.mas_report.proofs.Judged.{came_stuck, follows}

@@ -20,12 +20,12 @@ use Rattle.mas_report.proofs.Backs.{told, shown, words_within}
 use Rattle.mas_report.proofs.Numbered.{run_numbers}
 use Rattle.mas_reading.specs.declared.sources.Source.{Source}
 use Rattle.mas_reading.specs.Projects.{most_cycles}
-use Rattle.mas_top.specs.Opening.{Setup, opening, opening_minds, opening_world}
+use Rattle.mas_opening.specs.Opening.{Setup, opening, opening_minds, opening_world}
 use Rattle.mas_top.specs.Runs.{Wanted, Given, given, HasGiven}
 use Rattle.mas_top.specs.Ways.{along}
 use Rattle.mas_top.specs.Headline.{IsReportOf, IsRunReportOf}
 use Rattle.mas_top.specs.Laws.{CanRepeat, CanCheck, CanRenew, ReportsKeepLaws}
-use Rattle.mas_top.proofs.Played.{can_run}
+use Rattle.mas_opening.proofs.Able.{can_run}
 
 some_same : {A : Type 0} {x y : A} → Some x ≡ Some y → x ≡ y
 some_same e = cc

@@ -9,11 +9,13 @@ use Rattle.mas_reading.specs.declared.status.Status.TheVariants.{Memory}
 use Rattle.mas_lint.specs.Linting.{Lints, IsLintComplete}
 use Rattle.mas_lint.proofs.Linted.{lints, complete_lint}
 use Rattle.mas_reading.specs.Known.{known}
+use Rattle.mas_both.specs.Caused.{sites, ReportsSites, AreSitesComplete}
+use Rattle.mas_both.proofs.Caused.{reports_sites, complete_sites}
 use Rattle.mas_world.specs.Worlds.{Used}
 use Rattle.mas_top.specs.Caused.{Texts}
-use Rattle.mas_top.specs.Headline.{IsRunReportOf, IsHeadline, PrintsSchedule, IsComplete, ForRuns, ForRecords, ForReports, ForOthers, ForClaims, ForLints, ForDemos}
+use Rattle.mas_top.specs.Headline.{IsRunReportOf, IsHeadline, PrintsSchedule, IsComplete, ForRuns, ForRecords, ForReports, ForOthers, ForClaims, ForLints, ForSites, ForDemos}
 use Rattle.mas_top.specs.Headline.{AskedCaused, WordsCaused}
-use Rattle.mas_top.specs.Opening.{Setup, setup}
+use Rattle.mas_opening.specs.Opening.{Setup, setup}
 use Rattle.mas_keeping.specs.declared.keep.Keeping.TheVariants.{Anew, On}
 use Rattle.mas_keeping.specs.Disks.{state_of}
 use Rattle.mas_keeping.specs.Keeping.{IsSafe, IsUntouched}
@@ -36,6 +38,7 @@ left objects old new e (words.resume_from project file options workers) = tt
 left objects old new e (words.check project report) = tt
 left objects old new e (words.demo count workers) = e
 left objects old new e (words.renew project report) = tt
+left objects old new e (words.sites one two options workers) = tt
 left objects old new e (words.lint project) = tt
 
 -- or where they ask for this alone
@@ -57,6 +60,7 @@ idle old new e (words.resume_from project file options workers) = tt
 idle old new e (words.check project report) = e
 idle old new e (words.demo count workers) = e
 idle old new e (words.renew project report) = e
+idle old new e (words.sites one two options workers) = e
 idle old new e (words.lint project) = e
 
 -- a disk that is left safely, where the words ask for this alone
@@ -75,6 +79,7 @@ safe_left state old new objects e f (words.resume_from project file options work
 safe_left state old new objects e f (words.check project report) = tt
 safe_left state old new objects e f (words.demo count workers) = tt
 safe_left state old new objects e f (words.renew project report) = tt
+safe_left state old new objects e f (words.sites one two options workers) = tt
 safe_left state old new objects e f (words.lint project) = tt
 
 -- words that are not read ask for nothing
@@ -97,6 +102,7 @@ module _ (l : Lent) where
   short_by objects before after (words.check project report) u = u
   short_by objects before after (words.demo count workers) u = u
   short_by objects before after (words.renew project report) u = u
+  short_by objects before after (words.sites one two options workers) u = u
   short_by objects before after (words.lint project) u = u
 
   pub short_words : (objects : List Used) (given : List (List ℕ)) (before after : Told) → AreRead given → IsUnwritten before after →
@@ -114,6 +120,7 @@ module _ (l : Lent) where
   headline_by objects before after status (words.check project report) c = tt
   headline_by objects before after status (words.demo count workers) c = tt
   headline_by objects before after status (words.renew project report) c = tt
+  headline_by objects before after status (words.sites one two options workers) c = tt
   headline_by objects before after status (words.lint project) c = tt
 
   schedule_by : (objects : List Used) (before after : Told) (status : Status) (a : words.Asked) → AskedCaused IsRunReportOf objects l before after status a →
@@ -126,6 +133,7 @@ module _ (l : Lent) where
   schedule_by objects before after status (words.check project report) c = tt
   schedule_by objects before after status (words.demo count workers) c = tt
   schedule_by objects before after status (words.renew project report) c = tt
+  schedule_by objects before after status (words.sites one two options workers) c = tt
   schedule_by objects before after status (words.lint project) c = tt
 
   complete_by : (objects : List Used) (before after : Told) (status : Status) (a : words.Asked) → AskedCaused IsRunReportOf objects l before after status a →
@@ -139,6 +147,7 @@ module _ (l : Lent) where
   complete_by objects before after status (words.check project report) c = tt
   complete_by objects before after status (words.demo count workers) c = tt
   complete_by objects before after status (words.renew project report) c = tt
+  complete_by objects before after status (words.sites one two options workers) c = tt
   complete_by objects before after status (words.lint project) c = tt
 
   check_by : (objects : List Used) (before after : Told) (status : Status) (a : words.Asked) → AskedCaused IsRunReportOf objects l before after status a →
@@ -150,6 +159,7 @@ module _ (l : Lent) where
   check_by objects before after status (words.check project report) c = judged_claim objects (claim whether project report) before after status c
   check_by objects before after status (words.demo count workers) c = tt
   check_by objects before after status (words.renew project report) c = judged_claim objects (claim anew project report) before after status c
+  check_by objects before after status (words.sites one two options workers) c = tt
   check_by objects before after status (words.lint project) c = tt
 
   checked_by : (objects : List Used) (before after : Told) (status : Status) (a : words.Asked) → AskedCaused IsRunReportOf objects l before after status a →
@@ -161,6 +171,7 @@ module _ (l : Lent) where
   checked_by objects before after status (words.check project report) c = complete_claim objects (claim whether project report) before after status c
   checked_by objects before after status (words.demo count workers) c = tt
   checked_by objects before after status (words.renew project report) c = complete_claim objects (claim anew project report) before after status c
+  checked_by objects before after status (words.sites one two options workers) c = tt
   checked_by objects before after status (words.lint project) c = tt
 
   demo_by : (objects : List Used) (before after : Told) (status : Status) (a : words.Asked) → words.IsPermitted a →
@@ -172,6 +183,7 @@ module _ (l : Lent) where
   demo_by objects before after status (words.check project report) p c = tt
   demo_by objects before after status (words.demo count workers) p c = demo_complete objects count (way_of workers) before after status p.0.0 p.0.1 c
   demo_by objects before after status (words.renew project report) p c = tt
+  demo_by objects before after status (words.sites one two options workers) p c = tt
   demo_by objects before after status (words.lint project) p c = tt
 
   demo_said : (objects : List Used) (given : List (List ℕ)) (before after : Told) (status : Status) → WordsCaused IsRunReportOf objects given l before after status →
@@ -188,6 +200,7 @@ module _ (l : Lent) where
   recorded_by objects before after status (words.check project report) c = tt
   recorded_by objects before after status (words.demo count workers) c = tt
   recorded_by objects before after status (words.renew project report) c = tt
+  recorded_by objects before after status (words.sites one two options workers) c = tt
   recorded_by objects before after status (words.lint project) c = tt
 
   records_as : (P Q : Setup → Recorded → Type 0) (objects : List Used) → ((u : Setup) (r : Recorded) → P u r → Q u r) → (a : words.Asked) →
@@ -199,6 +212,7 @@ module _ (l : Lent) where
   records_as P Q objects f (words.check project report) h = tt
   records_as P Q objects f (words.demo count workers) h = tt
   records_as P Q objects f (words.renew project report) h = tt
+  records_as P Q objects f (words.sites one two options workers) h = tt
   records_as P Q objects f (words.lint project) h = tt
 
   -- what the cause of each status of a recorded run gives holds where the words ask for one
@@ -263,6 +277,7 @@ module _ (l : Lent) where
   lint_by objects before after status (words.check project report) c = tt
   lint_by objects before after status (words.demo count workers) c = tt
   lint_by objects before after status (words.renew project report) c = tt
+  lint_by objects before after status (words.sites one two options workers) c = tt
   lint_by objects before after status (words.lint project) c = lints (known objects) project before after status c
 
   linted_by : (objects : List Used) (before after : Told) (status : Status) (a : words.Asked) → AskedCaused IsRunReportOf objects l before after status a →
@@ -274,6 +289,7 @@ module _ (l : Lent) where
   linted_by objects before after status (words.check project report) c = tt
   linted_by objects before after status (words.demo count workers) c = tt
   linted_by objects before after status (words.renew project report) c = tt
+  linted_by objects before after status (words.sites one two options workers) c = tt
   linted_by objects before after status (words.lint project) c = complete_lint (known objects) project before after status c
 
   pub lint_words : (objects : List Used) (given : List (List ℕ)) (before after : Told) (status : Status) → WordsCaused IsRunReportOf objects given l before after status →
@@ -285,6 +301,40 @@ module _ (l : Lent) where
       (a : words.Asked) → AskFor given a → ForLints (λ project. IsLintComplete (known objects) project before after status) a
   linted_words objects given before after status c a h =
       linted_by objects before after status a (said IsRunReportOf objects given before after status c a h)
+
+  sites_by : (objects : List Used) (before after : Told) (status : Status) (a : words.Asked) → AskedCaused IsRunReportOf objects l before after status a →
+      ForSites (λ u s. ReportsSites u s before after status) objects a
+  sites_by objects before after status (words.run project options workers pool) c = tt
+  sites_by objects before after status (words.replay project schedule options) c = tt
+  sites_by objects before after status (words.record_to project file options workers) c = tt
+  sites_by objects before after status (words.resume_from project file options workers) c = tt
+  sites_by objects before after status (words.check project report) c = tt
+  sites_by objects before after status (words.demo count workers) c = tt
+  sites_by objects before after status (words.renew project report) c = tt
+  sites_by objects before after status (words.sites one two options workers) c = reports_sites (setup options objects) (sites one two workers) before after status c
+  sites_by objects before after status (words.lint project) c = tt
+
+  met_by : (objects : List Used) (before after : Told) (status : Status) (a : words.Asked) → AskedCaused IsRunReportOf objects l before after status a →
+      ForSites (λ u s. AreSitesComplete u s before after status) objects a
+  met_by objects before after status (words.run project options workers pool) c = tt
+  met_by objects before after status (words.replay project schedule options) c = tt
+  met_by objects before after status (words.record_to project file options workers) c = tt
+  met_by objects before after status (words.resume_from project file options workers) c = tt
+  met_by objects before after status (words.check project report) c = tt
+  met_by objects before after status (words.demo count workers) c = tt
+  met_by objects before after status (words.renew project report) c = tt
+  met_by objects before after status (words.sites one two options workers) c = complete_sites (setup options objects) (sites one two workers) before after status c
+  met_by objects before after status (words.lint project) c = tt
+
+  pub sites_words : (objects : List Used) (given : List (List ℕ)) (before after : Told) (status : Status) → WordsCaused IsRunReportOf objects given l before after status →
+      (a : words.Asked) → AskFor given a → ForSites (λ u s. ReportsSites u s before after status) objects a
+  sites_words objects given before after status c a h =
+      sites_by objects before after status a (said IsRunReportOf objects given before after status c a h)
+
+  pub met_words : (objects : List Used) (given : List (List ℕ)) (before after : Told) (status : Status) → WordsCaused IsRunReportOf objects given l before after status →
+      (a : words.Asked) → AskFor given a → ForSites (λ u s. AreSitesComplete u s before after status) objects a
+  met_words objects given before after status c a h =
+      met_by objects before after status a (said IsRunReportOf objects given before after status c a h)
 
 -- what follows of what the words ask for, where it was done, where memory lacked, and where they are not read
 pub ruleset read_words = (short_words, left, left_by, idle, idle_by, safe_left, safe_by, unread)

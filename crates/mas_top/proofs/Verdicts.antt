@@ -22,7 +22,7 @@ use Rattle.mas_reading.specs.Sources.{HasSource, FirstRefused, AreRefused, Unles
 use Rattle.mas_reading.proofs.Fetched.{unfetched, refusal_from}
 use Rattle.mas_reading.proofs.Unless.{unless, unless_as}
 use Rattle.mas_top.specs.Checking.{Asks, IsAllowed, IsOwn, Says, IsJudged, Claim, IsDecided, reports, ClaimRefused}
-use Rattle.mas_top.specs.Opening.{setup, opening}
+use Rattle.mas_opening.specs.Opening.{setup, opening}
 use Rattle.mas_top.specs.Runs.{most_bytes}
 
 -- ---- what is allowed

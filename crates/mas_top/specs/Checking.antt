@@ -24,7 +24,7 @@ use Rattle.mas_reading.specs.Projects.{most_cycles}
 use Rattle.mas_reading.specs.Sources.{HasSource, FirstRefused}
 use Rattle.mas_top.specs.declared.checking.Asks as code
 use Rattle.mas_top.specs.declared.checking.Asks.TheVariants as code_variant
-use Rattle.mas_top.specs.Opening.{setup, opening}
+use Rattle.mas_opening.specs.Opening.{setup, opening}
 use Rattle.mas_top.specs.Runs.{most_bytes}
 
 -- The options are within their limits, and so are the cycles that the agents of the source may make together.

@@ -12,6 +12,7 @@ use Rattle.mas_report.specs.Report.{latest, IsReport}
 use Rattle.mas_reading.specs.declared.status.Status.{Status}
 use Rattle.mas_reading.specs.declared.status.Status.TheVariants.{Usage, Memory}
 use Rattle.mas_lint.specs.Linting.{LintCaused}
+use Rattle.mas_both.specs.Caused.{Sites, sites, SitesCaused}
 use Rattle.mas_reading.specs.Known.{known}
 use Rattle.mas_reading.specs.Statuses.{whole}
 use Rattle.mas_top.specs.Caused.{Texts, FileCaused}
@@ -22,7 +23,7 @@ use Rattle.mas_report.specs.Limits.{defaults}
 use Rattle.mas_top.specs.Checking.{whether, anew, Claim, claim, ClaimCaused}
 use Rattle.mas_top.specs.Demo.{DemoCaused}
 use Rattle.mas_keeping.specs.declared.keep.Keeping.TheVariants.{Anew, On}
-use Rattle.mas_top.specs.Opening.{Setup, setup, opening}
+use Rattle.mas_opening.specs.Opening.{Setup, setup, opening}
 use Rattle.mas_top.specs.Recording.{Recorded, recorded, wanted_of, Lent, RecordCaused}
 use Rattle.mas_top.specs.Runs.{by_workers, by_file, Wanted, wanted, Given, HasGiven, NoneRefused}
 use Rattle.mas_top.specs.Ways.{Way, way_of, IsScheduled}
@@ -92,6 +93,7 @@ ForRuns Holds objects (words.resume_from project file options workers) = Unit {0
 ForRuns Holds objects (words.check project report) = Unit {0}
 ForRuns Holds objects (words.demo count workers) = Unit {0}
 ForRuns Holds objects (words.renew project report) = Unit {0}
+ForRuns Holds objects (words.sites one two options workers) = Unit {0}
 ForRuns Holds objects (words.lint project) = Unit {0}
 
 -- what holds of a run that is recorded in a file, by `record` and by `resume`
@@ -103,6 +105,7 @@ ForRecords Holds objects (words.resume_from project file options workers) = Hold
 ForRecords Holds objects (words.check project report) = Unit {0}
 ForRecords Holds objects (words.demo count workers) = Unit {0}
 ForRecords Holds objects (words.renew project report) = Unit {0}
+ForRecords Holds objects (words.sites one two options workers) = Unit {0}
 ForRecords Holds objects (words.lint project) = Unit {0}
 
 -- what holds of the files of a run, a replay, and a run that is recorded
@@ -124,6 +127,7 @@ ForClaims Holds (words.resume_from project file options workers) = Unit {0}
 ForClaims Holds (words.check project report) = Holds (claim whether project report)
 ForClaims Holds (words.demo count workers) = Unit {0}
 ForClaims Holds (words.renew project report) = Holds (claim anew project report)
+ForClaims Holds (words.sites one two options workers) = Unit {0}
 ForClaims Holds (words.lint project) = Unit {0}
 
 -- what holds of a project of which is asked whether its goals are covered
@@ -135,7 +139,20 @@ ForLints Holds (words.resume_from project file options workers) = Unit {0}
 ForLints Holds (words.check project report) = Unit {0}
 ForLints Holds (words.demo count workers) = Unit {0}
 ForLints Holds (words.renew project report) = Unit {0}
+ForLints Holds (words.sites one two options workers) = Unit {0}
 ForLints Holds (words.lint project) = Holds project
+
+-- what holds of two projects that run as two sites
+abbrev pub ForSites : (Setup → Sites → Type 0) → List Used → words.Asked → Type 0
+ForSites Holds objects (words.run project options workers pool) = Unit {0}
+ForSites Holds objects (words.replay project schedule options) = Unit {0}
+ForSites Holds objects (words.record_to project file options workers) = Unit {0}
+ForSites Holds objects (words.resume_from project file options workers) = Unit {0}
+ForSites Holds objects (words.check project report) = Unit {0}
+ForSites Holds objects (words.demo count workers) = Unit {0}
+ForSites Holds objects (words.renew project report) = Unit {0}
+ForSites Holds objects (words.sites one two options workers) = Holds (setup options objects) (sites one two workers)
+ForSites Holds objects (words.lint project) = Unit {0}
 
 -- what holds of a demo of so many agents
 abbrev pub ForDemos : (Setup → ℕ → Way → Type 0) → List Used → words.Asked → Type 0
@@ -146,6 +163,7 @@ ForDemos Holds objects (words.resume_from project file options workers) = Unit {
 ForDemos Holds objects (words.check project report) = Unit {0}
 ForDemos Holds objects (words.demo count workers) = Holds (setup defaults objects) count (way_of workers)
 ForDemos Holds objects (words.renew project report) = Unit {0}
+ForDemos Holds objects (words.sites one two options workers) = Unit {0}
 ForDemos Holds objects (words.lint project) = Unit {0}
 
 -- ---- the cause of each status
@@ -163,6 +181,8 @@ AskedCaused Is objects l before after status (words.resume_from project file opt
 AskedCaused Is objects l before after status (words.check project report) = ClaimCaused objects (claim whether project report) before after status
 AskedCaused Is objects l before after status (words.demo count workers) = DemoCaused (setup defaults objects) count (way_of workers) before after status
 AskedCaused Is objects l before after status (words.renew project report) = ClaimCaused objects (claim anew project report) before after status
+AskedCaused Is objects l before after status (words.sites one two options workers) =
+    SitesCaused (setup options objects) (sites one two workers) before after status
 AskedCaused Is objects l before after status (words.lint project) = LintCaused (known objects) project before after status
 
 -- the words are not read

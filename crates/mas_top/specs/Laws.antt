@@ -17,7 +17,7 @@ use Rattle.mas_reading.specs.Laws.{Surely}
 use Rattle.mas_report.specs.Limits.{IsWithin}
 use Rattle.mas_report.specs.Report.{latest, IsReport, IsRenewal}
 use Rattle.mas_top.specs.Checking.{IsOwn}
-use Rattle.mas_top.specs.Opening.{Setup, opening}
+use Rattle.mas_opening.specs.Opening.{Setup, opening}
 use Rattle.mas_top.specs.Runs.{most_bytes, Wanted, Given, given, IsFollowed, HasGiven, FileRefused}
 use Rattle.mas_top.specs.Headline.{IsReportOf, IsRunReportOf}
 use Rattle.mas_top.specs.Ways.{along}

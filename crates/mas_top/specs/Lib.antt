@@ -1,5 +1,3 @@
-pub mod Opening
-pub mod Fits
 pub mod Ways
 pub mod Runs
 pub mod Caused

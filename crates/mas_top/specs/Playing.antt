@@ -17,7 +17,7 @@ use Rattle.mas_reading.specs.declared.status.Status.{Status}
 use Rattle.mas_reading.specs.declared.status.Status.TheVariants.{Refused, Memory}
 use Rattle.mas_reading.specs.Files.{HasFile, Reader}
 use Rattle.mas_top.specs.Headline.{IsRunReport}
-use Rattle.mas_top.specs.Opening.{Setup, opening}
+use Rattle.mas_opening.specs.Opening.{Setup, opening}
 use Rattle.mas_top.specs.Runs.{most_bytes, IsFollowed}
 use Rattle.mas_top.specs.Ways.{along, Leads}
 

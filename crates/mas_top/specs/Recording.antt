@@ -23,7 +23,7 @@ use Rattle.mas_keeping.specs.Disks.{state_of}
 use Rattle.mas_keeping.specs.Keeping.{IsGoneOn, LeavesAll, IsKept, FileRefusedBy, IsSafe}
 use Rattle.mas_top.specs.declared.recording.Recorded as code
 use Rattle.mas_top.specs.Caused.{Texts, ForFiles, ForEnded}
-use Rattle.mas_top.specs.Opening.{Setup, opening}
+use Rattle.mas_opening.specs.Opening.{Setup, opening}
 use Rattle.mas_top.specs.Runs.{by_workers, Wanted, wanted, FileRefused, NoneRefused}
 
 -- ---- what is recorded

@@ -13,7 +13,7 @@ use Rattle.mas_reading.specs.Files.{HasFile, Reader, IsRefusal}
 use Rattle.mas_reading.specs.Known.{known}
 use Rattle.mas_reading.specs.Laws.{Surely}
 use Rattle.mas_reading.specs.Sources.{HasSource, FirstRefused, UnlessMemory}
-use Rattle.mas_top.specs.Opening.{Setup, opening}
+use Rattle.mas_opening.specs.Opening.{Setup, opening}
 use Rattle.mas_top.specs.Ways.{Way, alone, shared, along, way_of, Leads}
 use Rattle.mas_top.specs.declared.playing.How as code
 use Rattle.mas_top.specs.declared.playing.How.TheVariants as code_variant

@@ -13,12 +13,11 @@ ghost use Rattle.mas_reading.specs.Files.{HasFile, IsRefusal};
 ghost use Rattle.mas_reading.specs.Projects.{most_cycles};
 ghost use Rattle.mas_reading.specs.Sources.{UnlessMemory};
 ghost use Rattle.mas_top.specs.Checking as spec;
-ghost use Rattle.mas_top.specs.Fits.{CanRun};
-ghost use Rattle.mas_top.specs.Opening.{objects_of, opening, setup};
+ghost use Rattle.mas_opening.specs.Fits.{CanRun};
+ghost use Rattle.mas_opening.specs.Opening.{objects_of, opening, setup};
 ghost use Rattle.mas_top.specs.Runs.{most_bytes};
 
 use crate::playing::{MOST_BYTES, read_source};
-use crate::running::{Opened, open_source};
 use asl_term::copying::text_of;
 use asl_term::sequence::Starved;
 use asl_term::syntax::Text;
@@ -26,6 +25,7 @@ use mas_io::shelf::Shelf;
 use mas_io::sink::Sink;
 use mas_io::writing::write_all;
 use mas_mind::thinking::Mind;
+use mas_opening::opening::{Opened, open_source};
 use mas_reading::files::bytes_of;
 use mas_reading::sources::Source;
 use mas_reading::status::{Status, verdict};
@@ -99,7 +99,7 @@ fn answer_along<M: Mind, A: Artifact>(
 }
 
 /// The same for the run of a source.
-#[tactic(auto, using(crate::proofs::Runs::starts))]
+#[tactic(auto, using(mas_opening::proofs::Starts::starts))]
 fn answer_of<A: Artifact>(
     alloc: Global,
     asks: Asks,
@@ -207,7 +207,7 @@ fn judge_file<S: Shelf, A: Artifact>(
 }
 
 /// The answer for the file of the report and the project, or why a file is refused.
-#[tactic(auto, using(crate::proofs::Played::can_run, crate::proofs::Verdicts::claimed))]
+#[tactic(auto, using(mas_opening::proofs::Able::can_run, crate::proofs::Verdicts::claimed))]
 fn judge<S: Shelf, A: Artifact>(
     alloc: Global,
     asks: Asks,

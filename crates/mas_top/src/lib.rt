@@ -5,7 +5,6 @@ pub mod checking;
 pub mod demo;
 pub mod laws;
 pub mod linting;
-pub mod minds;
 pub mod playing;
 pub mod recording;
 pub mod running;

@@ -3,7 +3,7 @@
 ghost use Rattle.mas_io.specs.Told.{told_of, IsKept};
 ghost use Rattle.mas_lint.specs.Linting.{LintCaused};
 ghost use Rattle.mas_reading.specs.Known.{known};
-ghost use Rattle.mas_top.specs.Opening.{objects_of};
+ghost use Rattle.mas_opening.specs.Opening.{objects_of};
 
 use mas_io::shelf::Shelf;
 use mas_io::sink::Sink;

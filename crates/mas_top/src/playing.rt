@@ -7,9 +7,9 @@ ghost use Rattle.mas_reading.specs.Files.{HasFile, IsRefusal};
 ghost use Rattle.mas_reading.specs.Known.{known};
 ghost use Rattle.mas_reading.specs.Sources.{AreRefused, HasSource};
 ghost use Rattle.mas_top.specs.Caused.{ForFiles};
-ghost use Rattle.mas_top.specs.Fits.{CanRun};
+ghost use Rattle.mas_opening.specs.Fits.{CanRun};
 ghost use Rattle.mas_top.specs.Headline.{IsRunReportOf};
-ghost use Rattle.mas_top.specs.Opening.{objects_of, setup};
+ghost use Rattle.mas_opening.specs.Opening.{objects_of, setup};
 ghost use Rattle.mas_top.specs.Playing as spec;
 ghost use Rattle.mas_top.specs.Runs.{wanted, how_of, CanBe, GivenRefused, most_bytes, schedules};
 

@@ -10,13 +10,12 @@ ghost use Rattle.mas_keeping.specs.Keeping as keeping;
 ghost use Rattle.mas_recorded.specs.Runs.{WentOn};
 ghost use Rattle.mas_report.specs.Limits.{IsFrom, IsWithin};
 ghost use Rattle.mas_top.specs.Caused.{ForFiles};
-ghost use Rattle.mas_top.specs.Fits.{CanRun};
-ghost use Rattle.mas_top.specs.Opening.{objects_of, opening, setup};
+ghost use Rattle.mas_opening.specs.Fits.{CanRun};
+ghost use Rattle.mas_opening.specs.Opening.{objects_of, opening, setup};
 ghost use Rattle.mas_top.specs.Recording as spec;
 ghost use Rattle.mas_top.specs.Recording.{lent, recorded_of};
 
 use crate::playing::read_source;
-use crate::running::{Opened, open_source};
 use asl_term::copying::text_of;
 use asl_term::syntax::Text;
 use mas_disk::disk::Disk;
@@ -26,6 +25,7 @@ use mas_io::writing::write_all;
 use mas_keeping::keep::{Keeping, keep_run};
 use mas_keeping::laws::untouched;
 use mas_mind::thinking::Mind;
+use mas_opening::opening::{Opened, open_source};
 use mas_reading::sources::Source;
 use mas_reading::status::{Status, whole};
 use mas_recordings::report::Written;
@@ -73,7 +73,7 @@ fn record_opened<R: Threads + Wait + Sync, M: Mind + Send, A: Artifact + Send, D
 }
 
 /// The report of the recorded run of a source.
-#[tactic(auto, using(crate::proofs::Runs::starts, asl_cycle::proofs::Sends::agent_send))]
+#[tactic(auto, using(mas_opening::proofs::Starts::starts, asl_cycle::proofs::Sends::agent_send))]
 fn record_source<R: Threads + Wait + Sync, A: Artifact + Send, D: Disk + Send>(
     rt: &R,
     alloc: Global,

@@ -1,8 +1,7 @@
 //! A run, from its source to the report.
 
-ghost use Rattle.std.specs.Prelude.{◌≡◌, [], false, IfOk, IfSome, IfErr};
+ghost use Rattle.std.specs.Prelude.{◌≡◌, IfOk, IfErr};
 ghost use Rattle.asl_cycle.specs.Agent.{agent_kind};
-ghost use Rattle.mas_board.specs.Boards as boards;
 ghost use Rattle.mas_core.specs.Fits.{Start};
 ghost use Rattle.mas_core.specs.Platform.{opening_platform};
 ghost use Rattle.mas_core.specs.Replay.{Faulted, RanAlong};
@@ -10,32 +9,27 @@ ghost use Rattle.mas_core.specs.Robin.{RanOut};
 ghost use Rattle.mas_report.specs.Limits.{IsFrom, IsWithin};
 ghost use Rattle.mas_report.specs.Report as spec;
 ghost use Rattle.mas_schedule.specs.Schedule.{AllFromOne, printed};
-ghost use Rattle.mas_top.specs.Fits.{CanOpen, CanRun};
+ghost use Rattle.mas_opening.specs.Fits.{CanRun};
 ghost use Rattle.mas_top.specs.Headline.{IsRunReport};
-ghost use Rattle.mas_top.specs.Opening.{no_text, objects_of, opening, opening_board, opening_minds, opening_world, setup};
+ghost use Rattle.mas_opening.specs.Opening.{objects_of, opening, setup};
 ghost use Rattle.mas_top.specs.Playing.{IsReplayed};
 ghost use Rattle.mas_top.specs.Ways.{way_of};
 
-use crate::minds::open_minds;
-use asl_cycle::agent::Agent;
-use asl_term::names::Names;
 use asl_term::sequence::{Seq, Starved};
 use asl_term::syntax::Text;
-use mas_board::board::{Board, open_board};
+use mas_board::board::Board;
 use mas_core::replay::{PlayFault, replay};
 use mas_core::robin::Done;
 use mas_going::gate::Gate;
 use mas_mind::thinking::Mind;
+use mas_opening::opening::{Opened, open_source};
 use mas_pool::pool::run_pool;
 use mas_reading::sources::Source;
 use mas_report::options::Options;
 use mas_report::report::{LATEST, is_spent, report};
 use mas_steal::steal::run_stealing;
 use mas_words::asked::Pool;
-use mas_world::acts::WorldText;
 use mas_world::artifact::Artifact;
-use mas_world::opening::open_world;
-use mas_world::world::World;
 use std::alloc::Global;
 use std::sync::Wait;
 use std::thread::Threads;
@@ -45,65 +39,6 @@ use std::thread::Threads;
 pub struct Output {
     pub text: Text,
     pub spent: bool,
-}
-
-/// A board on which nothing has happened, and the minds of its agents.
-#[derive(Drop)]
-pub struct Opened<M: Mind, A: Artifact> {
-    pub board: Board<A>,
-    pub minds: Seq<M>,
-}
-
-/// A world without facts, in which no action is done.
-fn empty_text(alloc: Global) -> Result<WorldText, Starved>
-    ensures { IfOk result (λ t. t ≡ no_text) }
-{
-    Ok(WorldText {
-        facts: Seq::new(alloc),
-        hidden: Names::new(alloc)?,
-        uses: Names::new(alloc)?,
-        acts: Seq::new(alloc),
-    })
-}
-
-/// The world at the start.
-fn world_at_start<A: Artifact>(
-    alloc: Global,
-    text: Option<WorldText>,
-    artifacts: Vec<A>,
-) -> Result<World<A>, Starved>
-    requires { IfSome text (CanOpen (objects_of A.named A.table A.facts artifacts.items)) }
-    ensures { IfOk result (λ w. w ≡ opening_world (objects_of A.named A.table A.facts artifacts.items) text) }
-{
-    match text {
-        Some(text) => open_world(alloc, text, artifacts),
-        None => open_world(alloc, empty_text(alloc)?, artifacts),
-    }
-}
-
-/// The board and the minds of a source at the start.
-#[tactic(auto, using(crate::proofs::Runs::limits))]
-pub fn open_source<A: Artifact>(
-    alloc: Global,
-    o: &Options,
-    source: Source,
-    artifacts: Vec<A>,
-) -> Result<Opened<Agent, A>, Starved>
-    requires within { IsWithin o.now }
-    requires can { CanRun (objects_of A.named A.table A.facts artifacts.items) source }
-    ensures board { let u = setup o.now (objects_of A.named A.table A.facts artifacts.items) in
-        IfOk result (λ p. p.board ≡ record { state = opening_board u source; schedule = []; halted = false }) }
-    ensures minds { IfOk result (λ p. p.minds ≡ opening_minds o.now source) }
-{
-    let Source {
-        names,
-        roles,
-        world,
-    } = source;
-    let minds = open_minds(alloc, o, &names, roles.as_slice())?;
-    let world = world_at_start(alloc, world, artifacts)?;
-    let board = open_board(alloc, world, names, o.cycles, o.lead)?;
-    Ok(Opened { board, minds })
 }
 
 /// The report of a run that is done, and whether an end in it is `budget`.
@@ -199,7 +134,7 @@ fn run_along<M: Mind, A: Artifact>(
 }
 
 /// The report of the run of a source by so many workers.
-#[tactic(auto, using(crate::proofs::Runs::starts, asl_cycle::proofs::Sends::agent_send))]
+#[tactic(auto, using(mas_opening::proofs::Starts::starts, asl_cycle::proofs::Sends::agent_send))]
 pub fn run_source<R: Threads + Wait + Sync, A: Artifact + Send, G: Gate + Sync>(
     rt: &R,
     alloc: Global,
@@ -223,7 +158,7 @@ pub fn run_source<R: Threads + Wait + Sync, A: Artifact + Send, G: Gate + Sync>(
 }
 
 /// The report of the run of a source along these numbers.
-#[tactic(auto, using(crate::proofs::Runs::starts))]
+#[tactic(auto, using(mas_opening::proofs::Starts::starts))]
 pub fn replay_source<A: Artifact>(
     alloc: Global,
     o: &Options,

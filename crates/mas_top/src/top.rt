@@ -1,6 +1,7 @@
 //! The top call: what the words ask for, from the files to the report.
 
 ghost use Rattle.std.specs.Prelude.{◌≡◌, true, is_some, map, string_bytes};
+ghost use Rattle.mas_both.specs.Caused.{AreSitesComplete, ReportsSites};
 ghost use Rattle.mas_io.specs.Told.{told_of, IsKept};
 ghost use Rattle.mas_keeping.specs.Disks.{IsFree};
 ghost use Rattle.mas_lint.specs.Linting.{IsLintComplete, Lints};
@@ -9,9 +10,9 @@ ghost use Rattle.mas_report.specs.Limits.{IsWithin};
 ghost use Rattle.mas_top.specs.Caused.{FileCaused};
 ghost use Rattle.mas_top.specs.Checking.{IsClaimComplete, Judges};
 ghost use Rattle.mas_top.specs.Demo.{IsDemoComplete};
-ghost use Rattle.mas_top.specs.Headline.{AskedCaused, ForClaims, ForDemos, ForLints, ForOthers, ForRecords, ForReports, ForRuns, WordsCaused};
+ghost use Rattle.mas_top.specs.Headline.{AskedCaused, ForClaims, ForDemos, ForLints, ForOthers, ForRecords, ForReports, ForRuns, ForSites, WordsCaused};
 ghost use Rattle.mas_top.specs.Headline.{IsComplete, IsHeadline, IsRunReportOf, PrintsSchedule};
-ghost use Rattle.mas_top.specs.Opening.{objects_of, setup};
+ghost use Rattle.mas_opening.specs.Opening.{objects_of, setup};
 ghost use Rattle.mas_top.specs.Recording.{lent, HasGoneOn, IsRecordComplete, IsSafelyLeft, KeepsPrinted};
 ghost use Rattle.mas_top.specs.Runs.{wanted, how_of, CanBe};
 ghost use Rattle.mas_words.specs.Asked as said;
@@ -23,6 +24,7 @@ use crate::demo::print_demo;
 use crate::linting::print_lint;
 use crate::playing::{How, run_files};
 use crate::recording::{Recorded, print_record};
+use mas_both::printing::{Sites, print_sites};
 use mas_disk::disk::Disk;
 use mas_going::gate::Gate;
 use mas_io::shelf::Shelf;
@@ -172,6 +174,19 @@ fn run_asked<
             let asks = Asks::Anew;
             print_answer(alloc, asks, project, report, shelf, sink, artifacts)
         }
+        Asked::Sites {
+            one,
+            two,
+            options,
+            workers,
+        } => {
+            let s = Sites {
+                first: one,
+                second: two,
+                workers: workers as u32,
+            };
+            print_sites(rt, alloc, &options, &s, shelf, sink, artifacts)
+        }
         Asked::Lint { project } => print_lint(alloc, project, shelf, sink, artifacts),
     }
 }
@@ -229,8 +244,9 @@ fn run_read<
 /// a prefix of the report is written, or nothing. Of a run that is recorded on the disk, or goes on from there, they are
 /// `headline`, `recorded`, `finished`, `safe` and `caused`: its file keeps the schedule that the report prints, and whatever a run
 /// that goes on comes to, no turn is lost that the file told. The disk is given back, and with other words nothing is done with
-/// it. Of a check they are `check`, `checked` and `caused`, of a lint `lint`, `linted` and `caused`, and of a demo `demo`,
-/// `untouched` and `caused`. Words that are not read, the status of which is `Usage`, leave shelf, sink and disk as they were.
+/// it. Of a check they are `check`, `checked` and `caused`, of a lint `lint`, `linted` and `caused`, of two sites `sites`, `met`
+/// and `caused`, and of a demo `demo`, `untouched` and `caused`. Words that are not read, the status of which is `Usage`, leave
+/// shelf, sink and disk as they were.
 pub fn run_words<R: Threads + Wait + Sync, S: Shelf, K: Sink, G: Gate + Sync, D: Disk + Send>(
     rt: &R,
     alloc: Global,
@@ -286,6 +302,14 @@ pub fn run_words<R: Threads + Wait + Sync, S: Shelf, K: Sink, G: Gate + Sync, D:
         let objects = objects_of named table facts artifacts.items in
         (asked : said.Asked) → AskFor (map string_bytes words.now) asked →
         ForLints (λ project. IsLintComplete (known objects) project (told shelf.old sink.old) (told shelf.new sink.new) result) asked }
+    ensures sites { let told = told_of S.holds S.faults K.written K.faults in
+        let objects = objects_of named table facts artifacts.items in
+        (asked : said.Asked) → AskFor (map string_bytes words.now) asked →
+        ForSites (λ u s. ReportsSites u s (told shelf.old sink.old) (told shelf.new sink.new) result) objects asked }
+    ensures met { let told = told_of S.holds S.faults K.written K.faults in
+        let objects = objects_of named table facts artifacts.items in
+        (asked : said.Asked) → AskFor (map string_bytes words.now) asked →
+        ForSites (λ u s. AreSitesComplete u s (told shelf.old sink.old) (told shelf.new sink.new) result) objects asked }
     ensures demo { let told = told_of S.holds S.faults K.written K.faults in
         let objects = objects_of named table facts artifacts.items in
         (asked : said.Asked) → AskFor (map string_bytes words.now) asked →

@@ -5,7 +5,7 @@ use Rattle.std.specs.List.{slice_get}
 use Rattle.std.specs.Prelude.{option_map}
 use mathlib.Core.Path.{fun_ext}
 use Rattle.mas_words.specs.declared.table.Command.{Command}
-use Rattle.mas_words.specs.declared.table.Command.TheVariants.{Run, Replay, Check, Demo, Renew, Record, Resume, Lint}
+use Rattle.mas_words.specs.declared.table.Command.TheVariants.{Run, Replay, Check, Demo, Renew, Record, Resume, Sites, Lint}
 use Rattle.mas_words.specs.declared.table.Setting.{Setting}
 use Rattle.mas_words.specs.declared.asked.Asked as code
 use Rattle.mas_words.specs.Table.{form, name_count, command_of, commands}
@@ -57,6 +57,12 @@ count_resume (n ∷ []) f a e = absurd (grind arith)
 count_resume (n ∷ m ∷ []) f a e = refl
 count_resume (n ∷ m ∷ k ∷ ns) f a e = absurd (grind arith)
 
+count_sites : (ns : List (List ℕ)) (f : Setting → Option (List ℕ)) (a : Asked) → asked_by Sites ns f ≡ Some a → length ns ≡ 2
+count_sites [] f a e = absurd (grind arith)
+count_sites (n ∷ []) f a e = absurd (grind arith)
+count_sites (n ∷ m ∷ []) f a e = refl
+count_sites (n ∷ m ∷ k ∷ ns) f a e = absurd (grind arith)
+
 count_lint : (ns : List (List ℕ)) (f : Setting → Option (List ℕ)) (a : Asked) → asked_by Lint ns f ≡ Some a → length ns ≡ 1
 count_lint [] f a e = absurd (grind arith)
 count_lint (n ∷ []) f a e = refl
@@ -75,6 +81,7 @@ count Demo ns f a e = count_demo ns f a e
 count Renew ns f a e = count_renew ns f a e
 count Record ns f a e = count_record ns f a e
 count Resume ns f a e = count_resume ns f a e
+count Sites ns f a e = count_sites ns f a e
 count Lint ns f a e = count_lint ns f a e
 
 -- ---- what is read is asked for

@@ -8,7 +8,7 @@ use Rattle.clap.specs.Takes.{default_passes, entered_passes, is_valid, settle_pa
 use Rattle.clap.specs.Walk.{Held, Row, Rule, Text, Walk, default_rows, finished, first_of}
 use Rattle.clap.specs.Walk.{has_row, is_empty, nothing_held, reading_by, settled, walk, walk_from, with_default}
 use Rattle.mas_words.specs.declared.table.Command.{Command}
-use Rattle.mas_words.specs.declared.table.Command.TheVariants.{Run, Replay, Check, Demo, Renew, Record, Resume, Lint}
+use Rattle.mas_words.specs.declared.table.Command.TheVariants.{Run, Replay, Check, Demo, Renew, Record, Resume, Sites, Lint}
 use Rattle.mas_words.specs.declared.table.Setting.{Setting}
 use Rattle.mas_words.specs.declared.table.Setting.TheVariants.{Workers, Pool, Cycles, Lead, Depth, Tries, Level}
 use Rattle.mas_words.specs.Table.{name_count}
@@ -75,6 +75,7 @@ finished_rows Demo h = defaults_kept (rules_for Demo) (settled (rules_for Demo) 
 finished_rows Renew h = defaults_kept (rules_for Renew) (settled (rules_for Renew) h).rows refl
 finished_rows Record h = defaults_kept (rules_for Record) (settled (rules_for Record) h).rows refl
 finished_rows Resume h = defaults_kept (rules_for Resume) (settled (rules_for Resume) h).rows refl
+finished_rows Sites h = defaults_kept (rules_for Sites) (settled (rules_for Sites) h).rows refl
 finished_rows Lint h = defaults_kept (rules_for Lint) (settled (rules_for Lint) h).rows refl
 
 -- ---- the whole parse
@@ -95,6 +96,7 @@ takes_level Demo words = refl
 takes_level Renew words = refl
 takes_level Record words = refl
 takes_level Resume words = refl
+takes_level Sites words = refl
 takes_level Lint words = refl
 
 level_stand : (c : Command) (words : List Text) (h : Held) (n : ℕ) → level c words (stand h n)
@@ -106,6 +108,7 @@ level_stand Demo words h n = refl
 level_stand Renew words h n = refl
 level_stand Record words h n = refl
 level_stand Resume words h n = refl
+level_stand Sites words h n = refl
 level_stand Lint words h n = refl
 
 matches_walk : (c : Command) (words : List Text) → matches_of (app_for c) words ≡ finished (rules_for c) (walk (rules_for c) [] nothing_held words).held
@@ -116,6 +119,7 @@ matches_walk Demo words = refl
 matches_walk Renew words = refl
 matches_walk Record words = refl
 matches_walk Resume words = refl
+matches_walk Sites words = refl
 matches_walk Lint words = refl
 
 first_text : (id : Text) (m : Option Text) → option_and_then (λ (r : Row). slice_get r.values 0) (option_map (text_row id) m) ≡ m

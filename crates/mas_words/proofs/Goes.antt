@@ -7,7 +7,7 @@ use Rattle.clap.specs.Simple.{Shape}
 use Rattle.clap.specs.Takes.{turn_passes, walk_passes}
 use Rattle.clap.specs.Walk.{Held, Text, Walk, reacted, walked}
 use Rattle.mas_words.specs.declared.table.Command.{Command}
-use Rattle.mas_words.specs.declared.table.Command.TheVariants.{Run, Replay, Check, Demo, Renew, Record, Resume, Lint}
+use Rattle.mas_words.specs.declared.table.Command.TheVariants.{Run, Replay, Check, Demo, Renew, Record, Resume, Sites, Lint}
 use Rattle.mas_words.specs.declared.table.Setting.{Setting}
 use Rattle.mas_words.specs.Table.{key, name_count, takes}
 use Rattle.mas_words.specs.Words.{Said, text_for, with_name, with_option, with_text}
@@ -59,6 +59,7 @@ few Demo = omega arith
 few Renew = omega arith
 few Record = omega arith
 few Resume = omega arith
+few Sites = omega arith
 few Lint = omega arith
 
 -- ---- a name

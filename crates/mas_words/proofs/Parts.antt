@@ -3,7 +3,7 @@ use Rattle.std.proofs.Common.{◌≡◌, ◌∙◌, ℕ, Bool, true, false, not,
 use Rattle.std.proofs.Common.{None, Some, option_and_then, is_some, eqb, ◌&&◌, nat_lt, length, refl, sym, ap, ap₂, arith}
 use Rattle.std.specs.Bool.{⊤}
 use Rattle.mas_words.specs.declared.table.Command.{Command}
-use Rattle.mas_words.specs.declared.table.Command.TheVariants.{Run, Replay, Check, Demo, Renew, Record, Resume, Lint}
+use Rattle.mas_words.specs.declared.table.Command.TheVariants.{Run, Replay, Check, Demo, Renew, Record, Resume, Sites, Lint}
 use Rattle.mas_words.specs.declared.table.Setting.{Setting}
 use Rattle.mas_words.specs.declared.table.Setting.TheVariants.{Workers, Pool, Cycles, Lead, Depth, Tries, Level}
 use Rattle.mas_words.specs.Table.{key, form, takes, name_count, command_of}
@@ -49,6 +49,7 @@ command_found Demo = refl
 command_found Renew = refl
 command_found Record = refl
 command_found Resume = refl
+command_found Sites = refl
 command_found Lint = refl
 
 dash : (b : ℕ) → not (eqb b 45) ≡ true → eqb b 45 ≡ false

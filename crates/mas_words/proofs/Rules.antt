@@ -6,7 +6,7 @@ use Rattle.clap.specs.Simple.{built, is_simple, new_rule}
 use Rattle.clap.specs.declared.builder.action.ArgAction.TheVariants.{Set}
 use Rattle.clap.specs.declared.builder.value_parser.ValueParser.TheVariants as parser
 use Rattle.mas_words.specs.declared.table.Command.{Command}
-use Rattle.mas_words.specs.declared.table.Command.TheVariants.{Run, Replay, Check, Demo, Renew, Record, Resume, Lint}
+use Rattle.mas_words.specs.declared.table.Command.TheVariants.{Run, Replay, Check, Demo, Renew, Record, Resume, Sites, Lint}
 use Rattle.mas_words.specs.declared.table.Setting.{Setting}
 use Rattle.mas_words.specs.declared.table.Setting.TheVariants.{Workers, Pool, Cycles, Lead, Depth, Tries, Level}
 use Rattle.mas_words.specs.Table.{takes, name_count, same}
@@ -32,6 +32,7 @@ name_id Demo k = codes "count"
 name_id Renew (suc k) = codes "report"
 name_id Record (suc k) = codes "file"
 name_id Resume (suc k) = codes "file"
+name_id Sites (suc k) = codes "other"
 name_id _ _ = codes "project"
 
 abbrev pub name_built : Command → ℕ → Rule
@@ -48,6 +49,7 @@ simple Demo = refl
 simple Renew = refl
 simple Record = refl
 simple Resume = refl
+simple Sites = refl
 simple Lint = refl
 
 pub by_long : (c : Command) (o : Setting) → takes c o ≡ true → arg_by_long (rules_for c) (id_of o) ≡ Some (option_built o)
@@ -83,6 +85,13 @@ by_long Resume Lead e = refl
 by_long Resume Depth e = refl
 by_long Resume Tries e = refl
 by_long Resume Level e = refl
+by_long Sites Workers e = refl
+by_long Sites Pool e = absurd (grind arith)
+by_long Sites Cycles e = refl
+by_long Sites Lead e = refl
+by_long Sites Depth e = refl
+by_long Sites Tries e = refl
+by_long Sites Level e = refl
 by_long Lint o e = absurd (grind arith)
 
 pub option_by_id : (c : Command) (o : Setting) → takes c o ≡ true → arg_by_id (rules_for c) (id_of o) ≡ Some (option_built o)
@@ -118,6 +127,13 @@ option_by_id Resume Lead e = refl
 option_by_id Resume Depth e = refl
 option_by_id Resume Tries e = refl
 option_by_id Resume Level e = refl
+option_by_id Sites Workers e = refl
+option_by_id Sites Pool e = absurd (grind arith)
+option_by_id Sites Cycles e = refl
+option_by_id Sites Lead e = refl
+option_by_id Sites Depth e = refl
+option_by_id Sites Tries e = refl
+option_by_id Sites Level e = refl
 option_by_id Lint o e = absurd (grind arith)
 
 pub by_index : (c : Command) (k : ℕ) → k < name_count c → arg_by_index (rules_for c) (1 + k) ≡ Some (name_built c k)
@@ -140,6 +156,9 @@ by_index Record (suc (suc k)) h = absurd (omega arith)
 by_index Resume zero h = refl
 by_index Resume (suc zero) h = refl
 by_index Resume (suc (suc k)) h = absurd (omega arith)
+by_index Sites zero h = refl
+by_index Sites (suc zero) h = refl
+by_index Sites (suc (suc k)) h = absurd (omega arith)
 by_index Lint zero h = refl
 by_index Lint (suc k) h = absurd (omega arith)
 
@@ -163,6 +182,9 @@ name_by_id Record (suc (suc k)) h = absurd (omega arith)
 name_by_id Resume zero h = refl
 name_by_id Resume (suc zero) h = refl
 name_by_id Resume (suc (suc k)) h = absurd (omega arith)
+name_by_id Sites zero h = refl
+name_by_id Sites (suc zero) h = refl
+name_by_id Sites (suc (suc k)) h = absurd (omega arith)
 name_by_id Lint zero h = refl
 name_by_id Lint (suc k) h = absurd (omega arith)
 
@@ -214,6 +236,13 @@ option_name Resume Lead (suc k) = refl
 option_name Resume Depth (suc k) = refl
 option_name Resume Tries (suc k) = refl
 option_name Resume Level (suc k) = refl
+option_name Sites Workers (suc k) = refl
+option_name Sites Pool (suc k) = refl
+option_name Sites Cycles (suc k) = refl
+option_name Sites Lead (suc k) = refl
+option_name Sites Depth (suc k) = refl
+option_name Sites Tries (suc k) = refl
+option_name Sites Level (suc k) = refl
 option_name _ Workers _ = refl
 option_name _ Pool _ = refl
 option_name _ Cycles _ = refl
@@ -258,6 +287,13 @@ name_option Resume Lead (suc k) = refl
 name_option Resume Depth (suc k) = refl
 name_option Resume Tries (suc k) = refl
 name_option Resume Level (suc k) = refl
+name_option Sites Workers (suc k) = refl
+name_option Sites Pool (suc k) = refl
+name_option Sites Cycles (suc k) = refl
+name_option Sites Lead (suc k) = refl
+name_option Sites Depth (suc k) = refl
+name_option Sites Tries (suc k) = refl
+name_option Sites Level (suc k) = refl
 name_option _ Workers _ = refl
 name_option _ Pool _ = refl
 name_option _ Cycles _ = refl
@@ -309,6 +345,13 @@ other_name Resume (suc zero) zero e h f = refl
 other_name Resume (suc zero) (suc zero) e h f = absurd (grind arith)
 other_name Resume (suc zero) (suc (suc k)) e h f = absurd (omega arith)
 other_name Resume (suc (suc j)) k e h f = absurd (omega arith)
+other_name Sites zero zero e h f = absurd (grind arith)
+other_name Sites zero (suc zero) e h f = refl
+other_name Sites zero (suc (suc k)) e h f = absurd (omega arith)
+other_name Sites (suc zero) zero e h f = refl
+other_name Sites (suc zero) (suc zero) e h f = absurd (grind arith)
+other_name Sites (suc zero) (suc (suc k)) e h f = absurd (omega arith)
+other_name Sites (suc (suc j)) k e h f = absurd (omega arith)
 other_name Lint zero zero e h f = absurd (grind arith)
 other_name Lint (suc j) k e h f = absurd (omega arith)
 other_name Lint zero (suc k) e h f = absurd (omega arith)
@@ -335,4 +378,6 @@ same_name Record zero = refl
 same_name Record (suc k) = refl
 same_name Resume zero = refl
 same_name Resume (suc k) = refl
+same_name Sites zero = refl
+same_name Sites (suc k) = refl
 same_name Lint k = refl

@@ -8,7 +8,7 @@ use Rattle.clap.specs.Takes.{takes as app_takes}
 use Rattle.clap.specs.Walk.{Row, Text, first_of}
 use Rattle.std.proofs.Common.{true}
 use Rattle.mas_words.specs.declared.table.Command.{Command}
-use Rattle.mas_words.specs.declared.table.Command.TheVariants.{Run, Replay, Check, Demo, Renew, Record, Resume, Lint}
+use Rattle.mas_words.specs.declared.table.Command.TheVariants.{Run, Replay, Check, Demo, Renew, Record, Resume, Sites, Lint}
 use Rattle.mas_words.specs.declared.table.Setting.{Setting}
 use Rattle.mas_words.specs.declared.table.Setting.TheVariants.{Workers, Pool, Cycles, Lead, Depth, Tries, Level}
 use Rattle.mas_words.specs.declared.asked.Asked as code
@@ -45,6 +45,7 @@ same_names Demo words t h e = ap (λ m. listed m None) (h.names 0 (omega arith))
 same_names Renew words t h e = ap₂ listed (h.names 0 (omega arith)) (h.names 1 (omega arith)) ∙ two_names t.names e
 same_names Record words t h e = ap₂ listed (h.names 0 (omega arith)) (h.names 1 (omega arith)) ∙ two_names t.names e
 same_names Resume words t h e = ap₂ listed (h.names 0 (omega arith)) (h.names 1 (omega arith)) ∙ two_names t.names e
+same_names Sites words t h e = ap₂ listed (h.names 0 (omega arith)) (h.names 1 (omega arith)) ∙ two_names t.names e
 same_names Lint words t h e = ap (λ m. listed m None) (h.names 0 (omega arith)) ∙ one_name t.names e
 
 text_among : (rows : List Row) (o : Setting) → text_for (given_among rows) o ≡ first_of (id_of o) rows

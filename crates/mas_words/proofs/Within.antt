@@ -8,12 +8,12 @@ use Rattle.mas_mind.specs.declared.mind.Level.{Level}
 use Rattle.mas_report.specs.declared.options.Options.{Options}
 use Rattle.mas_report.specs.Limits.{IsFrom, IsWithin, defaults}
 use Rattle.mas_words.specs.declared.table.Command.{Command}
-use Rattle.mas_words.specs.declared.table.Command.TheVariants.{Run, Replay, Check, Demo, Renew, Record, Resume, Lint}
+use Rattle.mas_words.specs.declared.table.Command.TheVariants.{Run, Replay, Check, Demo, Renew, Record, Resume, Sites, Lint}
 use Rattle.mas_words.specs.declared.table.Setting.{Setting}
 use Rattle.mas_words.specs.declared.table.Setting.TheVariants.{Workers, Cycles, Lead, Depth, Tries, Level as OfLevel}
 use Rattle.mas_words.specs.declared.asked.Pool.{Pool}
 use Rattle.mas_words.specs.declared.asked.Asked as code
-use Rattle.mas_words.specs.Asked.{Asked, replay, record_to, resume_from, asked_by, asked_of, run_with, recorded_with, demo_with, options_with, options_for, workers_for, pool_for, number_for, level_for, IsPermitted}
+use Rattle.mas_words.specs.Asked.{Asked, replay, record_to, resume_from, sites, asked_by, asked_of, run_with, recorded_with, sites_with, shows, demo_with, options_with, options_for, workers_for, site_workers_for, pool_for, number_for, level_for, IsPermitted}
 use Rattle.mas_words.specs.Numbers.{number_in, within, digits_from, starts_number}
 use Rattle.mas_words.specs.Words.{Said, silence, text_for, words_said, finished, asked, asked_after}
 use Rattle.mas_words.specs.Plain.{AreRead}
@@ -60,6 +60,9 @@ options_within text = together (number_for defaults.cycles 1 1000000 (text Cycle
 workers_within : (text : Setting → Option (List ℕ)) → IfSome (workers_for text) (IsFrom 1 64)
 workers_within text = for_within 4 1 64 (text Workers) (omega arith, omega arith)
 
+site_workers_within : (text : Setting → Option (List ℕ)) → IfSome (site_workers_for text) (IsFrom 1 2)
+site_workers_within text = for_within 2 1 2 (text Workers) (omega arith, omega arith)
+
 run_within : (project : List ℕ) (o : Option Options) (w : Option ℕ) (l : Option Pool) → IfSome o IsWithin → IfSome w (IsFrom 1 64)
     → IfSome (run_with project o w l) IsPermitted
 run_within project None w l p q = tt
@@ -73,6 +76,15 @@ recorded_within : (ask : Options → ℕ → Asked) (o : Option Options) (w : Op
 recorded_within ask None w h p q = tt
 recorded_within ask (Some o) None h p q = tt
 recorded_within ask (Some o) (Some w) h p q = h o w (p, q)
+
+sites_within : (one two : List ℕ) (o : Option Options) (w : Option ℕ) → IfSome o IsWithin → IfSome w (IsFrom 1 2) → IfSome (sites_with one two o w) IsPermitted
+sites_within one two None w p q = tt
+sites_within one two (Some o) None p q = tt
+sites_within one two (Some o) (Some w) p q = go (shows o.level) refl
+  where
+    go : (b : Bool) → shows o.level ≡ b → IfSome (cond b (Some (sites one two o w)) None) IsPermitted
+    go true e = (p, q, e)
+    go false e = tt
 
 demo_within : (k w : Option ℕ) → IfSome k (IsFrom 1 200) → IfSome w (IsFrom 1 64) → IfSome (demo_with k w) IsPermitted
 demo_within None w p q = tt
@@ -110,6 +122,10 @@ by_within Resume (n ∷ m ∷ []) text = recorded_within (resume_from n m) (opti
 by_within Resume [] text = tt
 by_within Resume (n ∷ []) text = tt
 by_within Resume (n ∷ m ∷ k ∷ ns) text = tt
+by_within Sites (n ∷ m ∷ []) text = sites_within n m (options_for text) (site_workers_for text) (options_within text) (site_workers_within text)
+by_within Sites [] text = tt
+by_within Sites (n ∷ []) text = tt
+by_within Sites (n ∷ m ∷ k ∷ ns) text = tt
 by_within Lint (n ∷ []) text = tt
 by_within Lint [] text = tt
 by_within Lint (n ∷ m ∷ ns) text = tt

@@ -3,7 +3,7 @@ use Rattle.std.specs.Prelude.{ℕ, true, List, [], ◌∷◌, codes, drop, map, 
 use Rattle.clap.specs.Walk.{Rule}
 use Rattle.clap.specs.Simple.{App, new_app, new_rule, with_rule, on_top}
 use Rattle.mas_words.specs.declared.table.Command.{Command}
-use Rattle.mas_words.specs.declared.table.Command.TheVariants.{Run, Replay, Check, Demo, Renew, Record, Resume, Lint}
+use Rattle.mas_words.specs.declared.table.Command.TheVariants.{Run, Replay, Check, Demo, Renew, Record, Resume, Sites, Lint}
 use Rattle.mas_words.specs.declared.table.Setting.{Setting}
 use Rattle.mas_words.specs.Table.{key, form, run_settings}
 
@@ -26,6 +26,7 @@ name_ids Demo = codes "count" ∷ []
 name_ids Renew = codes "project" ∷ codes "report" ∷ []
 name_ids Record = codes "project" ∷ codes "file" ∷ []
 name_ids Resume = codes "project" ∷ codes "file" ∷ []
+name_ids Sites = codes "project" ∷ codes "other" ∷ []
 name_ids Lint = codes "project" ∷ []
 
 abbrev pub bare : List ℕ → App

@@ -2,7 +2,7 @@
 use Rattle.std.specs.Prelude.{ℕ, Bool, true, false, List, [], ◌∷◌, codes, if◌then◌else◌, Option, find}
 use Rattle.std.specs.Str.{bytes_eq}
 use Rattle.mas_words.specs.declared.table.Command.{Command}
-use Rattle.mas_words.specs.declared.table.Command.TheVariants.{Run, Replay, Check, Demo, Renew, Record, Resume, Lint}
+use Rattle.mas_words.specs.declared.table.Command.TheVariants.{Run, Replay, Check, Demo, Renew, Record, Resume, Sites, Lint}
 use Rattle.mas_words.specs.declared.table.Setting.{Setting}
 use Rattle.mas_words.specs.declared.table.Setting.TheVariants.{Workers, Pool, Cycles, Lead, Depth, Tries, Level}
 
@@ -27,10 +27,11 @@ form Demo = record { word = codes "demo"; names = 1; options = Workers ∷ [] }
 form Renew = record { word = codes "renew"; names = 2; options = [] }
 form Record = record { word = codes "record"; names = 2; options = Workers ∷ run_settings }
 form Resume = record { word = codes "resume"; names = 2; options = Workers ∷ run_settings }
+form Sites = record { word = codes "sites"; names = 2; options = Workers ∷ run_settings }
 form Lint = record { word = codes "lint"; names = 1; options = [] }
 
 abbrev pub commands : List Command
-commands = Run ∷ Replay ∷ Check ∷ Demo ∷ Renew ∷ Record ∷ Resume ∷ Lint ∷ []
+commands = Run ∷ Replay ∷ Check ∷ Demo ∷ Renew ∷ Record ∷ Resume ∷ Sites ∷ Lint ∷ []
 
 abbrev pub command_of : List ℕ → Option Command
 command_of word = find (λ c. bytes_eq word (form c).word) commands

@@ -2,7 +2,7 @@
 use Rattle.std.specs.Prelude.{ℕ, List, codes, None}
 use Rattle.clap.specs.Walk.{Row, first_of}
 use Rattle.mas_words.specs.declared.table.Command.{Command}
-use Rattle.mas_words.specs.declared.table.Command.TheVariants.{Run, Replay, Check, Demo, Renew, Record, Resume, Lint}
+use Rattle.mas_words.specs.declared.table.Command.TheVariants.{Run, Replay, Check, Demo, Renew, Record, Resume, Sites, Lint}
 use Rattle.mas_words.specs.declared.table.Setting.TheVariants.{Workers, Pool, Cycles, Lead, Depth, Tries, Level}
 use Rattle.mas_words.specs.Apps.{id_of}
 use Rattle.mas_words.specs.Words.{Given, Said, listed}
@@ -15,6 +15,7 @@ names_among Demo rows = listed (first_of (codes "count") rows) None
 names_among Renew rows = listed (first_of (codes "project") rows) (first_of (codes "report") rows)
 names_among Record rows = listed (first_of (codes "project") rows) (first_of (codes "file") rows)
 names_among Resume rows = listed (first_of (codes "project") rows) (first_of (codes "file") rows)
+names_among Sites rows = listed (first_of (codes "project") rows) (first_of (codes "other") rows)
 names_among Lint rows = listed (first_of (codes "project") rows) None
 
 abbrev pub given_among : List Row → Given

@@ -109,6 +109,18 @@ fn recorded_app<'a>(alloc: Global, word: &'a str) -> Result<App<'a>, AllocError>
     }
 }
 
+fn sites_app<'a>(alloc: Global) -> Result<App<'a>, AllocError>
+    ensures { IfOk result (λ a. app_of a ≡ spec.app_for Command.Sites) }
+{
+    let app = with_name(alloc, bare(alloc, "sites"), "project")?;
+    let app = with_name(alloc, app, "other")?;
+    let app = with_option(alloc, app, "workers")?;
+    match with_options(alloc, app) {
+        Ok(app) => Ok(app),
+        Err(error) => Err(error),
+    }
+}
+
 fn lint_app<'a>(alloc: Global) -> Result<App<'a>, AllocError>
     ensures { IfOk result (λ a. app_of a ≡ spec.app_for Command.Lint) }
 {
@@ -130,6 +142,7 @@ pub fn app_for<'a>(alloc: Global, command: Command) -> Result<App<'a>, AllocErro
         Command::Renew => renew_app(alloc),
         Command::Record => recorded_app(alloc, "record"),
         Command::Resume => recorded_app(alloc, "resume"),
+        Command::Sites => sites_app(alloc),
         Command::Lint => lint_app(alloc),
     }
 }

@@ -56,6 +56,13 @@ pub enum Asked<'a> {
         options: Options,
         workers: u64,
     },
+    /// A run of two projects as two sites, by so many workers.
+    Sites {
+        one: &'a [u8],
+        two: &'a [u8],
+        options: Options,
+        workers: u64,
+    },
     /// Whether each goal of the project has a plan that covers it.
     Lint {
         project: &'a [u8],

@@ -12,6 +12,7 @@ pub enum Command {
     Renew,
     Record,
     Resume,
+    Sites,
     Lint,
 }
 
@@ -51,6 +52,9 @@ pub fn command_of(word: &[u8]) -> Option<Command>
     }
     if word == b"resume".as_slice() {
         return Some(Command::Resume);
+    }
+    if word == b"sites".as_slice() {
+        return Some(Command::Sites);
     }
     if word == b"lint".as_slice() {
         return Some(Command::Lint);
@@ -98,6 +102,7 @@ pub fn takes(command: Command, setting: Setting) -> bool
         Command::Renew => false,
         Command::Record => !matches!(setting, Setting::Pool),
         Command::Resume => !matches!(setting, Setting::Pool),
+        Command::Sites => !matches!(setting, Setting::Pool),
         Command::Lint => false,
     }
 }
@@ -114,6 +119,7 @@ pub fn name_count(command: Command) -> u64
         Command::Renew => 2,
         Command::Record => 2,
         Command::Resume => 2,
+        Command::Sites => 2,
         Command::Lint => 1,
     }
 }

@@ -80,6 +80,7 @@ fn said_by<'a>(command: Command, matches: &ArgMatches<'a>) -> Said<'a>
         Command::Renew => (text_of(matches, "project"), text_of(matches, "report")),
         Command::Record => (text_of(matches, "project"), text_of(matches, "file")),
         Command::Resume => (text_of(matches, "project"), text_of(matches, "file")),
+        Command::Sites => (text_of(matches, "project"), text_of(matches, "other")),
         Command::Lint => (text_of(matches, "project"), None),
     };
     Said {

@@ -75,6 +75,13 @@ fn workers_for(given: &Given<'_>) -> Option<u64>
     number_for(4, 1, 64, given.workers)
 }
 
+/// How many workers two sites have.
+fn site_workers_for(given: &Given<'_>) -> Option<u64>
+    ensures { result ≡ spec.site_workers_for (text_for (given_of given.now)) }
+{
+    number_for(2, 1, 2, given.workers)
+}
+
 fn pool_of(text: &[u8]) -> Option<Pool>
     ensures { result ≡ spec.pool_of text.now }
 {
@@ -151,6 +158,33 @@ fn to_resume<'a>(project: &'a [u8], file: &'a [u8], given: &Given<'a>) -> Option
     })
 }
 
+/// Whether the lines of this level tell what was sent and taken.
+fn shows(level: Level) -> bool
+    ensures { result ≡ spec.shows level }
+{
+    match level {
+        Level::Say => false,
+        Level::Acts | Level::Rules => true,
+    }
+}
+
+fn to_sites<'a>(one: &'a [u8], two: &'a [u8], given: &Given<'a>) -> Option<Asked<'a>>
+    ensures { let text = text_for (given_of given.now) in
+        option_map asked_of result ≡ spec.sites_with one.now two.now (spec.options_for text) (spec.site_workers_for text) }
+{
+    let options = options_for(given)?;
+    let workers = site_workers_for(given)?;
+    if !shows(options.level) {
+        return None;
+    }
+    Some(Asked::Sites {
+        one,
+        two,
+        options,
+        workers,
+    })
+}
+
 fn to_demo<'a>(count: &[u8], given: &Given<'a>) -> Option<Asked<'a>>
     ensures { option_map asked_of result ≡ spec.demo_with (number_in 1 200 count.now) (spec.workers_for (text_for (given_of given.now))) }
 {
@@ -173,6 +207,7 @@ pub fn asked_by<'a>(command: Command, said: &Said<'a>) -> Option<Asked<'a>>
         (Command::Renew, Some(project), Some(report)) => Some(Asked::Renew { project, report }),
         (Command::Record, Some(project), Some(file)) => to_record(project, file, &said.given),
         (Command::Resume, Some(project), Some(file)) => to_resume(project, file, &said.given),
+        (Command::Sites, Some(one), Some(two)) => to_sites(one, two, &said.given),
         (Command::Lint, Some(project), None) => Some(Asked::Lint { project }),
         _ => None,
     }

@@ -68,109 +68,151 @@ fn counting<'a>(
     Ok(Counted { pings, gone })
 }
 
+/// Puts artifacts of these names last.
+fn use_counted<'a>(
+    alloc: Global,
+    names: &[&[u8]],
+    gone: &'a AtomicU64,
+    used: &mut Artifacts<Counted<'a>>,
+) -> Result<(), WorldFault> {
+    for name in names {
+        let one = counting(alloc, *name, gone)?;
+        used.push(Kept::new(one))?;
+    }
+    Ok(())
+}
+
 /// A world of these acts that uses the artifacts `pings` and `others`.
 fn world_of<'a>(
     alloc: Global,
     acts: &[u8],
     gone: &'a AtomicU64,
 ) -> Result<World<Counted<'a>>, WorldFault> {
-    let text = world(alloc, acts, &Names::new(alloc)?)?;
+    let none = Names::new(alloc)?;
+    let read = world(alloc, acts, &none);
+    drop(none);
+    let text = read?;
     worlds_open();
+    drop(text.uses);
     let mut used = Artifacts::new(alloc);
-    used.push(Kept::new(counting(alloc, b"pings", gone)?))?;
-    used.push(Kept::new(counting(alloc, b"others", gone)?))?;
-    Ok(World::of(Segment::new(text.acts, text.facts), text.hidden, used))
+    let outcome = use_counted(
+        alloc,
+        &[b"pings".as_slice(), b"others".as_slice()],
+        gone,
+        &mut used,
+    );
+    let world = World::of(Segment::new(text.acts, text.facts), text.hidden, used);
+    match outcome {
+        Ok(()) => Ok(world),
+        Err(fault) => {
+            drop(world);
+            Err(fault)
+        }
+    }
 }
 
 /// Whether an action without arguments is done.
 fn does<'a>(alloc: Global, world: &mut World<Counted<'a>>, name: &[u8]) -> Result<bool, Starved> {
     let agent = text_of(alloc, b"a")?;
     let action = action(alloc, name)?;
-    Ok(ground_literal(&action) && world.act(alloc, &agent, &action)? == Feedback::Done)
+    let done = if ground_literal(&action) {
+        world.act(alloc, &agent, &action)
+    } else {
+        Ok(Feedback::Failed)
+    };
+    drop(action);
+    Ok(done? == Feedback::Done)
 }
-
-fn disposes<'a>(
-    alloc: Global,
-    world: &mut World<Counted<'a>>,
-    name: &[u8],
-) -> Result<bool, Starved> {
-    let name = text_of(alloc, name)?;
-    Ok(world.dispose(&name))
-}
-
-const SCRAP: &[u8] = b"act scrap by A -> drop pings, +scrapped.";
 
 fn count(gone: &AtomicU64) -> u64 {
     gone.load(Ordering::SeqCst)
 }
 
-/// Whether an act drops an artifact, once, and the others stay.
-fn drops_one<'a>(
+/// Whether it is an act, or the disposing of an artifact; its name; and what comes of it: whether it is done, how many artifacts
+/// have gone then, and how many facts there are.
+type Step<'a> = (bool, &'a [u8], (bool, u64, u64));
+
+/// Whether a step gives what it has to.
+fn holds<'a>(
     alloc: Global,
     world: &mut World<Counted<'a>>,
     gone: &AtomicU64,
+    step: &Step<'_>,
 ) -> Result<bool, Starved> {
-    let kept = does(alloc, world, b"ping")? && count(gone) == 0;
-    let dropped = does(alloc, world, b"scrap")? && count(gone) == 1;
-    let once = does(alloc, world, b"scrap")? && count(gone) == 1;
-    let others = does(alloc, world, b"ping")? && world.facts(alloc)?.len() == 2;
-    Ok(kept && dropped && once && others)
+    let (is_act, name, (is_done, have_gone, are_facts)) = *step;
+    let done = if is_act {
+        does(alloc, world, name)?
+    } else {
+        world.dispose(&text_of(alloc, name)?)
+    };
+    let facts = world.facts(alloc)?;
+    let number = facts.len();
+    drop(facts);
+    Ok(done == is_done && count(gone) == have_gone && number == are_facts)
 }
 
-#[test]
-fn an_act_drops_an_artifact(rt: HostRuntime) -> Result<(), Starved> {
-    let alloc = rt.alloc();
+/// Whether these steps in a world of these acts give what they have to, and no artifact is left once the world is dropped.
+fn all_hold(alloc: Global, acts: &[u8], steps: &[Step<'_>]) -> Result<bool, Starved> {
     let gone = AtomicU64::new(0);
-    let Ok(mut world) = world_of(alloc, SCRAP, &gone) else {
+    let Ok(mut world) = world_of(alloc, acts, &gone) else {
         return Err(Starved);
     };
-    let told = drops_one(alloc, &mut world, &gone);
+    let mut told = Ok(true);
+    for step in steps {
+        if let Ok(true) = told {
+            told = holds(alloc, &mut world, &gone, step);
+        }
+    }
     drop(world);
-    assert!(rt; told?);
-    assert!(rt; count(&gone) == 2);
-    Ok(())
+    Ok(told? && count(&gone) == 2)
 }
 
-/// Whether a second disposing under a name finds none.
-fn disposes_once<'a>(
-    alloc: Global,
-    world: &mut World<Counted<'a>>,
-    gone: &AtomicU64,
-) -> Result<bool, Starved> {
-    let found = disposes(alloc, world, b"pings")? && count(gone) == 1;
-    let again = disposes(alloc, world, b"pings")?;
-    let other = disposes(alloc, world, b"crane")?;
-    Ok(found && !again && !other && count(gone) == 1 && world.facts(alloc)?.len() == 1)
-}
-
+/// An act drops an artifact, once, and the others stay; a second disposing under a name finds none.
 #[test]
-fn an_artifact_is_disposed_of_once(rt: HostRuntime) -> Result<(), Starved> {
-    let alloc = rt.alloc();
-    let gone = AtomicU64::new(0);
-    let Ok(mut world) = world_of(alloc, b"", &gone) else {
-        return Err(Starved);
-    };
-    let told = disposes_once(alloc, &mut world, &gone);
-    drop(world);
-    assert!(rt; told?);
-    assert!(rt; count(&gone) == 2);
+fn an_artifact_goes_once(rt: HostRuntime) -> Result<(), Starved> {
+    let acts = b"act scrap by A -> drop pings, +scrapped.";
+    let acted: [Step<'_>; 4] = [
+        (true, b"ping", (true, 0, 2)),
+        (true, b"scrap", (true, 1, 2)),
+        (true, b"scrap", (true, 1, 2)),
+        (true, b"ping", (true, 1, 2)),
+    ];
+    assert!(rt; all_hold(rt.alloc(), acts, &acted)?);
+    let disposed: [Step<'_>; 3] = [
+        (false, b"pings", (true, 1, 1)),
+        (false, b"pings", (false, 1, 1)),
+        (false, b"crane", (false, 1, 1)),
+    ];
+    assert!(rt; all_hold(rt.alloc(), b"", &disposed)?);
     Ok(())
 }
 
 /// The world of a file without clauses, which uses none of the artifacts.
-fn empty_world<'a>(
+fn idle_world<'a>(
     alloc: Global,
     artifacts: Vec<Counted<'a>>,
 ) -> Result<World<Counted<'a>>, WorldFault> {
-    let text = world(alloc, b"", &Names::new(alloc)?)?;
-    worlds_open();
-    let unused = WorldText {
-        facts: text.facts,
-        hidden: text.hidden,
-        uses: Names::new(alloc)?,
-        acts: text.acts,
+    let Ok(none) = Names::new(alloc) else {
+        drop(artifacts);
+        return Err(WorldFault::Memory);
     };
-    Ok(open_world(alloc, unused, artifacts)?)
+    match world(alloc, b"", &none) {
+        Ok(text) => {
+            worlds_open();
+            drop(text.uses);
+            let unused = WorldText {
+                facts: text.facts,
+                hidden: text.hidden,
+                uses: none,
+                acts: text.acts,
+            };
+            Ok(open_world(alloc, unused, artifacts)?)
+        }
+        Err(fault) => {
+            drop(artifacts);
+            Err(fault)
+        }
+    }
 }
 
 /// A world drops the artifacts that it does not use.
@@ -181,13 +223,11 @@ fn an_unused_artifact_is_dropped(rt: HostRuntime) -> Result<(), Starved> {
     let Ok(one) = counting(alloc, b"pings", &gone) else {
         return Err(Starved);
     };
-    let mut all = Vec::new(alloc);
-    all.push(one)?;
-    let Ok(world) = empty_world(alloc, all) else {
+    let Ok(world) = idle_world(alloc, Vec::from_array(alloc, [one])?) else {
         return Err(Starved);
     };
-    assert!(rt; count(&gone) == 1);
+    let opened = count(&gone);
     drop(world);
-    assert!(rt; count(&gone) == 1);
+    assert!(rt; opened == 1 && count(&gone) == 1);
     Ok(())
 }

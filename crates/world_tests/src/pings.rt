@@ -49,12 +49,22 @@ impl Pings {
 
     /// The same of another table, unless an act of it drops an artifact.
     pub fn of(alloc: Global, name: &[u8], table: &[u8]) -> Result<Option<Pings>, WorldFault> {
-        let text = world(alloc, table, &Names::new(alloc)?)?;
+        let none = Names::new(alloc)?;
+        let read = world(alloc, table, &none);
+        drop(none);
+        let text = read?;
         worlds_open();
-        let name = text_of(alloc, name)?;
-        match OwnSegment::new(text.acts, text.facts) {
-            Some(segment) => Ok(Some(Pings { name, segment })),
-            None => Ok(None),
+        drop(text.hidden);
+        drop(text.uses);
+        let Some(segment) = OwnSegment::new(text.acts, text.facts) else {
+            return Ok(None);
+        };
+        match text_of(alloc, name) {
+            Ok(name) => Ok(Some(Pings { name, segment })),
+            Err(Starved) => {
+                drop(segment);
+                Err(WorldFault::Memory)
+            }
         }
     }
 }
@@ -98,5 +108,11 @@ pub fn action(alloc: Global, name: &[u8]) -> Result<Literal, Starved> {
 pub fn ping(alloc: Global, pings: &mut Pings, agent: &[u8]) -> Result<bool, Starved> {
     let agent = text_of(alloc, agent)?;
     let action = action(alloc, b"ping")?;
-    Ok(ground_literal(&action) && pings.operate(alloc, &agent, &action)? == Feedback::Done)
+    let done = if ground_literal(&action) {
+        pings.operate(alloc, &agent, &action)
+    } else {
+        Ok(Feedback::Failed)
+    };
+    drop(action);
+    Ok(done? == Feedback::Done)
 }

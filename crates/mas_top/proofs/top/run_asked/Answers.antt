@@ -2,7 +2,7 @@ use Rattle.std.proofs.Common.{sym, subst}
 use Rattle.mas_io.specs.Told.{told_of}
 use Rattle.mas_words.specs.Asked.{asked_of}
 use Rattle.mas_top.specs.Headline.{AskedCaused, IsRunReportOf}
-use Rattle.mas_top.specs.Opening.{objects_of}
+use Rattle.mas_opening.specs.Opening.{objects_of}
 use Rattle.mas_top.specs.Recording.{lent}
 use Rattle.mas_top.proofs.top.run_asked.Goals as goal
 

@@ -1,4 +1,4 @@
-use Rattle.mas_top.proofs.Said.{headline_words, schedule_words, complete_words, recorded_words, finished_words, check_words, checked_words, lint_words, linted_words, demo_words}
+use Rattle.mas_top.proofs.Said.{headline_words, schedule_words, complete_words, recorded_words, finished_words, check_words, checked_words, lint_words, linted_words, sites_words, met_words, demo_words}
 use Rattle.mas_top.proofs.top.run_words.Goals as goal
 
 pub returns-clause-headline : goal.returns-clause-headline
@@ -27,6 +27,12 @@ returns-clause-lint g c = lint_words _ _ _ _ _ _ c.run_read.ensures.caused
 
 pub returns-clause-linted : goal.returns-clause-linted
 returns-clause-linted g c = linted_words _ _ _ _ _ _ c.run_read.ensures.caused
+
+pub returns-clause-sites : goal.returns-clause-sites
+returns-clause-sites g c = sites_words _ _ _ _ _ _ c.run_read.ensures.caused
+
+pub returns-clause-met : goal.returns-clause-met
+returns-clause-met g c = met_words _ _ _ _ _ _ c.run_read.ensures.caused
 
 pub returns-clause-demo : goal.returns-clause-demo
 returns-clause-demo g c = demo_words _ _ _ _ _ _ c.run_read.ensures.caused

@@ -1,5 +1,0 @@
-use Rattle.asl_index.proofs.Quiet.{Compared}
-use Rattle.asl_index.proofs.updating.are_perceived.Given as goal
-
-abbrev pub invariant-loop-k : goal.invariant-loop-k
-invariant-loop-k l = Compared l.percepts l.store l.k l.next

@@ -1,0 +1,9 @@
+pub mod Shared
+pub mod Taking
+pub mod Described
+pub mod Seating
+pub mod Starting
+pub mod Told
+pub mod Answered
+pub mod Caused
+pub mod Reported

@@ -1,0 +1,11 @@
+pub mod Folds
+pub mod Seats
+pub mod Moving
+pub mod Meetings
+pub mod Going
+pub mod Ending
+pub mod Steps
+pub mod Takes
+pub mod Tallies
+pub mod Keeping
+pub mod Whole

@@ -1,0 +1,5 @@
+pub mod Owners
+pub mod Boxes
+pub mod Arrivals
+pub mod Listing
+pub mod Whole

@@ -1,0 +1,4 @@
+//! One of two sites that run side by side.
+#![tactic(auto)]
+
+pub mod side;
