@@ -7,3 +7,6 @@ pub mod Told
 pub mod Answered
 pub mod Caused
 pub mod Reported
+pub mod Single
+pub mod Total
+pub mod Refusals

@@ -1,12 +1,50 @@
--- What is true of the texts of two sites, over any meaning V of the agents' own minds.
-use Rattle.std.specs.Prelude.{ℕ, ◌≡◌, Bool, List}
+-- What is true of two sites: of what their files describe, and of their texts, over any meaning V of the agents' own minds.
+use Rattle.std.specs.Prelude.{ℕ, ◌≡◌, ◌⊎◌, Bool, List, Some}
+use Rattle.asl_term.specs.declared.syntax.Filed.{Filed}
 use Rattle.mas_mind.specs.Minds.{Kind}
 use Rattle.mas_report.specs.declared.options.Options.{Options}
 use Rattle.mas_report.specs.Report.{latest, IsAnyReport}
 use Rattle.mas_stand.specs.Seats.{seated}
+use Rattle.mas_world.specs.Worlds.{Used}
+use Rattle.mas_reading.specs.declared.status.Status.{Status}
+use Rattle.mas_reading.specs.Laws.{Surely}
 use Rattle.mas_sites.specs.Scripts.{Script as Entries}
 use Rattle.mas_sites.specs.Sites.{Before, opening_with}
+use Rattle.mas_both.specs.Pairs.{Wish, Pair, HasPair, PairRefused, NoneRefused}
 use Rattle.mas_both.specs.Texts.{sites_text, IsSitesText}
+
+-- ---- what the files describe
+
+-- files describe one pair at most
+abbrev pub OnePair : Type 0
+OnePair =
+    (objects : List Used) (files : List Filed) (wish : Wish) (a b : Pair) → HasPair objects (Some files) wish a →
+    HasPair objects (Some files) wish b → a ≡ b
+
+-- files describe a pair, or one of them is refused first
+abbrev pub SomePair : Type 0
+SomePair =
+    (objects : List Used) (files : List Filed) (wish : Wish) → ((both : Pair) × HasPair objects (Some files) wish both) ⊎
+    ((status : Status) × Surely (PairRefused objects (Some files) wish) status)
+
+-- so files of which none is refused describe a pair
+abbrev pub UnrefusedDescribe : Type 0
+UnrefusedDescribe =
+    (objects : List Used) (files : List Filed) (wish : Wish) → NoneRefused objects files wish →
+    (both : Pair) × HasPair objects (Some files) wish both
+
+-- where files describe a pair, none of them is refused, unless the count of faults rose or memory lacked
+abbrev pub NotRefused : Type 0
+NotRefused =
+    (objects : List Used) (files : List Filed) (wish : Wish) (both : Pair) → HasPair objects (Some files) wish both → NoneRefused objects files wish
+
+-- files are refused with one status at most, unless the count of faults rose or memory lacked
+abbrev pub OneRefusal : Type 0
+OneRefusal =
+    (objects : List Used) (files : List Filed) (wish : Wish) (a b : Status) → Surely (PairRefused objects (Some files) wish) a →
+    Surely (PairRefused objects (Some files) wish) b → a ≡ b
+
+-- ---- the texts
 
 -- w has the report of a run of each site, as that of a run of one project: along the schedule that it prints, each turn legal, every
 -- agent gone at the end. The run is from the opening state in which each stand has its whole script.

@@ -12,7 +12,7 @@ use Rattle.mas_sites.specs.Scripts.{Script as Entries}
 use Rattle.mas_sites.specs.Giving.{is_own}
 use Rattle.mas_sites.specs.Ways.{AreWays}
 use Rattle.mas_meeting.specs.Between.{those_of}
-use Rattle.mas_met.specs.Results.{script_at, scripts_from, all_left}
+use Rattle.mas_met.specs.Results.{script_at, scripts_from, all_left, senders_from, in_turn}
 use Rattle.mas_met.specs.declared.met.Script.{Script}
 
 -- ---- scripts
@@ -92,15 +92,19 @@ none_left y a (way ∷ ways) l h =
     ∙ ap (λ t. t ++ those_of y (all_left ways)) (of_other y a way (λ e. absurd (omega arith)) (first_from a way ways h))
     ∙ none_left y (a + 1) ways (omega arith) (rest_from a way ways h)
 
+-- those of the first way's agent
+first_left : (a : ℕ) (way : List Message) (ways : List (List Message)) → AreFrom a (way ∷ ways) → those_of a (way ++ all_left ways) ≡ way
+first_left a way ways h =
+    filter-append (λ m. nat_eq m.from a) way (all_left ways)
+    ∙ ap (λ t. t ++ those_of a (all_left ways)) (of_one a way (first_from a way ways h))
+    ∙ ap (λ t. way ++ t) (none_left a (a + 1) ways (omega arith) (rest_from a way ways h))
+    ∙ append-nil way
+
 left_of : (a i : ℕ) (ways : List (List Message)) → AreFrom a ways → those_of (a + i) (all_left ways) ≡ box_or_none (slice_get ways i)
 left_of a i [] h = refl
 left_of a zero (way ∷ ways) h =
     let n : a + 0 ≡ a = omega arith in
-    ap (λ y. those_of y (way ++ all_left ways)) n
-    ∙ filter-append (λ m. nat_eq m.from a) way (all_left ways)
-    ∙ ap (λ t. t ++ those_of a (all_left ways)) (of_one a way (first_from a way ways h))
-    ∙ ap (λ t. way ++ t) (none_left a (a + 1) ways (omega arith) (rest_from a way ways h))
-    ∙ append-nil way
+    ap (λ y. those_of y (way ++ all_left ways)) n ∙ first_left a way ways h
 left_of a (suc i) (way ∷ ways) h =
     let n : a + suc i ≡ a + 1 + i = omega arith in
     filter-append (λ m. nat_eq m.from (a + suc i)) way (all_left ways)
@@ -122,3 +126,26 @@ pub left_is : (ways : List (List Message)) (y : ℕ) → AreWays ways → 1 ≤ 
 left_is ways y h l =
     let n : 1 + (y - 1) ≡ y = omega arith in
     ap (λ x. those_of x (all_left ways)) (sym n) ∙ left_of 1 (y - 1) ways (λ i. from_at ways i (slice_get ways i) h refl)
+
+-- ---- by sender
+
+-- later senders have none on the way of an earlier one
+none_before : (n y a : ℕ) (way left : List Message) → a < y → All (IsOf a) way → senders_from y n (way ++ left) ≡ senders_from y n left
+none_before zero y a way left l h = refl
+none_before (suc n) y a way left l h =
+    let none = of_other y a way (λ e. absurd (omega arith)) h in
+    ap (λ t. t ++ senders_from (y + 1) n (way ++ left)) (filter-append (λ m. nat_eq m.from y) way left ∙ ap (λ t. t ++ those_of y left) none)
+    ∙ ap (λ t. those_of y left ++ t) (none_before n (y + 1) a way left (omega arith) h)
+
+left_in_turn : (a : ℕ) (ways : List (List Message)) → AreFrom a ways → all_left ways ≡ senders_from a (length ways) (all_left ways)
+left_in_turn a [] h = refl
+left_in_turn a (way ∷ ways) h =
+    let left = all_left ways in
+    let n = length ways in
+    ap (λ t. way ++ t) (left_in_turn (a + 1) ways (rest_from a way ways h))
+    ∙ ap (λ t. way ++ t) (sym (none_before n (a + 1) a way left (omega arith) (first_from a way ways h)))
+    ∙ ap (λ t. t ++ senders_from (a + 1) n (way ++ left)) (sym (first_left a way ways h))
+
+-- where each way has messages of its own agent alone
+pub stands_by_sender : (ways : List (List Message)) (n : ℕ) → AreWays ways → length ways ≡ n → all_left ways ≡ in_turn n (all_left ways)
+stands_by_sender ways n h e = left_in_turn 1 ways (λ i. from_at ways i (slice_get ways i) h refl) ∙ ap (λ x. in_turn x (all_left ways)) e

@@ -18,7 +18,8 @@ use Rattle.mas_met.specs.Results.{AreListed, scripts_from, all_scripts, all_left
 use Rattle.mas_met.specs.declared.met.Script.{Script}
 use Rattle.mas_met.proofs.Owners.{own_run, number_run}
 use Rattle.mas_met.proofs.Arrivals.{Starts, arrives}
-use Rattle.mas_met.proofs.Listing.{same_owners, left_is}
+use Rattle.mas_met.proofs.Listing.{same_owners, left_is, stands_by_sender}
+use Rattle.mas_met.proofs.Numbers.{ways_number}
 
 -- as many scripts as minds, and few
 pub are_listed : {V : Type 0} (k : Kind V) (b : Noted) (minds : List (Seated V)) (done : After V) → Starts k b minds → RanWhole k (before b.state minds) done → AreListed done.minds done.scripts
@@ -56,9 +57,16 @@ pub record BothRan {V : Type 0} (k : Kind V) (first second : Before V) (one two 
   pub two_ran : RanWhole k second two
   pub in_order_one : ArrivesInOrder k first one two ways
   pub in_order_two : ArrivesInOrder k second two one ways
+  pub number : length ways ≡ length first.minds
 
 pub in_turns : {V : Type 0} (k : Kind V) (first second : Before V) (one two : After V) (ways : List (List Message)) → RanInTurns k first second one two ways → BothRan k first second one two ways
-in_turns k first second one two ways r = record { one_ran = r.one; two_ran = r.two; in_order_one = r.in_order_one; in_order_two = r.in_order_two }
+in_turns k first second one two ways r = record {
+  one_ran = r.one;
+  two_ran = r.two;
+  in_order_one = r.in_order_one;
+  in_order_two = r.in_order_two;
+  number = ap length r.left_is ∙ ways_number k (length first.minds) r.rounds _ _ r.last r.fold;
+}
 
 module _ {V : Type 0} (k : Kind V) (b d : Noted) (m n : List (Seated V)) (one two : After V) (ways : List (List Message)) (scripts : List Script) (h : Starts k b m) (g : Starts k d n)
     (s : scripts ≡ all_scripts one.minds one.scripts two.minds two.scripts) where
@@ -75,6 +83,7 @@ module _ {V : Type 0} (k : Kind V) (b d : Noted) (m n : List (Seated V)) (one tw
     two_ran = r.two_ran;
     from_one = arrived k b m one two ways h w r.one_ran r.in_order_one;
     from_two = arrived k d n two one ways g w r.two_ran r.in_order_two;
+    by_sender = stands_by_sender ways (length m) w r.number;
   }
 
   is_fold : RanInTurns k (before b.state m) (before d.state n) one two ways →

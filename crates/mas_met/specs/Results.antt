@@ -1,5 +1,5 @@
 -- What the runs of two sites give back.
-use Rattle.std.specs.Prelude.{ℕ, ◌≡◌, ◌+◌, ◌-◌, ◌<◌, ◌^◌, Bool, true, false, List, [], ◌∷◌, ◌++◌, length, replicate, slice_get, Some}
+use Rattle.std.specs.Prelude.{ℕ, zero, suc, ◌≡◌, ◌+◌, ◌-◌, ◌<◌, ◌^◌, Bool, true, false, List, [], ◌∷◌, ◌++◌, length, replicate, slice_get, Some}
 use Rattle.std.specs.List.{flat_map}
 use Rattle.mas_mind.specs.declared.mind.Message.{Message}
 use Rattle.mas_mind.specs.Minds.{Kind, IsAgent}
@@ -40,6 +40,15 @@ all_scripts one of_one two of_two = scripts_from 1 1 one of_one ++ scripts_from 
 abbrev pub all_left : List (List Message) → List Message
 all_left ways = flat_map (λ way. way) ways
 
+-- of so many senders, from this number on: those of the one, and then those of the next
+abbrev pub senders_from : ℕ → ℕ → List Message → List Message
+senders_from a zero left = []
+senders_from a (suc n) left = those_of a left ++ senders_from (a + 1) n left
+
+-- those of agent 1, then those of agent 2, and so on to agent n, and no others
+abbrev pub in_turn : ℕ → List Message → List Message
+in_turn n left = senders_from 1 n left
+
 -- ---- what arrives of an agent
 
 -- the messages from y to an agent x of the other site: those that x's stand at y's site took are those in the script of y's
@@ -72,7 +81,7 @@ abbrev pub closed : {V : Type 0} → Ended V → List Entries → After V
 closed e scripts = after e.board e.minds scripts
 
 -- on any number of threads: each site ran along its own schedule until all had left, from the opening state in which each stand has
--- its whole script, and what each agent sent to the other site arrives there in order
+-- its whole script, what each agent sent to the other site arrives there in order, and what is left on the way stands by sender
 pub record HaveRun {V : Type 0} (k : Kind V) (first second : Before V) (one two : Ended V) (scripts : List Script) (between : List Message) : Type 0 where
   pub of_one : List Entries
   pub of_two : List Entries
@@ -81,6 +90,7 @@ pub record HaveRun {V : Type 0} (k : Kind V) (first second : Before V) (one two 
   pub two_ran : RanWhole k second (closed two of_two)
   pub from_one : Arrives k first (closed one of_one) of_two between
   pub from_two : Arrives k second (closed two of_two) of_one between
+  pub by_sender : between ≡ in_turn (length first.minds) between
 
 -- on one thread: this is the last state of the fold
 pub record IsFold {V : Type 0} (k : Kind V) (first second : Before V) (one two : Ended V) (scripts : List Script) (between : List Message) : Type 0 where

@@ -102,4 +102,4 @@ module _ {V : Type 0} (k : Kind V) (first second : Before V) (one two : After V)
   }
 
   pub both_ran : BothRan k first second one two ways
-  both_ran = record { one_ran = r.whole; two_ran = s.whole; in_order_one = from_one; in_order_two = from_two }
+  both_ran = record { one_ran = r.whole; two_ran = s.whole; in_order_one = from_one; in_order_two = from_two; number = l.number ∙ minds_are }

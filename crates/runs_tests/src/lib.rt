@@ -1,4 +1,4 @@
-//! Tests of what no case can say: laws, artifacts of one's own, and real files and output.
+//! Tests of what no case can say: laws, runs with artifacts of one's own, and real files and output.
 #![tactic(auto)]
 
 #[cfg(test)]

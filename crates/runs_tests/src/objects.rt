@@ -1,7 +1,6 @@
 //! Artifacts of one's own, handed in to runs.
 
 use asl_term::copying::text_of;
-use asl_term::printing_expr::print_literal;
 use asl_term::room::Roomy;
 use asl_term::sequence::{Seq, Starved};
 use asl_term::syntax::{Filed, Files, Text};
@@ -114,34 +113,6 @@ mail
 schedule 7
 1x7
 ";
-
-/// An artifact has no table with an act that drops an artifact.
-#[test]
-fn a_table_that_drops_is_refused(rt: HostRuntime) {
-    let made = Pings::of(rt.alloc(), b"pings", b"act ping by A -> +p, drop tally.");
-    let refused = matches!(&made, Ok(None));
-    drop(made);
-    assert!(rt; refused);
-}
-
-/// An artifact that a test wrote answers for itself.
-#[test]
-fn an_artifact_of_ones_own_acts(rt: HostRuntime) -> Result<(), Starved> {
-    let alloc = rt.alloc();
-    let Ok(mut one) = counter(alloc, b"pings", true) else {
-        return Err(Starved);
-    };
-    assert!(rt; one.name().as_slice() == b"pings".as_slice());
-    assert!(rt; ping(alloc, &mut one, b"a")?);
-    let mut facts = Seq::new(alloc);
-    one.observe(&mut facts)?;
-    let mut told = Seq::new(alloc);
-    for fact in facts.as_slice() {
-        print_literal(fact, &mut told)?;
-    }
-    assert!(rt; told.as_slice() == b"pings(2)".as_slice());
-    Ok(())
-}
 
 /// A counter of pings that a test wrote is acted on and seen; of two artifacts with one name a world takes the first; a world
 /// names no artifact that was not handed in; a demo wants a tally, whatever else is handed in.
