@@ -12,7 +12,7 @@ use Rattle.asl_resolve.specs.Marks.{marks, decide}
 use Rattle.asl_plans.specs.declared.library.Choice.{Choice}
 use Rattle.asl_plans.specs.Libraries.{plan_at}
 use Rattle.asl_intend.specs.declared.entry.Means.{Means}
-use Rattle.asl_exec.specs.Parts.{Around, Parts}
+use Rattle.asl_state.specs.Parts.{Around, Parts}
 use Rattle.asl_choose.specs.declared.chosen.Chosen.{Chosen}
 use Rattle.asl_choose.specs.declared.chosen.Chosen.TheVariants as chosen
 

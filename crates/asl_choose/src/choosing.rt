@@ -5,18 +5,18 @@ ghost use Rattle.asl_unify.specs.Renamed.{renamed_formula};
 ghost use Rattle.asl_plans.specs.Libraries.{plan_at};
 ghost use Rattle.asl_resolve.specs.Marks.{NextAtMost};
 ghost use Rattle.asl_choose.specs.declared.chosen.Chosen.{Chosen as Given};
-ghost use Rattle.asl_exec.specs.Parts.{around, parts};
+ghost use Rattle.asl_state.specs.Parts.{seen_around, seen};
 ghost use Rattle.asl_choose.specs.Choosing as spec;
 ghost use Rattle.asl_choose.specs.Numbers.{ChosenAtMost, or_else};
 
 use crate::chosen::Chosen;
 use asl_beliefs::base::BeliefBase;
-use asl_exec::parts::{Around, Parts};
 use asl_intend::entry::Means;
 use asl_plans::library::Choice;
 use asl_resolve::actions::Actions;
 use asl_resolve::answers::Answer;
 use asl_resolve::first::first;
+use asl_state::parts::{Around, Parts};
 use asl_term::sequence::{Seq, Starved};
 use asl_term::syntax::{Formula, Formulas, Plan, Trigger};
 use asl_unify::rename::{rename_expr, rename_formula, rename_literal};
@@ -63,9 +63,7 @@ fn sought<B: BeliefBase, A: Actions>(
     s: &Subst,
 ) -> Result<Answer, Starved>
     requires { p.now.number + k.now.budgets.tries < 2 ^ 64 - 1 }
-    ensures answer { IfOk result (λ r. r ≡ spec.sought
-        (around k.now.lib.plans (B.rules p.now.beliefs) (A.solve k.now.actions) k.now.budgets)
-        (parts (B.beliefs p.now.beliefs) p.now.agenda p.now.number) number plan.now s.now) }
+    ensures answer { IfOk result (λ r. r ≡ spec.sought (seen_around A.solve k.now B.rules p.now) (seen B.beliefs p.now) number plan.now s.now) }
     ensures number { IfOk result (λ r. NextAtMost (p.now.number + k.now.budgets.tries) r) }
 {
     let context = rename_expr(alloc, &plan.context, number)?;
@@ -105,8 +103,8 @@ fn choose_at<B: BeliefBase, A: Actions>(
     c: &Choice,
 ) -> Result<Option<Chosen>, Starved>
     requires { p.now.number + k.now.budgets.tries < 2 ^ 64 - 1 }
-    ensures chosen { let e = around k.now.lib.plans (B.rules p.now.beliefs) (A.solve k.now.actions) k.now.budgets in
-        let q = parts (B.beliefs p.now.beliefs) p.now.agenda p.now.number in
+    ensures chosen { let e = seen_around A.solve k.now B.rules p.now in
+        let q = seen B.beliefs p.now in
         IfOk result (λ r. (rest : Given) → spec.choose_at e q number (plan_at k.now.lib.plans c.now.plan) c.now.subst rest ≡ or_else r rest) }
     ensures number { IfOk result (λ r. IfSome r (ChosenAtMost (p.now.number + k.now.budgets.tries))) }
 {
@@ -128,8 +126,8 @@ pub fn choose<B: BeliefBase, A: Actions>(
     choices: &[Choice],
 ) -> Result<Chosen, Starved>
     requires { p.now.number + k.now.budgets.tries < 2 ^ 64 - 1 }
-    ensures chosen { let e = around k.now.lib.plans (B.rules p.now.beliefs) (A.solve k.now.actions) k.now.budgets in
-        let q = parts (B.beliefs p.now.beliefs) p.now.agenda p.now.number in
+    ensures chosen { let e = seen_around A.solve k.now B.rules p.now in
+        let q = seen B.beliefs p.now in
         IfOk result (λ r. r ≡ spec.choose e q number choices.now) }
     ensures number { IfOk result (ChosenAtMost (p.now.number + k.now.budgets.tries)) }
 {

@@ -9,11 +9,11 @@ use Rattle.asl_intend.specs.declared.agenda.Error.TheVariants as error
 use Rattle.asl_intend.specs.declared.agenda.Event.{Event}
 use Rattle.asl_plans.specs.declared.library.Choice.{Choice}
 use Rattle.asl_plans.specs.Plans.{relevant}
-use Rattle.asl_exec.specs.declared.rows.Row.{Row}
-use Rattle.asl_exec.specs.declared.rows.Row.TheVariants as row
-use Rattle.asl_exec.specs.declared.went.Went.{Went}
-use Rattle.asl_exec.specs.declared.went.Went.TheVariants as went
-use Rattle.asl_exec.specs.Parts.{Around, Parts, Made}
+use Rattle.asl_state.specs.declared.rows.Row.{Row}
+use Rattle.asl_state.specs.declared.rows.Row.TheVariants as row
+use Rattle.asl_state.specs.declared.went.Went.{Went}
+use Rattle.asl_state.specs.declared.went.Went.TheVariants as went
+use Rattle.asl_state.specs.Parts.{Around, Parts, Made}
 use Rattle.asl_exec.specs.Exec.{exec}
 use Rattle.mas_mind.specs.declared.mind.Feedback.{Feedback}
 use Rattle.mas_mind.specs.declared.mind.Feedback.TheVariants as feedback
@@ -21,7 +21,7 @@ use Rattle.mas_mind.specs.declared.mind.Input.{Input}
 use Rattle.mas_mind.specs.declared.mind.Message.{Message}
 use Rattle.mas_mind.specs.declared.mind.Thought.{Thought}
 use Rattle.mas_mind.specs.Minds.{asks_feedback}
-use Rattle.asl_kqml.specs.declared.peers.Peers.{Peers}
+use Rattle.asl_state.specs.declared.peers.Peers.{Peers}
 use Rattle.asl_kqml.specs.declared.took.Took.{Took}
 use Rattle.asl_kqml.specs.declared.took.Took.TheVariants as took
 use Rattle.asl_kqml.specs.Receive.{receive}

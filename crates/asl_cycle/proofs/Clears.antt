@@ -1,7 +1,7 @@
 -- One more row of Clr.
 use Rattle.std.proofs.Common.{◌≡◌, ℕ, suc, ◌-◌, ◌<◌, List, arith, refl, sym, ◌∙◌, subst}
 use Rattle.asl_intend.specs.declared.entry.Means.{Means}
-use Rattle.asl_exec.specs.Parts.{Around, Parts}
+use Rattle.asl_state.specs.Parts.{Around, Parts}
 use Rattle.asl_cycle.specs.declared.rows.Sofar.{Sofar}
 use Rattle.asl_cycle.specs.declared.config.After.{After}
 use Rattle.asl_cycle.specs.declared.config.After.TheVariants as after

@@ -6,7 +6,7 @@ use Rattle.asl_resolve.specs.declared.answers.Budgets.{Budgets}
 use Rattle.mas_mind.specs.declared.mind.Feedback.{Feedback}
 use Rattle.mas_mind.specs.declared.mind.Input.{Input}
 use Rattle.mas_mind.specs.Minds.{asks_feedback}
-use Rattle.asl_exec.specs.Parts.{around}
+use Rattle.asl_state.specs.Parts.{around}
 use Rattle.asl_stdlib.specs.Solving.{solve}
 use Rattle.asl_cycle.specs.declared.rows.Line.{Line}
 use Rattle.asl_cycle.specs.Cycle.{Ran, cycle}

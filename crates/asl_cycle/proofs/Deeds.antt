@@ -16,13 +16,13 @@ use Rattle.asl_intend.specs.declared.agenda.Agenda.{Agenda}
 use Rattle.asl_intend.specs.declared.agenda.Error.TheVariants as error
 use Rattle.asl_intend.specs.Stacks.{has_goal, names_goal, is_bounded, is_bounded_trigger, head}
 use Rattle.asl_intend.specs.Agendas.{without, without_intentions, without_desires}
-use Rattle.asl_exec.specs.declared.rows.Fall.{Fall}
-use Rattle.asl_exec.specs.declared.rows.Row.TheVariants as row
-use Rattle.asl_exec.specs.Parts.{Around, Parts, Made, failed}
-use Rattle.asl_exec.specs.Clear.{emptied, popped, done_below}
+use Rattle.asl_state.specs.declared.rows.Fall.{Fall}
+use Rattle.asl_state.specs.declared.rows.Row.TheVariants as row
+use Rattle.asl_state.specs.Parts.{Around, Parts, Made, failed}
+use Rattle.asl_state.specs.Emptied.{emptied, popped, done_below}
 use Rattle.mas_mind.specs.declared.mind.Message.{Message}
-use Rattle.asl_kqml.specs.declared.peers.Peers.{Peers}
-use Rattle.asl_kqml.specs.Contents.{literal_of}
+use Rattle.asl_state.specs.declared.peers.Peers.{Peers}
+use Rattle.asl_state.specs.Contents.{literal_of}
 use Rattle.asl_goals.specs.declared.acted.Why.{Why}
 use Rattle.asl_goals.specs.declared.acted.Why.TheVariants as why
 use Rattle.asl_goals.specs.declared.letter.Letter.{Letter}

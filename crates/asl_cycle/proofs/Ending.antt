@@ -21,15 +21,15 @@ use Rattle.asl_intend.specs.Agendas.{without, without_intentions, without_desire
 use Rattle.asl_intend.specs.Means.{applied_means}
 use Rattle.asl_intend.specs.Stacks.{bound, has_goal, has_means, head, is_bounded, is_bounded_trigger, names_goal, without_first, without_head}
 use Rattle.asl_fail.specs.Fails.{fails, is_raised, raised, popped_one, dropped, posted}
-use Rattle.asl_exec.specs.declared.rows.Fall.{Fall}
-use Rattle.asl_exec.specs.declared.rows.Row.TheVariants as row
-use Rattle.asl_exec.specs.declared.went.Went.{Went}
-use Rattle.asl_exec.specs.declared.went.Went.TheVariants as went
-use Rattle.asl_exec.specs.Clear.{answer, bound_by, done_below}
-use Rattle.asl_exec.specs.Parts.{Around, Parts, Made, made, failed, told}
+use Rattle.asl_state.specs.declared.rows.Fall.{Fall}
+use Rattle.asl_state.specs.declared.rows.Row.TheVariants as row
+use Rattle.asl_state.specs.declared.went.Went.{Went}
+use Rattle.asl_state.specs.declared.went.Went.TheVariants as went
+use Rattle.asl_state.specs.Emptied.{answer, bound_by, done_below}
+use Rattle.asl_state.specs.Parts.{Around, Parts, Made, made, failed, told}
 use Rattle.mas_mind.specs.declared.mind.Message.{Message}
-use Rattle.asl_kqml.specs.declared.peers.Peers.{Peers}
-use Rattle.asl_kqml.specs.Contents.{literal_of}
+use Rattle.asl_state.specs.declared.peers.Peers.{Peers}
+use Rattle.asl_state.specs.Contents.{literal_of}
 use Rattle.asl_goals.specs.declared.acted.Acted.{Acted}
 use Rattle.asl_goals.specs.declared.acted.Acted.TheVariants as acted
 use Rattle.asl_goals.specs.declared.acted.Why.{Why}

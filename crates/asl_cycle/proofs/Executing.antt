@@ -26,13 +26,14 @@ use Rattle.asl_intend.specs.declared.agenda.Error.{Error}
 use Rattle.asl_intend.specs.declared.agenda.Error.TheVariants as error
 use Rattle.asl_intend.specs.Stacks.{head, without_head, with_head}
 use Rattle.asl_fail.specs.Fails.{posted}
-use Rattle.asl_exec.specs.declared.rows.Row.{Row}
-use Rattle.asl_exec.specs.declared.rows.Row.TheVariants as row
-use Rattle.asl_exec.specs.declared.went.Went.{Went}
-use Rattle.asl_exec.specs.declared.went.Went.TheVariants as went
-use Rattle.asl_exec.specs.Clear.{bound_by}
-use Rattle.asl_exec.specs.Parts.{Around, Parts, Made, made, failed, goal_event, told}
+use Rattle.asl_state.specs.declared.rows.Row.{Row}
+use Rattle.asl_state.specs.declared.rows.Row.TheVariants as row
+use Rattle.asl_state.specs.declared.went.Went.{Went}
+use Rattle.asl_state.specs.declared.went.Went.TheVariants as went
+use Rattle.asl_state.specs.Emptied.{bound_by}
+use Rattle.asl_state.specs.Parts.{Around, Parts, Made, made, failed, goal_event, told}
 use Rattle.asl_exec.specs.Exec as spec
+use Rattle.asl_state.specs.Sought.{sought}
 use Rattle.asl_cycle.specs.declared.config.After.{After}
 use Rattle.asl_cycle.specs.declared.config.After.TheVariants as after
 use Rattle.asl_cycle.specs.Steps.{after_of}
@@ -148,13 +149,13 @@ module _ (k : Around) (p : Parts) (cur : List Means) (none : p.agenda.acting ≡
       pick Kept (bytes_eq c.name (codes "print")) (done None [] (held p.agenda) same)
       (pick Kept (bytes_eq c.name (codes "fail")) (fallen error.IaFailed)
       (pick Kept (spec.is_deed c.name) (record { parts = refl; cur = refl; named = is })
-      (answers (spec.sought k p (expr.Inner c)))))
+      (answers (sought k p (expr.Inner c)))))
 
   formulas : (f : Formula) → dropped_by_head (head cur) ≡ dropped_by_settled (Ok f) → Kept (spec.of_formula k p cur f)
   formulas (formula.Act l) is = acts_by l (is_ground_literal l)
   formulas (formula.Achieve g) is = waits (formula.Achieve g) kind.Achieve g
   formulas (formula.Spawn g) is = spawns g
-  formulas (formula.Test g) is = tests g (spec.sought k p (expr.Holds g))
+  formulas (formula.Test g) is = tests g (sought k p (expr.Holds g))
   formulas (formula.Add b) is = adds (with_source b)
   formulas (formula.Del b) is = deletes (removed (with_source b) [] p.beliefs).removed
   formulas (formula.Replace b) is = replaces (with_source b)

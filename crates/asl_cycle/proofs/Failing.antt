@@ -9,11 +9,13 @@ use Rattle.asl_intend.specs.declared.agenda.Error.TheVariants as error
 use Rattle.asl_intend.specs.Means.{applied_means}
 use Rattle.asl_intend.specs.Stacks.{head, has_head, without_head, is_bounded, is_bounded_trigger}
 use Rattle.asl_fail.specs.Fails.{fails, is_raised, failure_event, raised, popped_one, dropped}
-use Rattle.asl_exec.specs.declared.rows.Row.TheVariants as row
-use Rattle.asl_exec.specs.declared.went.Went.TheVariants as went
-use Rattle.asl_exec.specs.Parts.{Around, Parts, Made, made, failed}
+use Rattle.asl_state.specs.declared.rows.Row.TheVariants as row
+use Rattle.asl_state.specs.declared.went.Went.TheVariants as went
+use Rattle.asl_state.specs.Parts.{Around, Parts, Made, made, failed}
 use Rattle.asl_exec.specs.Clear as clearing
-use Rattle.asl_exec.specs.Clear.{clear, answer, bound_by}
+use Rattle.asl_state.specs.Emptied as emptying
+use Rattle.asl_state.specs.Emptied.{answer, bound_by}
+use Rattle.asl_exec.specs.Clear.{clear}
 use Rattle.asl_cycle.specs.declared.rows.Sofar.{Sofar}
 use Rattle.asl_cycle.specs.Steps.{of_made, written}
 use Rattle.asl_cycle.specs.Cycle as spec
@@ -85,7 +87,7 @@ module _ (k : Around) where
 
   goes : (n : ℕ) → Enough n → (p : Parts) (s : Sofar) (m c : Means) (below : List Means) (b : Bool) → has_head (m ∷ c ∷ below) ≡ false
       → length (c ∷ below) ≤ n
-      → Cleared p (m ∷ c ∷ below) (after_clear (suc n) s (cond b (clearing.done_below p m.trigger.lit (c ∷ below)) (failed k row.ClrLimit error.TermLimit p (c ∷ below))))
+      → Cleared p (m ∷ c ∷ below) (after_clear (suc n) s (cond b (emptying.done_below p m.trigger.lit (c ∷ below)) (failed k row.ClrLimit error.TermLimit p (c ∷ below))))
   goes n h p s m c below false none le = limited (suc n) p s m c below none
   goes n h p s m c below true none le =
       let u = answer m.trigger.lit (head (c ∷ below)) in
@@ -98,7 +100,7 @@ module _ (k : Around) where
 
   two : (n : ℕ) → Enough n → (p : Parts) (s : Sofar) (m c : Means) (below : List Means) (b : Bool) → has_head (m ∷ c ∷ below) ≡ false
       → length (c ∷ below) ≤ n
-      → Cleared p (m ∷ c ∷ below) (after_clear (suc n) s (cond b (clearing.popped k p m.trigger.lit (c ∷ below)) (failed k row.ClrLimit error.TermLimit p (c ∷ below))))
+      → Cleared p (m ∷ c ∷ below) (after_clear (suc n) s (cond b (emptying.popped k p m.trigger.lit (c ∷ below)) (failed k row.ClrLimit error.TermLimit p (c ∷ below))))
   two n h p s m c below false none le = limited (suc n) p s m c below none
   two n h p s m c below true none le = goes n h p s m c below (is_bounded (head (c ∷ below))) none le
 
@@ -112,13 +114,13 @@ module _ (k : Around) where
   over n p s cur none h = becomes (Clears k.plans p.number cur) None (held p.agenda) (held p.agenda) (Clears.Ends cur None none h) (λ f. omega arith)
 
   one_by : (n : ℕ) (p : Parts) (s : Sofar) (m : Means) (b : Bool) → has_head (m ∷ []) ≡ b
-      → Cleared p (m ∷ []) (after_clear n s (cond b (clearing.waits p (m ∷ [])) (clearing.emptied k p (m ∷ []))))
+      → Cleared p (m ∷ []) (after_clear n s (cond b (clearing.waits p (m ∷ [])) (emptying.emptied k p (m ∷ []))))
   one_by n p s m true h = turn n p s (m ∷ []) h
   one_by n p s m false h = over n p s (m ∷ []) h (Over.Last m)
 
   two_by : (n : ℕ) → Enough n → (p : Parts) (s : Sofar) (m c : Means) (below : List Means) (b : Bool) → has_head (m ∷ c ∷ below) ≡ b
       → length (c ∷ below) ≤ n
-      → Cleared p (m ∷ c ∷ below) (after_clear (suc n) s (cond b (clearing.waits p (m ∷ c ∷ below)) (clearing.emptied k p (m ∷ c ∷ below))))
+      → Cleared p (m ∷ c ∷ below) (after_clear (suc n) s (cond b (clearing.waits p (m ∷ c ∷ below)) (emptying.emptied k p (m ∷ c ∷ below))))
   two_by n h p s m c below true e le = turn (suc n) p s (m ∷ c ∷ below) e
   two_by n h p s m c below false e le = two n h p s m c below (is_bounded_trigger m.trigger) e le
 

@@ -19,13 +19,13 @@ use Rattle.asl_intend.specs.declared.agenda.Error.TheVariants as error
 use Rattle.asl_intend.specs.Agendas.{ask_of, external_event, without_ask}
 use Rattle.asl_intend.specs.Stacks.{bound, without_head}
 use Rattle.asl_fail.specs.Fails.{posted}
-use Rattle.asl_exec.specs.Exec.{sought}
-use Rattle.asl_exec.specs.Parts.{Around, Parts, with_agenda, with_number, told}
+use Rattle.asl_state.specs.Sought.{sought}
+use Rattle.asl_state.specs.Parts.{Around, Parts, with_agenda, with_number, told}
 use Rattle.mas_mind.specs.declared.mind.Message.{Message}
 use Rattle.mas_mind.specs.declared.mind.Verb.{Verb}
 use Rattle.mas_mind.specs.declared.mind.Verb.TheVariants as verb
-use Rattle.asl_kqml.specs.declared.peers.Peers.{Peers}
-use Rattle.asl_kqml.specs.Contents.{agent_name, literal_of, literals_of, ground_literals}
+use Rattle.asl_state.specs.declared.peers.Peers.{Peers}
+use Rattle.asl_state.specs.Contents.{agent_name, literal_of, literals_of, ground_literals}
 use Rattle.asl_kqml.specs.Receive as spec
 use Rattle.asl_kqml.specs.Receive.{Received}
 use Rattle.asl_cycle.specs.Turns.{dropped_by_message, dropped_by_verb}

@@ -34,10 +34,10 @@ use Rattle.asl_intend.specs.contracts.agenda.Event as event
 use Rattle.asl_intend.specs.contracts.agenda.Ask as ask
 use Rattle.asl_intend.specs.contracts.agenda.Acting as acting
 use Rattle.asl_intend.specs.contracts.agenda.Agenda as agenda
-use Rattle.asl_exec.specs.contracts.parts.Parts as parts
-use Rattle.asl_exec.specs.contracts.parts.Around as around
-use Rattle.asl_kqml.proofs.shared.SharedNames.TheSendSync.{the_send as names_send}
-use Rattle.asl_kqml.specs.contracts.peers.Peers as peers
+use Rattle.asl_state.specs.contracts.parts.Parts as parts
+use Rattle.asl_state.specs.contracts.parts.Around as around
+use Rattle.asl_state.proofs.shared.SharedNames.TheSendSync.{the_send as names_send}
+use Rattle.asl_state.specs.contracts.peers.Peers as peers
 use Rattle.mas_mind.proofs.mind.Feedback.TheSendSync as feedback
 use Rattle.mas_mind.proofs.mind.Level.TheSendSync as level
 use Rattle.asl_stdlib.specs.contracts.standard.StandardActions as standard

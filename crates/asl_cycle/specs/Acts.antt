@@ -1,11 +1,11 @@
 -- The stack that waits for its action.
 use Rattle.std.specs.Prelude.{ℕ, ◌≡◌, Bool, true, Option, None, Some, is_some}
 use Rattle.asl_intend.specs.declared.agenda.Acting.{Acting}
-use Rattle.asl_exec.specs.Parts.{Around, Parts}
+use Rattle.asl_state.specs.Parts.{Around, Parts}
 use Rattle.mas_mind.specs.declared.mind.Feedback.{Feedback}
 use Rattle.mas_mind.specs.declared.mind.Input.{Input}
 use Rattle.mas_mind.specs.Minds.{asks_feedback}
-use Rattle.asl_kqml.specs.declared.peers.Peers.{Peers}
+use Rattle.asl_state.specs.declared.peers.Peers.{Peers}
 use Rattle.asl_cycle.specs.Cycle.{cycle}
 
 -- whether no stack waits for its action, or it was told what became of that

@@ -5,13 +5,13 @@ use Rattle.asl_plans.specs.declared.entry.Entry.{Entry}
 use Rattle.asl_plans.specs.Libraries.{opened}
 use Rattle.asl_term.specs.declared.syntax.Clause.{Clause}
 use Rattle.asl_resolve.specs.declared.answers.Budgets.{Budgets}
-use Rattle.asl_exec.specs.Parts.{Around, Parts, around}
+use Rattle.asl_state.specs.Parts.{Around, Parts, around}
 use Rattle.mas_mind.specs.declared.mind.Input.{Input}
 use Rattle.mas_mind.specs.declared.mind.Level.{Level}
 use Rattle.mas_mind.specs.declared.mind.Feedback.{Feedback}
 use Rattle.mas_mind.specs.Minds.{Cycled, Kind, asks_feedback}
-use Rattle.asl_kqml.specs.Contents.{agent_name}
-use Rattle.asl_kqml.specs.declared.peers.Peers.{Peers}
+use Rattle.asl_state.specs.Contents.{agent_name}
+use Rattle.asl_state.specs.declared.peers.Peers.{Peers}
 use Rattle.asl_stdlib.specs.Solving.{solve}
 use Rattle.asl_cycle.specs.Opening.{opening_parts}
 use Rattle.asl_cycle.specs.Cycle.{Ran, cycle}

@@ -19,14 +19,14 @@ use Rattle.asl_intend.specs.declared.agenda.Event.{Event}
 use Rattle.asl_intend.specs.Agendas.{external_event}
 use Rattle.asl_intend.specs.Stacks.{bound, has_goal, has_head, head, names_goal, with_head, without_head}
 use Rattle.asl_fail.specs.Fails.{failure_event, is_raised}
-use Rattle.asl_exec.specs.Clear.{bound_by}
-use Rattle.asl_exec.specs.Parts.{Around, Parts, goal_event}
+use Rattle.asl_state.specs.Emptied.{bound_by}
+use Rattle.asl_state.specs.Parts.{Around, Parts, goal_event}
 use Rattle.asl_goals.specs.Goals.{from_lowest}
 use Rattle.mas_mind.specs.declared.mind.Feedback.{Feedback}
 use Rattle.mas_mind.specs.declared.mind.Input.{Input}
 use Rattle.mas_mind.specs.declared.mind.Outs.{Outs}
 use Rattle.mas_mind.specs.declared.mind.Thought.TheVariants as thought
-use Rattle.asl_kqml.specs.declared.peers.Peers.{Peers}
+use Rattle.asl_state.specs.declared.peers.Peers.{Peers}
 use Rattle.asl_cycle.specs.Steps.{virtual, plans_after}
 use Rattle.asl_cycle.specs.Cycle.{cycle}
 use Rattle.asl_cycle.specs.Acts.{is_fed}

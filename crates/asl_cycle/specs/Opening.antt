@@ -1,5 +1,5 @@
 -- What an agent begins with.
-use Rattle.std.specs.Prelude.{true, List, ◌++◌, map}
+use Rattle.std.specs.Prelude.{List, ◌++◌, map}
 use Rattle.asl_term.specs.declared.syntax.AgentText.{AgentText}
 use Rattle.asl_term.specs.declared.syntax.LiteralOf.{LiteralOf}
 use Rattle.asl_term.specs.declared.syntax.Term.{Term}
@@ -8,11 +8,11 @@ use Rattle.asl_term.specs.declared.syntax.Kind.TheVariants as kind
 use Rattle.asl_beliefs.specs.Sources.{with_source}
 use Rattle.asl_beliefs.specs.Bases as beliefs
 use Rattle.asl_intend.specs.Agendas as agendas
-use Rattle.asl_exec.specs.Parts.{Parts, parts}
+use Rattle.asl_state.specs.Parts.{Parts, parts, goal_trigger}
 
 -- what an initial goal is the event of
 abbrev pub initial_goal : LiteralOf Term → Trigger
-initial_goal g = record { add = true; kind = kind.Achieve; lit = with_source g }
+initial_goal g = goal_trigger kind.Achieve (with_source g)
 
 -- the initial beliefs are added in order, and then come the initial goals
 abbrev pub initial : AgentText → List Trigger

@@ -20,21 +20,21 @@ use Rattle.asl_intend.specs.Means.{applied_means}
 use Rattle.asl_fail.specs.declared.fail.Fell.{Fell}
 use Rattle.asl_fail.specs.declared.fail.Fell.TheVariants.{Raised, Dropped}
 use Rattle.asl_fail.specs.Fails.{fails}
-use Rattle.asl_exec.specs.declared.rows.Row.{Row}
-use Rattle.asl_exec.specs.declared.rows.Fall.{Fall}
-use Rattle.asl_exec.specs.declared.rows.Row.TheVariants as row
-use Rattle.asl_exec.specs.declared.went.Went.{Went}
-use Rattle.asl_exec.specs.declared.went.Went.TheVariants as went
-use Rattle.asl_exec.specs.Parts.{Around, Parts, Made, with_agenda, with_number, believing, failed}
+use Rattle.asl_state.specs.declared.rows.Row.{Row}
+use Rattle.asl_state.specs.declared.rows.Fall.{Fall}
+use Rattle.asl_state.specs.declared.rows.Row.TheVariants as row
+use Rattle.asl_state.specs.declared.went.Went.{Went}
+use Rattle.asl_state.specs.declared.went.Went.TheVariants as went
+use Rattle.asl_state.specs.Parts.{Around, Parts, Made, with_agenda, with_number, running, believing, failed}
 use Rattle.asl_exec.specs.Exec.{exec}
 use Rattle.asl_exec.specs.Clear.{clear}
 use Rattle.mas_mind.specs.declared.mind.Message.{Message}
 use Rattle.mas_mind.specs.declared.mind.Feedback.{Feedback}
 use Rattle.mas_mind.specs.declared.mind.Feedback.TheVariants as feedback
-use Rattle.asl_kqml.specs.declared.peers.Peers.{Peers}
+use Rattle.asl_state.specs.declared.peers.Peers.{Peers}
 use Rattle.asl_kqml.specs.declared.took.Took.{Took}
 use Rattle.asl_kqml.specs.declared.took.Took.TheVariants as took
-use Rattle.asl_kqml.specs.Contents.{agent_name}
+use Rattle.asl_state.specs.Contents.{agent_name}
 use Rattle.asl_kqml.specs.Receive.{Received, receive, learned}
 use Rattle.asl_goals.specs.declared.acted.Acted.{Acted}
 use Rattle.asl_goals.specs.declared.acted.Acted.TheVariants as acted
@@ -136,10 +136,6 @@ abbrev pub percept : Parts → List (LiteralOf Term) → Stepped (Unit {0})
 percept p percepts = percept_on p (updated percepts p.beliefs)
 
 -- ---- Feed: what became of the action for which a stack waits, where that was told
-
--- the stack goes to the back of those that run
-abbrev pub running : Parts → List Means → Parts
-running p stack = with_agenda p (record p.agenda { running = p.agenda.running ++ stack ∷ [] })
 
 -- no stack waits for an action
 abbrev pub none_acting : Parts → Parts

@@ -6,8 +6,8 @@ use Rattle.asl_term.specs.Texts.{text}
 use Rattle.asl_term.specs.Exprs.{literal_text}
 use Rattle.mas_mind.specs.declared.mind.Level.{Level}
 use Rattle.mas_mind.specs.declared.mind.Level.TheVariants as level
-use Rattle.asl_exec.specs.declared.rows.Row.{Row}
-use Rattle.asl_exec.specs.declared.rows.Row.TheVariants as row
+use Rattle.asl_state.specs.declared.rows.Row.{Row}
+use Rattle.asl_state.specs.declared.rows.Row.TheVariants as row
 use Rattle.asl_fail.specs.Fails.{error_name}
 use Rattle.asl_resolve.specs.declared.answers.Spent.{Spent}
 use Rattle.asl_resolve.specs.declared.answers.Spent.TheVariants as spent

@@ -12,7 +12,7 @@ use Rattle.asl_unify.specs.Renamed.{renamed}
 use Rattle.asl_unify.specs.Settling.{Settled, settle_formula}
 use Rattle.asl_intend.specs.declared.entry.Means.{Means}
 use Rattle.asl_intend.specs.Stacks.{has_goal, head}
-use Rattle.asl_exec.specs.Parts.{Around, Parts}
+use Rattle.asl_state.specs.Parts.{Around, Parts}
 use Rattle.mas_mind.specs.declared.mind.Feedback.{Feedback}
 use Rattle.mas_mind.specs.declared.mind.Input.{Input}
 use Rattle.mas_mind.specs.declared.mind.Message.{Message}
@@ -20,8 +20,8 @@ use Rattle.mas_mind.specs.declared.mind.Outs.{Outs}
 use Rattle.mas_mind.specs.declared.mind.Thought.TheVariants as thought
 use Rattle.mas_mind.specs.declared.mind.Verb.{Verb}
 use Rattle.mas_mind.specs.declared.mind.Verb.TheVariants as verb
-use Rattle.asl_kqml.specs.declared.peers.Peers.{Peers}
-use Rattle.asl_kqml.specs.Contents.{literal_of}
+use Rattle.asl_state.specs.declared.peers.Peers.{Peers}
+use Rattle.asl_state.specs.Contents.{literal_of}
 use Rattle.asl_goals.specs.Sending.{term_at}
 use Rattle.asl_cycle.specs.Cycle.{cycle}
 

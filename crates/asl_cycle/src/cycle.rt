@@ -1,7 +1,7 @@
 //! A cycle: from each step to the end.
 
 ghost use Rattle.std.specs.Prelude.{◌≡◌, ◌≤◌, ◌<◌, ◌^◌, ◌+◌, ◌-◌, ◌*◌, true, None, IfOk, OnOk};
-ghost use Rattle.asl_exec.specs.Parts.{around, parts};
+ghost use Rattle.asl_state.specs.Parts.{seen_around, seen};
 ghost use Rattle.asl_beliefs.specs.Bases.{all_ground};
 ghost use Rattle.asl_cycle.specs.Acts.{is_fed};
 ghost use Rattle.asl_cycle.specs.Cycle as spec;
@@ -13,12 +13,12 @@ use crate::steps::{
     add_im, appl_pl, clear_step, exec_step, feed, msg, percept, rel_pl, sel_appl, sel_ev, sel_int,
 };
 use asl_beliefs::base::BeliefBase;
-use asl_exec::parts::{Around, Parts};
-use asl_exec::rows::Row;
 use asl_intend::agenda::Event;
 use asl_intend::stack::Stack;
-use asl_kqml::peers::Peers;
 use asl_resolve::actions::Actions;
+use asl_state::parts::{Around, Parts};
+use asl_state::peers::Peers;
+use asl_state::rows::Row;
 use asl_term::sequence::{Seq, Starved};
 use asl_term::syntax::Literal;
 use mas_mind::mind::{Feedback, Input, Message, Outs, Thought};
@@ -111,9 +111,9 @@ fn from_clr<B: BeliefBase, A: Actions>(
     sofar: Sofar,
     cur: Stack,
 ) -> Result<Finished, Starved>
-    ensures made { let e = around k.now.lib.plans (B.rules p.old.beliefs) (A.solve k.now.actions) k.now.budgets in
-        let old = parts (B.beliefs p.old.beliefs) p.old.agenda p.old.number in
-        let new = parts (B.beliefs p.new.beliefs) p.new.agenda p.new.number in
+    ensures made { let e = seen_around A.solve k.now B.rules p.old in
+        let old = seen B.beliefs p.old in
+        let new = seen B.beliefs p.new in
         IfOk result (λ f. spec.clears e old sofar cur ≡ record { parts = new; asks = f.asks; lines = f.lines; thought = f.thought }) }
     ensures rules { B.rules p.new.beliefs ≡ B.rules p.old.beliefs }
     ensures number { p.new.number ≡ p.old.number }
@@ -148,9 +148,9 @@ fn from_exec<B: BeliefBase, A: Actions>(
     requires room { p.old.number + k.now.budgets.tries < 2 ^ 64 - 1 }
     requires asks { sofar.asks < 2 ^ 64 - 1 }
     requires free { p.old.agenda.acting ≡ None }
-    ensures made { let e = around k.now.lib.plans (B.rules p.old.beliefs) (A.solve k.now.actions) k.now.budgets in
-        let old = parts (B.beliefs p.old.beliefs) p.old.agenda p.old.number in
-        let new = parts (B.beliefs p.new.beliefs) p.new.agenda p.new.number in
+    ensures made { let e = seen_around A.solve k.now B.rules p.old in
+        let old = seen B.beliefs p.old in
+        let new = seen B.beliefs p.new in
         IfOk result (λ f. spec.from_exec e peers.now old sofar cur ≡ record { parts = new; asks = f.asks; lines = f.lines; thought = f.thought }) }
     ensures rules { B.rules p.new.beliefs ≡ B.rules p.old.beliefs }
     ensures number { p.new.number ≤ p.old.number + k.now.budgets.tries }
@@ -176,9 +176,9 @@ fn from_sel_int<B: BeliefBase, A: Actions>(
     requires room { p.old.number + k.now.budgets.tries < 2 ^ 64 - 1 }
     requires asks { sofar.asks < 2 ^ 64 - 1 }
     requires free { p.old.agenda.acting ≡ None }
-    ensures made { let e = around k.now.lib.plans (B.rules p.old.beliefs) (A.solve k.now.actions) k.now.budgets in
-        let old = parts (B.beliefs p.old.beliefs) p.old.agenda p.old.number in
-        let new = parts (B.beliefs p.new.beliefs) p.new.agenda p.new.number in
+    ensures made { let e = seen_around A.solve k.now B.rules p.old in
+        let old = seen B.beliefs p.old in
+        let new = seen B.beliefs p.new in
         IfOk result (λ f. spec.from_sel_int e peers.now old sofar ≡ record { parts = new; asks = f.asks; lines = f.lines; thought = f.thought }) }
     ensures rules { B.rules p.new.beliefs ≡ B.rules p.old.beliefs }
     ensures number { p.new.number ≤ p.old.number + k.now.budgets.tries }
@@ -205,9 +205,9 @@ fn from_sel_appl<B: BeliefBase, A: Actions>(
     requires room { intended.next + k.now.budgets.tries < 2 ^ 64 - 1 }
     requires asks { sofar.asks < 2 ^ 64 - 1 }
     requires free { p.old.agenda.acting ≡ None }
-    ensures made { let e = around k.now.lib.plans (B.rules p.old.beliefs) (A.solve k.now.actions) k.now.budgets in
-        let old = parts (B.beliefs p.old.beliefs) p.old.agenda p.old.number in
-        let new = parts (B.beliefs p.new.beliefs) p.new.agenda p.new.number in
+    ensures made { let e = seen_around A.solve k.now B.rules p.old in
+        let old = seen B.beliefs p.old in
+        let new = seen B.beliefs p.new in
         IfOk result (λ f. spec.from_sel_appl e peers.now old sofar intended ≡ record { parts = new; asks = f.asks; lines = f.lines; thought = f.thought }) }
     ensures rules { B.rules p.new.beliefs ≡ B.rules p.old.beliefs }
     ensures number { p.new.number ≤ intended.next + k.now.budgets.tries }
@@ -230,9 +230,9 @@ fn from_appl_pl<B: BeliefBase, A: Actions>(
     requires room { p.old.number + 2 * k.now.budgets.tries < 2 ^ 64 - 1 }
     requires asks { sofar.asks < 2 ^ 64 - 1 }
     requires free { p.old.agenda.acting ≡ None }
-    ensures made { let e = around k.now.lib.plans (B.rules p.old.beliefs) (A.solve k.now.actions) k.now.budgets in
-        let old = parts (B.beliefs p.old.beliefs) p.old.agenda p.old.number in
-        let new = parts (B.beliefs p.new.beliefs) p.new.agenda p.new.number in
+    ensures made { let e = seen_around A.solve k.now B.rules p.old in
+        let old = seen B.beliefs p.old in
+        let new = seen B.beliefs p.new in
         IfOk result (λ f. spec.from_appl_pl e peers.now old sofar related ≡ record { parts = new; asks = f.asks; lines = f.lines; thought = f.thought }) }
     ensures rules { B.rules p.new.beliefs ≡ B.rules p.old.beliefs }
     ensures number { p.new.number ≤ p.old.number + 2 * k.now.budgets.tries }
@@ -258,9 +258,9 @@ fn from_rel_pl<B: BeliefBase, A: Actions>(
     requires room { p.old.number ≤ 2 ^ 63 }
     requires asks { sofar.asks < 2 ^ 64 - 1 }
     requires free { p.old.agenda.acting ≡ None }
-    ensures made { let e = around k.now.lib.plans (B.rules p.old.beliefs) (A.solve k.now.actions) k.now.budgets in
-        let old = parts (B.beliefs p.old.beliefs) p.old.agenda p.old.number in
-        let new = parts (B.beliefs p.new.beliefs) p.new.agenda p.new.number in
+    ensures made { let e = seen_around A.solve k.now B.rules p.old in
+        let old = seen B.beliefs p.old in
+        let new = seen B.beliefs p.new in
         IfOk result (λ f. spec.from_rel_pl e peers.now old sofar event ≡ record { parts = new; asks = f.asks; lines = f.lines; thought = f.thought }) }
     ensures rules { B.rules p.new.beliefs ≡ B.rules p.old.beliefs }
     ensures number { p.new.number ≤ p.old.number + (1 + 2 * k.now.budgets.tries) }
@@ -284,9 +284,9 @@ fn from_sel_ev<B: BeliefBase, A: Actions>(
     requires room { p.old.number ≤ 2 ^ 63 }
     requires asks { sofar.asks < 2 ^ 64 - 1 }
     requires free { p.old.agenda.acting ≡ None }
-    ensures made { let e = around k.now.lib.plans (B.rules p.old.beliefs) (A.solve k.now.actions) k.now.budgets in
-        let old = parts (B.beliefs p.old.beliefs) p.old.agenda p.old.number in
-        let new = parts (B.beliefs p.new.beliefs) p.new.agenda p.new.number in
+    ensures made { let e = seen_around A.solve k.now B.rules p.old in
+        let old = seen B.beliefs p.old in
+        let new = seen B.beliefs p.new in
         IfOk result (λ f. spec.from_sel_ev e peers.now old sofar ≡ record { parts = new; asks = f.asks; lines = f.lines; thought = f.thought }) }
     ensures rules { B.rules p.new.beliefs ≡ B.rules p.old.beliefs }
     ensures number { p.new.number ≤ p.old.number + (1 + 2 * k.now.budgets.tries) }
@@ -311,9 +311,9 @@ fn from_msg<B: BeliefBase, A: Actions>(
     requires room { p.old.number < 2 ^ 63 }
     requires asks { sofar.asks < 2 ^ 64 - 1 }
     requires free { p.old.agenda.acting ≡ None }
-    ensures made { let e = around k.old.lib.plans (B.rules p.old.beliefs) (A.solve k.old.actions) k.old.budgets in
-        let old = parts (B.beliefs p.old.beliefs) p.old.agenda p.old.number in
-        let new = parts (B.beliefs p.new.beliefs) p.new.agenda p.new.number in
+    ensures made { let e = seen_around A.solve k.old B.rules p.old in
+        let old = seen B.beliefs p.old in
+        let new = seen B.beliefs p.new in
         IfOk result (λ f. spec.from_msg e peers.now old sofar message.now ≡ record { parts = new; asks = f.asks; lines = f.lines; thought = f.thought }) }
     ensures plans { OnOk result (k.new.lib.plans ≡ plans_after k.old.lib.plans p.old.number message.now) }
     ensures rules { B.rules p.new.beliefs ≡ B.rules p.old.beliefs }
@@ -345,9 +345,9 @@ pub fn cycle<B: BeliefBase, A: Actions>(
     requires room { p.old.number < 2 ^ 63 }
     requires asks { asks < 2 ^ 63 }
     requires fed { is_fed p.old.agenda.acting kept ≡ true }
-    ensures made { let e = around k.old.lib.plans (B.rules p.old.beliefs) (A.solve k.old.actions) k.old.budgets in
-        let old = parts (B.beliefs p.old.beliefs) p.old.agenda p.old.number in
-        let new = parts (B.beliefs p.new.beliefs) p.new.agenda p.new.number in
+    ensures made { let e = seen_around A.solve k.old B.rules p.old in
+        let old = seen B.beliefs p.old in
+        let new = seen B.beliefs p.new in
         IfOk result (λ f. spec.cycle e peers.now old asks kept input.now ≡ record { parts = new; asks = f.asks; lines = f.lines; thought = f.thought }) }
     ensures plans { OnOk result (k.new.lib.plans ≡ plans_after k.old.lib.plans p.old.number input.now.message) }
     ensures rules { B.rules p.new.beliefs ≡ B.rules p.old.beliefs }

@@ -2,15 +2,15 @@
 
 ghost use Rattle.std.specs.Prelude.{◌≡◌, ◌++◌, [], ◌∷◌, map, option_to_list, IfOk, OnOk};
 ghost use Rattle.asl_cycle.specs.declared.rows.Line.TheVariants as line;
-ghost use Rattle.asl_exec.specs.Parts as specs;
+ghost use Rattle.asl_state.specs.Parts as specs;
 ghost use Rattle.asl_cycle.specs.Steps as spec;
 
 use crate::rows::{Line, Lines, Mail, Sofar};
-use asl_exec::rows::{Fall, Row};
 use asl_fail::fail::Fell;
 use asl_intend::agenda::Error;
-use asl_kqml::peers::{Peers, agent_name};
 use asl_kqml::took::Took;
+use asl_state::peers::{Peers, agent_name};
+use asl_state::rows::{Fall, Row};
 use asl_term::copying::copy;
 use asl_term::sequence::Starved;
 use mas_mind::mind::{Message, Messages};

@@ -4,6 +4,7 @@ ghost use Rattle.std.specs.Prelude.{◌≡◌, ◌++◌, map, IfOk, OnOk};
 ghost use Rattle.asl_cycle.specs.Opening as spec;
 
 use asl_beliefs::sources::with_source;
+use asl_state::parts::goal_trigger;
 use asl_term::copying::copy_plan;
 use asl_term::sequence::{Seq, Starved};
 use asl_term::syntax::{Kind, Literal, Plan, Plans, Trigger, Triggers};
@@ -25,11 +26,7 @@ fn initial_goal(alloc: Global, g: &Literal) -> Result<Trigger, Starved>
     ensures { IfOk result (λ r. r ≡ spec.initial_goal g.now) }
 {
     let lit = with_source(alloc, g)?;
-    Ok(Trigger {
-        add: true,
-        kind: Kind::Achieve,
-        lit,
-    })
+    Ok(goal_trigger(Kind::Achieve, lit))
 }
 
 /// Puts those of the initial goals last.

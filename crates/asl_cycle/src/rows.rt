@@ -1,8 +1,8 @@
 //! The lines that rows write.
 
-use asl_exec::rows::Row;
 use asl_intend::agenda::Error;
 use asl_resolve::answers::Spent;
+use asl_state::rows::Row;
 use asl_term::sequence::Seq;
 use asl_term::syntax::{Literal, Term, Text};
 use mas_mind::mind::{Messages, Verb};

@@ -3,7 +3,7 @@
 ghost use Rattle.std.specs.Prelude.{◌≡◌, ◌<◌, ◌≤◌, ◌+◌, ◌-◌, ◌*◌, ◌^◌, ◌++◌, [], ◌∷◌, true, None, IfOk, OnOk};
 ghost use Rattle.asl_beliefs.specs.Bases.{all_ground};
 ghost use Rattle.asl_cycle.specs.declared.rows.Line.TheVariants as line;
-ghost use Rattle.asl_exec.specs.Parts.{around, parts};
+ghost use Rattle.asl_state.specs.Parts.{seen_around, seen};
 ghost use Rattle.asl_goals.specs.Inside.{did, act_inside};
 ghost use Rattle.asl_cycle.specs.Acts.{is_fed};
 ghost use Rattle.asl_cycle.specs.Steps as spec;
@@ -19,18 +19,18 @@ use asl_choose::choosing::choose;
 use asl_choose::chosen::Chosen;
 use asl_exec::clear::clear;
 use asl_exec::exec::exec;
-use asl_exec::parts::{Around, Parts, fails_as, tell};
-use asl_exec::rows::Row;
-use asl_exec::went::Went;
 use asl_fail::fail::fail;
 use asl_goals::acted::Acted;
 use asl_goals::inside::act_inside;
 use asl_intend::agenda::{Acting, Error, Event};
 use asl_intend::entry::Means;
 use asl_intend::stack::Stack;
-use asl_kqml::peers::Peers;
 use asl_kqml::receive::receive;
 use asl_resolve::actions::Actions;
+use asl_state::parts::{Around, Parts, fails_as, tell};
+use asl_state::peers::Peers;
+use asl_state::rows::Row;
+use asl_state::went::Went;
 use asl_term::copying::copy_literal;
 use asl_term::sequence::{Seq, Starved};
 use asl_term::syntax::{Call, Kind, Literals, Trigger};
@@ -75,9 +75,9 @@ fn no_plan<B: BeliefBase, A: Actions>(
     event: Event,
     other: Error,
 ) -> Result<(), Starved>
-    ensures made { let e = around k.now.lib.plans (B.rules p.old.beliefs) (A.solve k.now.actions) k.now.budgets in
-        let old = parts (B.beliefs p.old.beliefs) p.old.agenda p.old.number in
-        let new = parts (B.beliefs p.new.beliefs) p.new.agenda p.new.number in
+    ensures made { let e = seen_around A.solve k.now B.rules p.old in
+        let old = seen B.beliefs p.old in
+        let new = seen B.beliefs p.new in
         OnOk result (Wrought (spec.no_plan e row old event other (tt {0})) new sofar.old sofar.new (tt {0})) }
     ensures beliefs { p.new.beliefs ≡ p.old.beliefs }
     ensures number { p.new.number ≡ p.old.number }
@@ -100,9 +100,9 @@ fn drop_or_fail<B: BeliefBase, A: Actions>(
     event: Event,
     other: Error,
 ) -> Result<(), Starved>
-    ensures made { let e = around k.now.lib.plans (B.rules p.old.beliefs) (A.solve k.now.actions) k.now.budgets in
-        let old = parts (B.beliefs p.old.beliefs) p.old.agenda p.old.number in
-        let new = parts (B.beliefs p.new.beliefs) p.new.agenda p.new.number in
+    ensures made { let e = seen_around A.solve k.now B.rules p.old in
+        let old = seen B.beliefs p.old in
+        let new = seen B.beliefs p.new in
         OnOk result (Wrought (spec.dropped_or_fails e rows.0 rows.1 old event event.trigger.kind other (tt {0})) new sofar.old sofar.new (tt {0})) }
     ensures beliefs { p.new.beliefs ≡ p.old.beliefs }
     ensures number { p.new.number ≡ p.old.number }
@@ -132,8 +132,8 @@ pub fn percept<B: BeliefBase>(
     percepts: &Literals,
 ) -> Result<(), Starved>
     requires { all_ground percepts.now ≡ true }
-    ensures made { let old = parts (B.beliefs p.old.beliefs) p.old.agenda p.old.number in
-        let new = parts (B.beliefs p.new.beliefs) p.new.agenda p.new.number in
+    ensures made { let old = seen B.beliefs p.old in
+        let new = seen B.beliefs p.new in
         OnOk result (Wrought (spec.percept old percepts.now) new sofar.old sofar.new (tt {0})) }
     ensures rules { B.rules p.new.beliefs ≡ B.rules p.old.beliefs }
     ensures number { p.new.number ≡ p.old.number }
@@ -155,8 +155,8 @@ fn feed_done<B: BeliefBase>(
     sofar: &mut Sofar,
     waits: Acting,
 ) -> Result<(), Starved>
-    ensures made { let old = parts (B.beliefs p.old.beliefs) p.old.agenda p.old.number in
-        let new = parts (B.beliefs p.new.beliefs) p.new.agenda p.new.number in
+    ensures made { let old = seen B.beliefs p.old in
+        let new = seen B.beliefs p.new in
         OnOk result (Wrought (spec.feed_done old waits) new sofar.old sofar.new (tt {0})) }
     ensures beliefs { p.new.beliefs ≡ p.old.beliefs }
     ensures number { p.new.number ≡ p.old.number }
@@ -179,9 +179,9 @@ fn feed_fail<B: BeliefBase, A: Actions>(
     sofar: &mut Sofar,
     waits: Acting,
 ) -> Result<(), Starved>
-    ensures made { let e = around k.now.lib.plans (B.rules p.old.beliefs) (A.solve k.now.actions) k.now.budgets in
-        let old = parts (B.beliefs p.old.beliefs) p.old.agenda p.old.number in
-        let new = parts (B.beliefs p.new.beliefs) p.new.agenda p.new.number in
+    ensures made { let e = seen_around A.solve k.now B.rules p.old in
+        let old = seen B.beliefs p.old in
+        let new = seen B.beliefs p.new in
         OnOk result (Wrought (spec.feed_fail e old waits) new sofar.old sofar.new (tt {0})) }
     ensures beliefs { p.new.beliefs ≡ p.old.beliefs }
     ensures number { p.new.number ≡ p.old.number }
@@ -206,9 +206,9 @@ pub fn feed<B: BeliefBase, A: Actions>(
     kept: Option<Feedback>,
 ) -> Result<(), Starved>
     requires { is_fed p.old.agenda.acting kept ≡ true }
-    ensures made { let e = around k.now.lib.plans (B.rules p.old.beliefs) (A.solve k.now.actions) k.now.budgets in
-        let old = parts (B.beliefs p.old.beliefs) p.old.agenda p.old.number in
-        let new = parts (B.beliefs p.new.beliefs) p.new.agenda p.new.number in
+    ensures made { let e = seen_around A.solve k.now B.rules p.old in
+        let old = seen B.beliefs p.old in
+        let new = seen B.beliefs p.new in
         OnOk result (Wrought (spec.feed e old kept) new sofar.old sofar.new (tt {0})) }
     ensures beliefs { p.new.beliefs ≡ p.old.beliefs }
     ensures number { p.new.number ≡ p.old.number }
@@ -237,9 +237,9 @@ pub fn msg<B: BeliefBase, A: Actions>(
     message: &Option<Message>,
 ) -> Result<bool, Starved>
     requires { p.old.number + k.old.budgets.tries + 1 < 2 ^ 64 - 1 }
-    ensures made { let e = around k.old.lib.plans (B.rules p.old.beliefs) (A.solve k.old.actions) k.old.budgets in
-        let old = parts (B.beliefs p.old.beliefs) p.old.agenda p.old.number in
-        let new = parts (B.beliefs p.new.beliefs) p.new.agenda p.new.number in
+    ensures made { let e = seen_around A.solve k.old B.rules p.old in
+        let old = seen B.beliefs p.old in
+        let new = seen B.beliefs p.new in
         IfOk result (λ next. spec.msg e peers.now old sofar.old message.now ≡ spec.moved new sofar.new next) }
     ensures plans { OnOk result (k.new.lib.plans ≡ spec.plans_after k.old.lib.plans p.old.number message.now) }
     ensures rules { B.rules p.new.beliefs ≡ B.rules p.old.beliefs }
@@ -263,8 +263,8 @@ pub fn msg<B: BeliefBase, A: Actions>(
 
 /// The oldest event.
 pub fn sel_ev<B: BeliefBase>(p: &mut Parts<B>, sofar: &mut Sofar) -> Result<Option<Event>, Starved>
-    ensures made { let old = parts (B.beliefs p.old.beliefs) p.old.agenda p.old.number in
-        let new = parts (B.beliefs p.new.beliefs) p.new.agenda p.new.number in
+    ensures made { let old = seen B.beliefs p.old in
+        let new = seen B.beliefs p.new in
         IfOk result (Wrought (spec.sel_ev old) new sofar.old sofar.new) }
     ensures beliefs { p.new.beliefs ≡ p.old.beliefs }
     ensures number { p.new.number ≡ p.old.number }
@@ -300,9 +300,9 @@ pub fn rel_pl<B: BeliefBase, A: Actions>(
     event: Event,
 ) -> Result<Option<Related>, Starved>
     requires { p.old.number ≤ 2 ^ 63 }
-    ensures made { let e = around k.now.lib.plans (B.rules p.old.beliefs) (A.solve k.now.actions) k.now.budgets in
-        let old = parts (B.beliefs p.old.beliefs) p.old.agenda p.old.number in
-        let new = parts (B.beliefs p.new.beliefs) p.new.agenda p.new.number in
+    ensures made { let e = seen_around A.solve k.now B.rules p.old in
+        let old = seen B.beliefs p.old in
+        let new = seen B.beliefs p.new in
         IfOk result (Wrought (spec.rel_pl e old event) new sofar.old sofar.new) }
     ensures beliefs { p.new.beliefs ≡ p.old.beliefs }
     ensures number { p.new.number ≤ p.old.number + 1 }
@@ -333,9 +333,9 @@ pub fn appl_pl<B: BeliefBase, A: Actions>(
     related: Related,
 ) -> Result<Applied, Starved>
     requires { p.old.number + k.now.budgets.tries < 2 ^ 64 - 1 }
-    ensures made { let e = around k.now.lib.plans (B.rules p.old.beliefs) (A.solve k.now.actions) k.now.budgets in
-        let old = parts (B.beliefs p.old.beliefs) p.old.agenda p.old.number in
-        let new = parts (B.beliefs p.new.beliefs) p.new.agenda p.new.number in
+    ensures made { let e = seen_around A.solve k.now B.rules p.old in
+        let old = seen B.beliefs p.old in
+        let new = seen B.beliefs p.new in
         IfOk result (Wrought (spec.appl_pl e old related) new sofar.old sofar.new) }
     ensures beliefs { p.new.beliefs ≡ p.old.beliefs }
     ensures number { p.new.number ≡ p.old.number }
@@ -389,8 +389,8 @@ pub fn sel_appl<B: BeliefBase>(
     sofar: &mut Sofar,
     intended: &Intended,
 ) -> Result<(), Starved>
-    ensures made { let old = parts (B.beliefs p.old.beliefs) p.old.agenda p.old.number in
-        let new = parts (B.beliefs p.new.beliefs) p.new.agenda p.new.number in
+    ensures made { let old = seen B.beliefs p.old in
+        let new = seen B.beliefs p.new in
         OnOk result (Wrought (spec.sel_appl old intended.now) new sofar.old sofar.new (tt {0})) }
     ensures beliefs { p.new.beliefs ≡ p.old.beliefs }
     ensures number { p.new.number ≡ intended.now.next }
@@ -406,8 +406,8 @@ pub fn add_im<B: BeliefBase>(
     sofar: &mut Sofar,
     intended: Intended,
 ) -> Result<(), Starved>
-    ensures made { let old = parts (B.beliefs p.old.beliefs) p.old.agenda p.old.number in
-        let new = parts (B.beliefs p.new.beliefs) p.new.agenda p.new.number in
+    ensures made { let old = seen B.beliefs p.old in
+        let new = seen B.beliefs p.new in
         OnOk result (Wrought (spec.add_im old intended) new sofar.old sofar.new (tt {0})) }
     ensures beliefs { p.new.beliefs ≡ p.old.beliefs }
     ensures number { p.new.number ≡ p.old.number }
@@ -436,8 +436,8 @@ pub fn add_im<B: BeliefBase>(
 
 /// The first of the stacks that run.
 pub fn sel_int<B: BeliefBase>(p: &mut Parts<B>, sofar: &mut Sofar) -> Result<Option<Stack>, Starved>
-    ensures made { let old = parts (B.beliefs p.old.beliefs) p.old.agenda p.old.number in
-        let new = parts (B.beliefs p.new.beliefs) p.new.agenda p.new.number in
+    ensures made { let old = seen B.beliefs p.old in
+        let new = seen B.beliefs p.new in
         IfOk result (Wrought (spec.sel_int old) new sofar.old sofar.new) }
     ensures beliefs { p.new.beliefs ≡ p.old.beliefs }
     ensures number { p.new.number ≡ p.old.number }
@@ -519,9 +519,9 @@ fn of_acted<B: BeliefBase, A: Actions>(
     cur: &mut Stack,
     acted: Acted,
 ) -> Result<After, Starved>
-    ensures made { let e = around k.now.lib.plans (B.rules p.old.beliefs) (A.solve k.now.actions) k.now.budgets in
-        let old = parts (B.beliefs p.old.beliefs) p.old.agenda p.old.number in
-        let new = parts (B.beliefs p.new.beliefs) p.new.agenda p.new.number in
+    ensures made { let e = seen_around A.solve k.now B.rules p.old in
+        let old = seen B.beliefs p.old in
+        let new = seen B.beliefs p.new in
         IfOk result (λ a. spec.of_acted e peers.now sofar.old (did old sofar.old.asks cur.old acted) acted
         ≡ spec.moved new sofar.new (spec.onward cur.new a)) }
     ensures beliefs { p.new.beliefs ≡ p.old.beliefs }
@@ -571,9 +571,9 @@ fn deed<B: BeliefBase, A: Actions>(
     c: &Call,
 ) -> Result<After, Starved>
     requires { sofar.old.asks < 2 ^ 64 - 1 }
-    ensures made { let e = around k.now.lib.plans (B.rules p.old.beliefs) (A.solve k.now.actions) k.now.budgets in
-        let old = parts (B.beliefs p.old.beliefs) p.old.agenda p.old.number in
-        let new = parts (B.beliefs p.new.beliefs) p.new.agenda p.new.number in
+    ensures made { let e = seen_around A.solve k.now B.rules p.old in
+        let old = seen B.beliefs p.old in
+        let new = seen B.beliefs p.new in
         IfOk result (λ a. spec.deed e peers.now sofar.old (act_inside e peers.now sofar.old.asks old cur.old c.now)
         ≡ spec.moved new sofar.new (spec.onward cur.new a)) }
     ensures rules { B.rules p.new.beliefs ≡ B.rules p.old.beliefs }
@@ -597,9 +597,9 @@ pub fn exec_step<B: BeliefBase, A: Actions>(
     requires room { p.old.number + k.now.budgets.tries < 2 ^ 64 - 1 }
     requires asks { sofar.old.asks < 2 ^ 64 - 1 }
     requires free { p.old.agenda.acting ≡ None }
-    ensures made { let e = around k.now.lib.plans (B.rules p.old.beliefs) (A.solve k.now.actions) k.now.budgets in
-        let old = parts (B.beliefs p.old.beliefs) p.old.agenda p.old.number in
-        let new = parts (B.beliefs p.new.beliefs) p.new.agenda p.new.number in
+    ensures made { let e = seen_around A.solve k.now B.rules p.old in
+        let old = seen B.beliefs p.old in
+        let new = seen B.beliefs p.new in
         IfOk result (λ a. spec.exec_step e peers.now old sofar.old cur.old ≡ spec.moved new sofar.new (spec.onward cur.new a)) }
     ensures rules { B.rules p.new.beliefs ≡ B.rules p.old.beliefs }
     ensures number { p.new.number ≤ p.old.number + k.now.budgets.tries }
@@ -619,9 +619,9 @@ pub fn clear_step<B: BeliefBase, A: Actions>(
     sofar: &mut Sofar,
     cur: &mut Stack,
 ) -> Result<After, Starved>
-    ensures made { let e = around k.now.lib.plans (B.rules p.old.beliefs) (A.solve k.now.actions) k.now.budgets in
-        let old = parts (B.beliefs p.old.beliefs) p.old.agenda p.old.number in
-        let new = parts (B.beliefs p.new.beliefs) p.new.agenda p.new.number in
+    ensures made { let e = seen_around A.solve k.now B.rules p.old in
+        let old = seen B.beliefs p.old in
+        let new = seen B.beliefs p.new in
         IfOk result (λ a. Wrought (spec.clear_step e old cur.old) new sofar.old sofar.new (spec.onward cur.new a)) }
     ensures beliefs { p.new.beliefs ≡ p.old.beliefs }
     ensures number { p.new.number ≡ p.old.number }

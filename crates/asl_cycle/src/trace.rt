@@ -3,12 +3,11 @@
 ghost use Rattle.std.specs.Prelude.{◌≡◌, ◌++◌, OnOk, OnErr};
 ghost use Rattle.asl_term.specs.Exprs.{literal_text};
 ghost use Rattle.asl_cycle.specs.Trace as spec;
-ghost use Rattle.asl_fail.specs.Fails as errors;
 
 use crate::rows::{Line, Mail};
-use asl_exec::rows::Row;
-use asl_intend::agenda::Error;
+use asl_fail::failure::error_name;
 use asl_resolve::answers::Spent;
+use asl_state::rows::Row;
 use asl_term::printing::{print, write_number};
 use asl_term::printing_expr::print_literal;
 use asl_term::sequence::{Seq, Starved};
@@ -82,21 +81,6 @@ fn row_name(row: Row) -> &'static [u8]
         Row::Fail1 => b"Fail1",
         Row::Fail2 => b"Fail2",
         Row::Fail3 => b"Fail3",
-    }
-}
-
-fn error_name(error: Error) -> &'static [u8]
-    ensures { result.now ≡ errors.error_name error }
-{
-    match error {
-        Error::NoRelevant => b"no_relevant",
-        Error::NoApplicable => b"no_applicable",
-        Error::ActionFailed => b"action_failed",
-        Error::IaFailed => b"ia_failed",
-        Error::TestFailed => b"test_failed",
-        Error::Arith => b"arith",
-        Error::TermLimit => b"term_limit",
-        Error::NotGround => b"not_ground",
     }
 }
 

@@ -20,19 +20,17 @@ use Rattle.asl_unify.specs.Comparing.{Holding, Gives, Fails, Passes, holds}
 use Rattle.asl_beliefs.specs.declared.removed.Removed.{Removed}
 use Rattle.asl_beliefs.specs.Sources.{with_source}
 use Rattle.asl_beliefs.specs.Changes.{Changed, Removal, added, removed, replaced, removed_events}
-use Rattle.asl_beliefs.specs.Bases.{facts_of}
 use Rattle.asl_resolve.specs.declared.answers.Answer.{Answer}
 use Rattle.asl_resolve.specs.declared.answers.Answer.TheVariants as answer
-use Rattle.asl_resolve.specs.Base.{base}
-use Rattle.asl_resolve.specs.Marks.{marks, decide}
 use Rattle.asl_intend.specs.declared.entry.Means.{Means}
 use Rattle.asl_intend.specs.declared.agenda.Error.TheVariants as error
 use Rattle.asl_intend.specs.Stacks.{bound, head, without_head, with_head}
-use Rattle.asl_exec.specs.declared.rows.Row.{Row}
-use Rattle.asl_exec.specs.declared.rows.Row.TheVariants as row
-use Rattle.asl_exec.specs.declared.went.Went.TheVariants as went
+use Rattle.asl_state.specs.declared.rows.Row.{Row}
+use Rattle.asl_state.specs.declared.rows.Row.TheVariants as row
+use Rattle.asl_state.specs.declared.went.Went.TheVariants as went
+use Rattle.asl_state.specs.Sought.{sought}
 use Rattle.asl_exec.specs.Said.{print_text}
-use Rattle.asl_exec.specs.Parts.{Around, Parts, Made, made, with_agenda, with_number, post, goal_event, believing, failed}
+use Rattle.asl_state.specs.Parts.{Around, Parts, Made, made, with_agenda, with_number, post, goal_event, believing, failed}
 
 -- Action: the current stack waits as acting; ExecFree where the action has a variable
 abbrev pub waiting : Parts → List Means → LiteralOf Term → Parts
@@ -52,10 +50,6 @@ achieve p cur g = waits row.AchvGl p cur (formula.Achieve g) kind.Achieve g
 -- AchvNew: an external event, and the head is removed
 abbrev pub spawn : Parts → List Means → LiteralOf Term → Made
 spawn p cur g = made (post p (goal_event kind.Achieve g [])) (without_head cur) (went.Row row.AchvNew)
-
--- what the search for an expression answers
-abbrev pub sought : Around → Parts → Expr → Answer
-sought k p e = decide k.budgets.tries (marks (base (facts_of p.beliefs k.rules) k.solve) k.budgets.depth e [] p.number)
 
 -- a solution: it is applied, the counter becomes its next number, and the head is removed
 abbrev pub solved : Row → Parts → List Means → List Pair → ℕ → Made

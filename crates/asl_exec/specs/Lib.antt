@@ -1,4 +1,3 @@
 pub mod Said
-pub mod Parts
 pub mod Exec
 pub mod Clear

@@ -1,20 +1,19 @@
 //! The rows for beliefs that a plan adds, deletes and replaces.
 
-ghost use Rattle.std.specs.Prelude.{◌≡◌, IfOk, OnOk, option_to_list};
-ghost use Rattle.asl_beliefs.specs.Changes as changes;
+ghost use Rattle.std.specs.Prelude.{◌≡◌, IfOk, OnOk};
 ghost use Rattle.asl_exec.specs.Exec as rows;
-ghost use Rattle.asl_exec.specs.Parts as spec;
+ghost use Rattle.asl_state.specs.Parts as spec;
 
-use crate::parts::{Around, Parts, fails_as, tell, tell_one};
-use crate::rows::Row;
-use crate::went::Went;
 use asl_beliefs::base::BeliefBase;
 use asl_beliefs::removed::{BeliefFault, Removed};
 use asl_intend::agenda::Error;
 use asl_intend::stack::Stack;
 use asl_resolve::actions::Actions;
+use asl_state::parts::{Around, Parts, event_of, fails_as, tell, tell_one};
+use asl_state::rows::Row;
+use asl_state::went::Went;
 use asl_term::sequence::Starved;
-use asl_term::syntax::{Literal, Trigger};
+use asl_term::syntax::Literal;
 use asl_unify::subst::no_subst;
 use std::alloc::Global;
 
@@ -26,10 +25,8 @@ pub fn add<B: BeliefBase, A: Actions>(
     cur: &mut Stack,
     b: &Literal,
 ) -> Result<Went, Starved>
-    ensures made { IfOk result (λ w. rows.add
-        (spec.around k.now.lib.plans (B.rules p.old.beliefs) (A.solve k.now.actions) k.now.budgets)
-        (spec.parts (B.beliefs p.old.beliefs) p.old.agenda p.old.number) cur.old b.now
-        ≡ spec.made (spec.parts (B.beliefs p.new.beliefs) p.new.agenda p.new.number) cur.new w) }
+    ensures made { IfOk result (λ w. rows.add (spec.seen_around A.solve k.now B.rules p.old) (spec.seen B.beliefs p.old) cur.old b.now
+        ≡ spec.made (spec.seen B.beliefs p.new) cur.new w) }
     ensures rules { B.rules p.new.beliefs ≡ B.rules p.old.beliefs }
     ensures number { p.new.number ≡ p.old.number }
 {
@@ -54,10 +51,8 @@ pub fn replace<B: BeliefBase, A: Actions>(
     cur: &mut Stack,
     b: &Literal,
 ) -> Result<Went, Starved>
-    ensures made { IfOk result (λ w. rows.replace
-        (spec.around k.now.lib.plans (B.rules p.old.beliefs) (A.solve k.now.actions) k.now.budgets)
-        (spec.parts (B.beliefs p.old.beliefs) p.old.agenda p.old.number) cur.old b.now
-        ≡ spec.made (spec.parts (B.beliefs p.new.beliefs) p.new.agenda p.new.number) cur.new w) }
+    ensures made { IfOk result (λ w. rows.replace (spec.seen_around A.solve k.now B.rules p.old) (spec.seen B.beliefs p.old) cur.old b.now
+        ≡ spec.made (spec.seen B.beliefs p.new) cur.new w) }
     ensures rules { B.rules p.new.beliefs ≡ B.rules p.old.beliefs }
     ensures number { p.new.number ≡ p.old.number }
 {
@@ -84,19 +79,6 @@ fn bind_by(cur: &mut Stack, removed: &Option<Removed>) -> Result<(), Starved>
     }
 }
 
-/// The event of what was removed.
-fn event_of(removed: Option<Removed>) -> Option<Trigger>
-    ensures { option_to_list result ≡ changes.removed_events removed }
-{
-    match removed {
-        None => None,
-        Some(r) => {
-            let Removed { event, subst: _ } = r;
-            Some(event)
-        }
-    }
-}
-
 /// DelBel. The literal has a source already.
 pub fn delete<B: BeliefBase>(
     alloc: Global,
@@ -104,9 +86,7 @@ pub fn delete<B: BeliefBase>(
     cur: &mut Stack,
     b: &Literal,
 ) -> Result<Went, Starved>
-    ensures made { IfOk result (λ w. rows.delete
-        (spec.parts (B.beliefs p.old.beliefs) p.old.agenda p.old.number) cur.old b.now
-        ≡ spec.made (spec.parts (B.beliefs p.new.beliefs) p.new.agenda p.new.number) cur.new w) }
+    ensures made { IfOk result (λ w. rows.delete (spec.seen B.beliefs p.old) cur.old b.now ≡ spec.made (spec.seen B.beliefs p.new) cur.new w) }
     ensures rules { B.rules p.new.beliefs ≡ B.rules p.old.beliefs }
     ensures number { p.new.number ≡ p.old.number }
 {

@@ -7,20 +7,21 @@ ghost use Rattle.asl_unify.specs.Comparing as comparing;
 ghost use Rattle.asl_unify.specs.Settling.{settle_formula as settling};
 ghost use Rattle.asl_resolve.specs.Marks.{NextAtMost};
 ghost use Rattle.asl_exec.specs.Exec as rows;
-ghost use Rattle.asl_exec.specs.Parts as spec;
+ghost use Rattle.asl_state.specs.Parts as spec;
 
 use crate::believing::{add, delete, replace};
-use crate::goals::{achieve, solved, sought, spawn, test};
-use crate::parts::{Around, Parts, fails_as};
-use crate::rows::Row;
+use crate::goals::{achieve, solved, spawn, test};
 use crate::said::print_text;
-use crate::went::Went;
 use asl_beliefs::base::BeliefBase;
 use asl_beliefs::sources::with_source;
 use asl_intend::agenda::{Acting, Error};
 use asl_intend::stack::Stack;
 use asl_resolve::actions::Actions;
 use asl_resolve::answers::Answer;
+use asl_state::parts::{Around, Parts, fails_as};
+use asl_state::rows::Row;
+use asl_state::sought::sought;
+use asl_state::went::Went;
 use asl_term::copying::{copy_call, copy_literal};
 use asl_term::measure::ground_literal;
 use asl_term::sequence::Starved;
@@ -41,10 +42,8 @@ fn act<B: BeliefBase, A: Actions>(
     l: &Literal,
 ) -> Result<Went, Starved>
     requires { p.old.agenda.acting ≡ None }
-    ensures made { IfOk result (λ w. rows.act
-        (spec.around k.now.lib.plans (B.rules p.old.beliefs) (A.solve k.now.actions) k.now.budgets)
-        (spec.parts (B.beliefs p.old.beliefs) p.old.agenda p.old.number) cur.old l.now
-        ≡ spec.made (spec.parts (B.beliefs p.new.beliefs) p.new.agenda p.new.number) cur.new w) }
+    ensures made { IfOk result (λ w. rows.act (spec.seen_around A.solve k.now B.rules p.old) (spec.seen B.beliefs p.old) cur.old l.now
+        ≡ spec.made (spec.seen B.beliefs p.new) cur.new w) }
     ensures beliefs { p.new.beliefs ≡ p.old.beliefs }
     ensures number { p.new.number ≡ p.old.number }
 {
@@ -74,10 +73,8 @@ fn relation<B: BeliefBase, A: Actions>(
     cur: &mut Stack,
     r: &Relation,
 ) -> Result<Went, Starved>
-    ensures made { IfOk result (λ w. rows.relation
-        (spec.around k.now.lib.plans (B.rules p.old.beliefs) (A.solve k.now.actions) k.now.budgets)
-        (spec.parts (B.beliefs p.old.beliefs) p.old.agenda p.old.number) cur.old r.now
-        ≡ spec.made (spec.parts (B.beliefs p.new.beliefs) p.new.agenda p.new.number) cur.new w) }
+    ensures made { IfOk result (λ w. rows.relation (spec.seen_around A.solve k.now B.rules p.old) (spec.seen B.beliefs p.old) cur.old r.now
+        ≡ spec.made (spec.seen B.beliefs p.new) cur.new w) }
     ensures beliefs { p.new.beliefs ≡ p.old.beliefs }
     ensures number { p.new.number ≡ p.old.number }
 {
@@ -136,10 +133,8 @@ fn answered<B: BeliefBase, A: Actions>(
     answer: Answer,
 ) -> Result<Went, Starved>
     requires { NextAtMost (p.old.number + k.now.budgets.tries) answer }
-    ensures made { IfOk result (λ w. rows.answered
-        (spec.around k.now.lib.plans (B.rules p.old.beliefs) (A.solve k.now.actions) k.now.budgets)
-        (spec.parts (B.beliefs p.old.beliefs) p.old.agenda p.old.number) cur.old answer
-        ≡ spec.made (spec.parts (B.beliefs p.new.beliefs) p.new.agenda p.new.number) cur.new w) }
+    ensures made { IfOk result (λ w. rows.answered (spec.seen_around A.solve k.now B.rules p.old) (spec.seen B.beliefs p.old) cur.old answer
+        ≡ spec.made (spec.seen B.beliefs p.new) cur.new w) }
     ensures beliefs { p.new.beliefs ≡ p.old.beliefs }
     ensures number { p.new.number ≤ p.old.number + k.now.budgets.tries }
 {
@@ -164,10 +159,8 @@ fn searched<B: BeliefBase, A: Actions>(
     c: &Call,
 ) -> Result<Went, Starved>
     requires { p.old.number + k.now.budgets.tries < 2 ^ 64 - 1 }
-    ensures made { IfOk result (λ w. rows.searched
-        (spec.around k.now.lib.plans (B.rules p.old.beliefs) (A.solve k.now.actions) k.now.budgets)
-        (spec.parts (B.beliefs p.old.beliefs) p.old.agenda p.old.number) cur.old c.now
-        ≡ spec.made (spec.parts (B.beliefs p.new.beliefs) p.new.agenda p.new.number) cur.new w) }
+    ensures made { IfOk result (λ w. rows.searched (spec.seen_around A.solve k.now B.rules p.old) (spec.seen B.beliefs p.old) cur.old c.now
+        ≡ spec.made (spec.seen B.beliefs p.new) cur.new w) }
     ensures beliefs { p.new.beliefs ≡ p.old.beliefs }
     ensures number { p.new.number ≤ p.old.number + k.now.budgets.tries }
 {
@@ -188,10 +181,8 @@ fn inner<B: BeliefBase, A: Actions>(
     c: &Call,
 ) -> Result<Went, Starved>
     requires { p.old.number + k.now.budgets.tries < 2 ^ 64 - 1 }
-    ensures made { IfOk result (λ w. rows.inner
-        (spec.around k.now.lib.plans (B.rules p.old.beliefs) (A.solve k.now.actions) k.now.budgets)
-        (spec.parts (B.beliefs p.old.beliefs) p.old.agenda p.old.number) cur.old c.now
-        ≡ spec.made (spec.parts (B.beliefs p.new.beliefs) p.new.agenda p.new.number) cur.new w) }
+    ensures made { IfOk result (λ w. rows.inner (spec.seen_around A.solve k.now B.rules p.old) (spec.seen B.beliefs p.old) cur.old c.now
+        ≡ spec.made (spec.seen B.beliefs p.new) cur.new w) }
     ensures beliefs { p.new.beliefs ≡ p.old.beliefs }
     ensures number { p.new.number ≤ p.old.number + k.now.budgets.tries }
 {
@@ -219,10 +210,8 @@ fn of_formula<B: BeliefBase, A: Actions>(
 ) -> Result<Went, Starved>
     requires room { p.old.number + k.now.budgets.tries < 2 ^ 64 - 1 }
     requires free { p.old.agenda.acting ≡ None }
-    ensures made { IfOk result (λ w. rows.of_formula
-        (spec.around k.now.lib.plans (B.rules p.old.beliefs) (A.solve k.now.actions) k.now.budgets)
-        (spec.parts (B.beliefs p.old.beliefs) p.old.agenda p.old.number) cur.old f.now
-        ≡ spec.made (spec.parts (B.beliefs p.new.beliefs) p.new.agenda p.new.number) cur.new w) }
+    ensures made { IfOk result (λ w. rows.of_formula (spec.seen_around A.solve k.now B.rules p.old) (spec.seen B.beliefs p.old) cur.old f.now
+        ≡ spec.made (spec.seen B.beliefs p.new) cur.new w) }
     ensures rules { B.rules p.new.beliefs ≡ B.rules p.old.beliefs }
     ensures number { p.new.number ≤ p.old.number + k.now.budgets.tries }
 {
@@ -258,10 +247,8 @@ fn of_applied<B: BeliefBase, A: Actions>(
 ) -> Result<Went, Starved>
     requires room { p.old.number + k.now.budgets.tries < 2 ^ 64 - 1 }
     requires free { p.old.agenda.acting ≡ None }
-    ensures made { IfOk result (λ w. rows.of_settled
-        (spec.around k.now.lib.plans (B.rules p.old.beliefs) (A.solve k.now.actions) k.now.budgets)
-        (spec.parts (B.beliefs p.old.beliefs) p.old.agenda p.old.number) cur.old (settling f.now)
-        ≡ spec.made (spec.parts (B.beliefs p.new.beliefs) p.new.agenda p.new.number) cur.new w) }
+    ensures made { IfOk result (λ w. rows.of_settled (spec.seen_around A.solve k.now B.rules p.old) (spec.seen B.beliefs p.old) cur.old (settling f.now)
+        ≡ spec.made (spec.seen B.beliefs p.new) cur.new w) }
     ensures rules { B.rules p.new.beliefs ≡ B.rules p.old.beliefs }
     ensures number { p.new.number ≤ p.old.number + k.now.budgets.tries }
 {
@@ -289,10 +276,8 @@ pub fn exec<B: BeliefBase, A: Actions>(
 ) -> Result<Went, Starved>
     requires room { p.old.number + k.now.budgets.tries < 2 ^ 64 - 1 }
     requires free { p.old.agenda.acting ≡ None }
-    ensures made { IfOk result (λ w. rows.exec
-        (spec.around k.now.lib.plans (B.rules p.old.beliefs) (A.solve k.now.actions) k.now.budgets)
-        (spec.parts (B.beliefs p.old.beliefs) p.old.agenda p.old.number) cur.old
-        ≡ spec.made (spec.parts (B.beliefs p.new.beliefs) p.new.agenda p.new.number) cur.new w) }
+    ensures made { IfOk result (λ w. rows.exec (spec.seen_around A.solve k.now B.rules p.old) (spec.seen B.beliefs p.old) cur.old
+        ≡ spec.made (spec.seen B.beliefs p.new) cur.new w) }
     ensures rules { B.rules p.new.beliefs ≡ B.rules p.old.beliefs }
     ensures number { p.new.number ≤ p.old.number + k.now.budgets.tries }
 {

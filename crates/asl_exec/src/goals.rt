@@ -1,24 +1,23 @@
 //! The rows for goals: to achieve, of an intention of its own, and to test.
 
 ghost use Rattle.std.specs.Prelude.{◌≡◌, ◌+◌, ◌<◌, ◌≤◌, ◌-◌, ◌^◌, IfOk};
-ghost use Rattle.asl_beliefs.specs.Bases.{facts_of};
 ghost use Rattle.asl_resolve.specs.Marks.{NextAtMost};
 ghost use Rattle.asl_exec.specs.Exec as rows;
-ghost use Rattle.asl_exec.specs.Parts as spec;
+ghost use Rattle.asl_state.specs.Parts as spec;
 
-use crate::parts::{Around, Parts, fails_as, goal_event};
-use crate::rows::Row;
-use crate::went::Went;
 use asl_beliefs::base::BeliefBase;
 use asl_intend::agenda::Error;
 use asl_intend::stack::Stack;
 use asl_resolve::actions::Actions;
 use asl_resolve::answers::Answer;
-use asl_resolve::first::first;
+use asl_state::parts::{Around, Parts, fails_as, goal_event};
+use asl_state::rows::Row;
+use asl_state::sought::sought;
+use asl_state::went::Went;
 use asl_term::copying::copy_literal;
 use asl_term::sequence::Starved;
 use asl_term::syntax::{Expr, Formula, Kind, Literal};
-use asl_unify::subst::{Subst, no_subst};
+use asl_unify::subst::Subst;
 use std::alloc::Global;
 use std::mem;
 
@@ -32,9 +31,7 @@ fn wait<B: BeliefBase>(
     g: &Literal,
     row: Row,
 ) -> Result<Went, Starved>
-    ensures made { IfOk result (λ w. rows.waits row
-        (spec.parts (B.beliefs p.old.beliefs) p.old.agenda p.old.number) cur.old head kind g.now
-        ≡ spec.made (spec.parts (B.beliefs p.new.beliefs) p.new.agenda p.new.number) cur.new w) }
+    ensures made { IfOk result (λ w. rows.waits row (spec.seen B.beliefs p.old) cur.old head kind g.now ≡ spec.made (spec.seen B.beliefs p.new) cur.new w) }
     ensures beliefs { p.new.beliefs ≡ p.old.beliefs }
     ensures number { p.new.number ≡ p.old.number }
 {
@@ -51,9 +48,7 @@ pub fn achieve<B: BeliefBase>(
     cur: &mut Stack,
     g: &Literal,
 ) -> Result<Went, Starved>
-    ensures made { IfOk result (λ w. rows.achieve
-        (spec.parts (B.beliefs p.old.beliefs) p.old.agenda p.old.number) cur.old g.now
-        ≡ spec.made (spec.parts (B.beliefs p.new.beliefs) p.new.agenda p.new.number) cur.new w) }
+    ensures made { IfOk result (λ w. rows.achieve (spec.seen B.beliefs p.old) cur.old g.now ≡ spec.made (spec.seen B.beliefs p.new) cur.new w) }
     ensures beliefs { p.new.beliefs ≡ p.old.beliefs }
     ensures number { p.new.number ≡ p.old.number }
 {
@@ -68,9 +63,7 @@ pub fn spawn<B: BeliefBase>(
     cur: &mut Stack,
     g: &Literal,
 ) -> Result<Went, Starved>
-    ensures made { IfOk result (λ w. rows.spawn
-        (spec.parts (B.beliefs p.old.beliefs) p.old.agenda p.old.number) cur.old g.now
-        ≡ spec.made (spec.parts (B.beliefs p.new.beliefs) p.new.agenda p.new.number) cur.new w) }
+    ensures made { IfOk result (λ w. rows.spawn (spec.seen B.beliefs p.old) cur.old g.now ≡ spec.made (spec.seen B.beliefs p.new) cur.new w) }
     ensures beliefs { p.new.beliefs ≡ p.old.beliefs }
     ensures number { p.new.number ≡ p.old.number }
 {
@@ -78,30 +71,6 @@ pub fn spawn<B: BeliefBase>(
     p.agenda.post(event)?;
     cur.remove_head();
     Ok(Went::Row(Row::AchvNew))
-}
-
-/// What the search for an expression answers.
-pub fn sought<B: BeliefBase, A: Actions>(
-    alloc: Global,
-    k: &Around<A>,
-    p: &Parts<B>,
-    e: &Expr,
-) -> Result<Answer, Starved>
-    requires { p.now.number + k.now.budgets.tries < 2 ^ 64 - 1 }
-    ensures answer { IfOk result (λ r. r ≡ rows.sought
-        (spec.around k.now.lib.plans (B.rules p.now.beliefs) (A.solve k.now.actions) k.now.budgets)
-        (spec.parts (B.beliefs p.now.beliefs) p.now.agenda p.now.number) e.now) }
-    ensures number { IfOk result (λ r. NextAtMost (p.now.number + k.now.budgets.tries) r) }
-{
-    first(
-        alloc,
-        &p.beliefs,
-        &k.actions,
-        e,
-        &no_subst(alloc),
-        p.number,
-        &k.budgets,
-    )
 }
 
 /// A solution is applied, the counter becomes its next number, and the head is removed.
@@ -112,9 +81,7 @@ pub fn solved<B: BeliefBase>(
     s: &Subst,
     next: u64,
 ) -> Result<Went, Starved>
-    ensures made { IfOk result (λ w. rows.solved row
-        (spec.parts (B.beliefs p.old.beliefs) p.old.agenda p.old.number) cur.old s.now next
-        ≡ spec.made (spec.parts (B.beliefs p.new.beliefs) p.new.agenda p.new.number) cur.new w) }
+    ensures made { IfOk result (λ w. rows.solved row (spec.seen B.beliefs p.old) cur.old s.now next ≡ spec.made (spec.seen B.beliefs p.new) cur.new w) }
     ensures beliefs { p.new.beliefs ≡ p.old.beliefs }
     ensures number { p.new.number ≡ next }
 {
@@ -134,10 +101,8 @@ fn tested<B: BeliefBase, A: Actions>(
     answer: Answer,
 ) -> Result<Went, Starved>
     requires { NextAtMost (p.old.number + k.now.budgets.tries) answer }
-    ensures made { IfOk result (λ w. rows.tested
-        (spec.around k.now.lib.plans (B.rules p.old.beliefs) (A.solve k.now.actions) k.now.budgets)
-        (spec.parts (B.beliefs p.old.beliefs) p.old.agenda p.old.number) cur.old g.now answer
-        ≡ spec.made (spec.parts (B.beliefs p.new.beliefs) p.new.agenda p.new.number) cur.new w) }
+    ensures made { IfOk result (λ w. rows.tested (spec.seen_around A.solve k.now B.rules p.old) (spec.seen B.beliefs p.old) cur.old g.now answer
+        ≡ spec.made (spec.seen B.beliefs p.new) cur.new w) }
     ensures beliefs { p.new.beliefs ≡ p.old.beliefs }
     ensures number { p.new.number ≤ p.old.number + k.now.budgets.tries }
 {
@@ -165,10 +130,8 @@ pub fn test<B: BeliefBase, A: Actions>(
     g: &Literal,
 ) -> Result<Went, Starved>
     requires { p.old.number + k.now.budgets.tries < 2 ^ 64 - 1 }
-    ensures made { IfOk result (λ w. rows.test
-        (spec.around k.now.lib.plans (B.rules p.old.beliefs) (A.solve k.now.actions) k.now.budgets)
-        (spec.parts (B.beliefs p.old.beliefs) p.old.agenda p.old.number) cur.old g.now
-        ≡ spec.made (spec.parts (B.beliefs p.new.beliefs) p.new.agenda p.new.number) cur.new w) }
+    ensures made { IfOk result (λ w. rows.test (spec.seen_around A.solve k.now B.rules p.old) (spec.seen B.beliefs p.old) cur.old g.now
+        ≡ spec.made (spec.seen B.beliefs p.new) cur.new w) }
     ensures beliefs { p.new.beliefs ≡ p.old.beliefs }
     ensures number { p.new.number ≤ p.old.number + k.now.budgets.tries }
 {

@@ -5,7 +5,4 @@ pub mod believing;
 pub mod clear;
 pub mod exec;
 pub mod goals;
-pub mod parts;
-pub mod rows;
 pub mod said;
-pub mod went;

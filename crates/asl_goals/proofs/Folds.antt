@@ -1,8 +1,8 @@
 -- A sweep, one item after another.
 use Rattle.std.proofs.Common.{◌≡◌, List, [], ◌∷◌, ◌++◌, refl, sym, subst, ap, ◌∙◌, append_assoc}
 use Rattle.std.proofs.lemmas.List.{append-nil}
-use Rattle.asl_exec.specs.declared.rows.Fall.{Fall}
-use Rattle.asl_exec.specs.Parts.{Parts}
+use Rattle.asl_state.specs.declared.rows.Fall.{Fall}
+use Rattle.asl_state.specs.Parts.{Parts}
 use Rattle.asl_goals.specs.Goals.{Swept, swept, sweep}
 
 -- one sweep after another

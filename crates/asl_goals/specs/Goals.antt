@@ -10,12 +10,12 @@ use Rattle.asl_intend.specs.declared.agenda.Ask.{Ask}
 use Rattle.asl_intend.specs.declared.agenda.Agenda.{Agenda}
 use Rattle.asl_intend.specs.declared.agenda.Error.TheVariants as error
 use Rattle.asl_intend.specs.Stacks.{names_goal, goal_match}
-use Rattle.asl_exec.specs.declared.rows.Row.TheVariants as row
-use Rattle.asl_exec.specs.declared.rows.Fall.{Fall}
-use Rattle.asl_exec.specs.declared.went.Went.{Went}
-use Rattle.asl_exec.specs.declared.went.Went.TheVariants as went
-use Rattle.asl_exec.specs.Parts.{Around, Parts, Made, with_agenda, failed}
-use Rattle.asl_exec.specs.Clear.{emptied}
+use Rattle.asl_state.specs.declared.rows.Row.TheVariants as row
+use Rattle.asl_state.specs.declared.rows.Fall.{Fall}
+use Rattle.asl_state.specs.declared.went.Went.{Went}
+use Rattle.asl_state.specs.declared.went.Went.TheVariants as went
+use Rattle.asl_state.specs.Parts.{Around, Parts, Made, with_agenda, failed}
+use Rattle.asl_state.specs.Emptied.{emptied}
 use Rattle.asl_goals.specs.declared.sweep.Way.{Way}
 use Rattle.asl_goals.specs.declared.sweep.Way.TheVariants as way
 

@@ -1,7 +1,7 @@
 //! The actions on goals and on beliefs. Each is given all that an action may change.
 
 ghost use Rattle.std.specs.Prelude.{◌≡◌, IfOk};
-ghost use Rattle.asl_exec.specs.Parts as parts;
+ghost use Rattle.asl_state.specs.Parts as parts;
 ghost use Rattle.asl_goals.specs.Goals as goals;
 ghost use Rattle.asl_goals.specs.Inside as spec;
 
@@ -9,10 +9,10 @@ use crate::acted::{Acted, Why};
 use crate::lookup::first_goal;
 use crate::sweep::{Way, cut_to_goal, sweep_all, treat};
 use asl_beliefs::base::BeliefBase;
-use asl_exec::parts::{Around, Parts, tell};
 use asl_intend::stack::Stack;
-use asl_kqml::took::Falls;
 use asl_resolve::actions::Actions;
+use asl_state::parts::{Around, Parts, tell};
+use asl_state::rows::Falls;
 use asl_term::sequence::{Seq, Starved};
 use asl_term::syntax::Literal;
 use std::alloc::Global;
@@ -27,10 +27,8 @@ pub fn drop_intention<B: BeliefBase, A: Actions>(
     cur: &mut Stack,
     g: &Literal,
 ) -> Result<Acted, Starved>
-    ensures did { IfOk result (λ a. spec.drop_intention
-        (parts.around k.now.lib.plans (B.rules p.old.beliefs) (A.solve k.now.actions) k.now.budgets) asks.old
-        (parts.parts (B.beliefs p.old.beliefs) p.old.agenda p.old.number) cur.old g.now
-        ≡ spec.did (parts.parts (B.beliefs p.new.beliefs) p.new.agenda p.new.number) asks.new cur.new a) }
+    ensures did { IfOk result (λ a. spec.drop_intention (parts.seen_around A.solve k.now B.rules p.old) asks.old (parts.seen B.beliefs p.old) cur.old g.now
+        ≡ spec.did (parts.seen B.beliefs p.new) asks.new cur.new a) }
     ensures beliefs { p.new.beliefs ≡ p.old.beliefs }
     ensures number { p.new.number ≡ p.old.number }
     ensures asks { asks.new ≡ asks.old }
@@ -54,10 +52,8 @@ pub fn drop_desire<B: BeliefBase, A: Actions>(
     cur: &mut Stack,
     g: &Literal,
 ) -> Result<Acted, Starved>
-    ensures did { IfOk result (λ a. spec.drop_desire
-        (parts.around k.now.lib.plans (B.rules p.old.beliefs) (A.solve k.now.actions) k.now.budgets) asks.old
-        (parts.parts (B.beliefs p.old.beliefs) p.old.agenda p.old.number) cur.old g.now
-        ≡ spec.did (parts.parts (B.beliefs p.new.beliefs) p.new.agenda p.new.number) asks.new cur.new a) }
+    ensures did { IfOk result (λ a. spec.drop_desire (parts.seen_around A.solve k.now B.rules p.old) asks.old (parts.seen B.beliefs p.old) cur.old g.now
+        ≡ spec.did (parts.seen B.beliefs p.new) asks.new cur.new a) }
     ensures beliefs { p.new.beliefs ≡ p.old.beliefs }
     ensures number { p.new.number ≡ p.old.number }
     ensures asks { asks.new ≡ asks.old }
@@ -82,10 +78,8 @@ pub fn looked_up<B: BeliefBase, A: Actions>(
     desired: bool,
     g: &Literal,
 ) -> Result<Acted, Starved>
-    ensures did { IfOk result (λ a. spec.looked_up
-        (parts.around k.now.lib.plans (B.rules p.old.beliefs) (A.solve k.now.actions) k.now.budgets) asks.old
-        (parts.parts (B.beliefs p.old.beliefs) p.old.agenda p.old.number) cur.old desired g.now
-        ≡ spec.did (parts.parts (B.beliefs p.new.beliefs) p.new.agenda p.new.number) asks.new cur.new a) }
+    ensures did { IfOk result (λ a. spec.looked_up (parts.seen_around A.solve k.now B.rules p.old) asks.old (parts.seen B.beliefs p.old) cur.old desired g.now
+        ≡ spec.did (parts.seen B.beliefs p.new) asks.new cur.new a) }
     ensures beliefs { p.new.beliefs ≡ p.old.beliefs }
     ensures number { p.new.number ≡ p.old.number }
     ensures asks { asks.new ≡ asks.old }
@@ -113,11 +107,9 @@ fn ended_here<B: BeliefBase, A: Actions>(
     g: &Literal,
     falls: Falls,
 ) -> Result<Acted, Starved>
-    ensures did { IfOk result (λ a. spec.current
-        (parts.around k.now.lib.plans (B.rules p.old.beliefs) (A.solve k.now.actions) k.now.budgets) asks.old
-        (parts.parts (B.beliefs p.old.beliefs) p.old.agenda p.old.number) cur.old way
-        (parts.parts (B.beliefs p.old.beliefs) p.old.agenda p.old.number) falls (goals.from_lowest g.now cur.old)
-        ≡ spec.did (parts.parts (B.beliefs p.new.beliefs) p.new.agenda p.new.number) asks.new cur.new a) }
+    ensures did { IfOk result (λ a. spec.current (parts.seen_around A.solve k.now B.rules p.old) asks.old (parts.seen B.beliefs p.old) cur.old way
+        (parts.seen B.beliefs p.old) falls (goals.from_lowest g.now cur.old)
+        ≡ spec.did (parts.seen B.beliefs p.new) asks.new cur.new a) }
     ensures beliefs { p.new.beliefs ≡ p.old.beliefs }
     ensures number { p.new.number ≡ p.old.number }
     ensures asks { asks.new ≡ asks.old }
@@ -144,10 +136,8 @@ pub fn ended<B: BeliefBase, A: Actions>(
     way: Way,
     g: &Literal,
 ) -> Result<Acted, Starved>
-    ensures did { IfOk result (λ a. spec.ended
-        (parts.around k.now.lib.plans (B.rules p.old.beliefs) (A.solve k.now.actions) k.now.budgets) asks.old
-        (parts.parts (B.beliefs p.old.beliefs) p.old.agenda p.old.number) cur.old way g.now
-        ≡ spec.did (parts.parts (B.beliefs p.new.beliefs) p.new.agenda p.new.number) asks.new cur.new a) }
+    ensures did { IfOk result (λ a. spec.ended (parts.seen_around A.solve k.now B.rules p.old) asks.old (parts.seen B.beliefs p.old) cur.old way g.now
+        ≡ spec.did (parts.seen B.beliefs p.new) asks.new cur.new a) }
     ensures beliefs { p.new.beliefs ≡ p.old.beliefs }
     ensures number { p.new.number ≡ p.old.number }
     ensures asks { asks.new ≡ asks.old }
@@ -165,10 +155,8 @@ pub fn abolish<B: BeliefBase, A: Actions>(
     cur: &mut Stack,
     g: &Literal,
 ) -> Result<Acted, Starved>
-    ensures did { IfOk result (λ a. spec.abolish
-        (parts.around k.now.lib.plans (B.rules p.old.beliefs) (A.solve k.now.actions) k.now.budgets) asks.old
-        (parts.parts (B.beliefs p.old.beliefs) p.old.agenda p.old.number) cur.old g.now
-        ≡ spec.did (parts.parts (B.beliefs p.new.beliefs) p.new.agenda p.new.number) asks.new cur.new a) }
+    ensures did { IfOk result (λ a. spec.abolish (parts.seen_around A.solve k.now B.rules p.old) asks.old (parts.seen B.beliefs p.old) cur.old g.now
+        ≡ spec.did (parts.seen B.beliefs p.new) asks.new cur.new a) }
     ensures rules { B.rules p.new.beliefs ≡ B.rules p.old.beliefs }
     ensures number { p.new.number ≡ p.old.number }
     ensures asks { asks.new ≡ asks.old }

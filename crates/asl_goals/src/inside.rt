@@ -1,7 +1,7 @@
 //! The internal action of a name.
 
 ghost use Rattle.std.specs.Prelude.{◌≡◌, ◌≤◌, ◌+◌, ◌<◌, ◌^◌, ◌-◌, IfOk};
-ghost use Rattle.asl_exec.specs.Parts as parts;
+ghost use Rattle.asl_state.specs.Parts as parts;
 ghost use Rattle.asl_goals.specs.Inside as spec;
 ghost use Rattle.asl_goals.specs.Sending as sending;
 
@@ -11,10 +11,10 @@ use crate::letter::{literal_of, term_at};
 use crate::sending::{broadcast, send, stop};
 use crate::sweep::Way;
 use asl_beliefs::base::BeliefBase;
-use asl_exec::parts::{Around, Parts};
 use asl_intend::stack::Stack;
-use asl_kqml::peers::Peers;
 use asl_resolve::actions::Actions;
+use asl_state::parts::{Around, Parts};
+use asl_state::peers::Peers;
 use asl_term::sequence::Starved;
 use asl_term::syntax::{Call, Literal, Text};
 use std::alloc::Global;
@@ -29,10 +29,8 @@ fn about<B: BeliefBase, A: Actions>(
     name: &Text,
     g: &Literal,
 ) -> Result<Acted, Starved>
-    ensures did { IfOk result (λ a. spec.about
-        (parts.around k.now.lib.plans (B.rules p.old.beliefs) (A.solve k.now.actions) k.now.budgets) asks.old
-        (parts.parts (B.beliefs p.old.beliefs) p.old.agenda p.old.number) cur.old name.now g.now
-        ≡ spec.did (parts.parts (B.beliefs p.new.beliefs) p.new.agenda p.new.number) asks.new cur.new a) }
+    ensures did { IfOk result (λ a. spec.about (parts.seen_around A.solve k.now B.rules p.old) asks.old (parts.seen B.beliefs p.old) cur.old name.now g.now
+        ≡ spec.did (parts.seen B.beliefs p.new) asks.new cur.new a) }
     ensures rules { B.rules p.new.beliefs ≡ B.rules p.old.beliefs }
     ensures number { p.new.number ≡ p.old.number }
     ensures asks { asks.new ≡ asks.old }
@@ -66,10 +64,9 @@ fn about_term<B: BeliefBase, A: Actions>(
     cur: &mut Stack,
     c: &Call,
 ) -> Result<Acted, Starved>
-    ensures did { IfOk result (λ a. spec.about_term
-        (parts.around k.now.lib.plans (B.rules p.old.beliefs) (A.solve k.now.actions) k.now.budgets) asks.old
-        (parts.parts (B.beliefs p.old.beliefs) p.old.agenda p.old.number) cur.old c.now.name (sending.term_at c.now.args 0)
-        ≡ spec.did (parts.parts (B.beliefs p.new.beliefs) p.new.agenda p.new.number) asks.new cur.new a) }
+    ensures did { IfOk result (λ a. spec.about_term (parts.seen_around A.solve k.now B.rules p.old) asks.old
+        (parts.seen B.beliefs p.old) cur.old c.now.name (sending.term_at c.now.args 0)
+        ≡ spec.did (parts.seen B.beliefs p.new) asks.new cur.new a) }
     ensures rules { B.rules p.new.beliefs ≡ B.rules p.old.beliefs }
     ensures number { p.new.number ≡ p.old.number }
     ensures asks { asks.new ≡ asks.old }
@@ -96,10 +93,9 @@ pub fn act_inside<B: BeliefBase, A: Actions>(
     c: &Call,
 ) -> Result<Acted, Starved>
     requires { asks.old < 2 ^ 64 - 1 }
-    ensures did { IfOk result (λ a. spec.act_inside
-        (parts.around k.now.lib.plans (B.rules p.old.beliefs) (A.solve k.now.actions) k.now.budgets) peers.now asks.old
-        (parts.parts (B.beliefs p.old.beliefs) p.old.agenda p.old.number) cur.old c.now
-        ≡ spec.did (parts.parts (B.beliefs p.new.beliefs) p.new.agenda p.new.number) asks.new cur.new a) }
+    ensures did { IfOk result (λ a. spec.act_inside (parts.seen_around A.solve k.now B.rules p.old) peers.now asks.old
+        (parts.seen B.beliefs p.old) cur.old c.now
+        ≡ spec.did (parts.seen B.beliefs p.new) asks.new cur.new a) }
     ensures rules { B.rules p.new.beliefs ≡ B.rules p.old.beliefs }
     ensures number { p.new.number ≡ p.old.number }
     ensures asks { asks.new ≤ asks.old + 1 }

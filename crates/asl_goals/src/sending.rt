@@ -1,17 +1,17 @@
 //! The actions on other agents. Each is given all that an action may change.
 
 ghost use Rattle.std.specs.Prelude.{◌≡◌, ◌≤◌, ◌+◌, ◌<◌, ◌^◌, ◌-◌, None, IfOk, slice_get};
-ghost use Rattle.asl_exec.specs.Parts as parts;
+ghost use Rattle.asl_state.specs.Parts as parts;
 ghost use Rattle.asl_goals.specs.Inside as spec;
 
 use crate::acted::{Acted, Why};
 use crate::letter::{Letter, is_ask, letter_of, posted, spread};
 use asl_beliefs::base::BeliefBase;
-use asl_exec::parts::{Around, Parts};
 use asl_intend::agenda::Ask;
 use asl_intend::stack::Stack;
-use asl_kqml::peers::Peers;
 use asl_resolve::actions::Actions;
+use asl_state::parts::{Around, Parts};
+use asl_state::peers::Peers;
 use asl_term::copying::copy;
 use asl_term::sequence::{Seq, Starved};
 use asl_term::syntax::{Arg, ArgOf, Term};
@@ -28,10 +28,8 @@ fn sent<B: BeliefBase, A: Actions>(
     cur: &mut Stack,
     messages: Messages,
 ) -> Result<Acted, Starved>
-    ensures did { IfOk result (λ a. spec.sent
-        (parts.around k.now.lib.plans (B.rules p.old.beliefs) (A.solve k.now.actions) k.now.budgets) asks.old
-        (parts.parts (B.beliefs p.old.beliefs) p.old.agenda p.old.number) cur.old messages
-        ≡ spec.did (parts.parts (B.beliefs p.new.beliefs) p.new.agenda p.new.number) asks.new cur.new a) }
+    ensures did { IfOk result (λ a. spec.sent (parts.seen_around A.solve k.now B.rules p.old) asks.old (parts.seen B.beliefs p.old) cur.old messages
+        ≡ spec.did (parts.seen B.beliefs p.new) asks.new cur.new a) }
     ensures beliefs { p.new.beliefs ≡ p.old.beliefs }
     ensures number { p.new.number ≡ p.old.number }
     ensures asks { asks.new ≡ asks.old }
@@ -50,10 +48,8 @@ fn sent_one<B: BeliefBase, A: Actions>(
     me: u32,
     l: Letter,
 ) -> Result<Acted, Starved>
-    ensures did { IfOk result (λ a. spec.sent_asking
-        (parts.around k.now.lib.plans (B.rules p.old.beliefs) (A.solve k.now.actions) k.now.budgets) asks.old
-        (parts.parts (B.beliefs p.old.beliefs) p.old.agenda p.old.number) cur.old me l None
-        ≡ spec.did (parts.parts (B.beliefs p.new.beliefs) p.new.agenda p.new.number) asks.new cur.new a) }
+    ensures did { IfOk result (λ a. spec.sent_asking (parts.seen_around A.solve k.now B.rules p.old) asks.old (parts.seen B.beliefs p.old) cur.old me l None
+        ≡ spec.did (parts.seen B.beliefs p.new) asks.new cur.new a) }
     ensures beliefs { p.new.beliefs ≡ p.old.beliefs }
     ensures number { p.new.number ≡ p.old.number }
     ensures asks { asks.new ≡ asks.old }
@@ -75,10 +71,8 @@ fn asked<B: BeliefBase, A: Actions>(
     answer: &Term,
 ) -> Result<Acted, Starved>
     requires { asks.old < 2 ^ 64 - 1 }
-    ensures did { IfOk result (λ a. spec.asked
-        (parts.around k.now.lib.plans (B.rules p.old.beliefs) (A.solve k.now.actions) k.now.budgets) asks.old
-        (parts.parts (B.beliefs p.old.beliefs) p.old.agenda p.old.number) cur.old me l answer.now
-        ≡ spec.did (parts.parts (B.beliefs p.new.beliefs) p.new.agenda p.new.number) asks.new cur.new a) }
+    ensures did { IfOk result (λ a. spec.asked (parts.seen_around A.solve k.now B.rules p.old) asks.old (parts.seen B.beliefs p.old) cur.old me l answer.now
+        ≡ spec.did (parts.seen B.beliefs p.new) asks.new cur.new a) }
     ensures beliefs { p.new.beliefs ≡ p.old.beliefs }
     ensures number { p.new.number ≡ p.old.number }
     ensures asks { asks.new ≤ asks.old + 1 }
@@ -121,10 +115,9 @@ fn sent_letter<B: BeliefBase, A: Actions>(
     l: Letter,
 ) -> Result<Acted, Starved>
     requires { asks.old < 2 ^ 64 - 1 }
-    ensures did { IfOk result (λ a. spec.sent_asking
-        (parts.around k.now.lib.plans (B.rules p.old.beliefs) (A.solve k.now.actions) k.now.budgets) asks.old
-        (parts.parts (B.beliefs p.old.beliefs) p.old.agenda p.old.number) cur.old me l (slice_get args.now 3)
-        ≡ spec.did (parts.parts (B.beliefs p.new.beliefs) p.new.agenda p.new.number) asks.new cur.new a) }
+    ensures did { IfOk result (λ a. spec.sent_asking (parts.seen_around A.solve k.now B.rules p.old) asks.old
+        (parts.seen B.beliefs p.old) cur.old me l (slice_get args.now 3)
+        ≡ spec.did (parts.seen B.beliefs p.new) asks.new cur.new a) }
     ensures beliefs { p.new.beliefs ≡ p.old.beliefs }
     ensures number { p.new.number ≡ p.old.number }
     ensures asks { asks.new ≤ asks.old + 1 }
@@ -156,10 +149,8 @@ pub fn send<B: BeliefBase, A: Actions>(
     args: &[Arg],
 ) -> Result<Acted, Starved>
     requires { asks.old < 2 ^ 64 - 1 }
-    ensures did { IfOk result (λ a. spec.send
-        (parts.around k.now.lib.plans (B.rules p.old.beliefs) (A.solve k.now.actions) k.now.budgets) asks.old
-        (parts.parts (B.beliefs p.old.beliefs) p.old.agenda p.old.number) cur.old peers.now args.now
-        ≡ spec.did (parts.parts (B.beliefs p.new.beliefs) p.new.agenda p.new.number) asks.new cur.new a) }
+    ensures did { IfOk result (λ a. spec.send (parts.seen_around A.solve k.now B.rules p.old) asks.old (parts.seen B.beliefs p.old) cur.old peers.now args.now
+        ≡ spec.did (parts.seen B.beliefs p.new) asks.new cur.new a) }
     ensures beliefs { p.new.beliefs ≡ p.old.beliefs }
     ensures number { p.new.number ≡ p.old.number }
     ensures asks { asks.new ≤ asks.old + 1 }
@@ -180,10 +171,9 @@ pub fn broadcast<B: BeliefBase, A: Actions>(
     cur: &mut Stack,
     args: &[Arg],
 ) -> Result<Acted, Starved>
-    ensures did { IfOk result (λ a. spec.broadcast
-        (parts.around k.now.lib.plans (B.rules p.old.beliefs) (A.solve k.now.actions) k.now.budgets) asks.old
-        (parts.parts (B.beliefs p.old.beliefs) p.old.agenda p.old.number) cur.old peers.now args.now
-        ≡ spec.did (parts.parts (B.beliefs p.new.beliefs) p.new.agenda p.new.number) asks.new cur.new a) }
+    ensures did { IfOk result (λ a. spec.broadcast (parts.seen_around A.solve k.now B.rules p.old) asks.old
+        (parts.seen B.beliefs p.old) cur.old peers.now args.now
+        ≡ spec.did (parts.seen B.beliefs p.new) asks.new cur.new a) }
     ensures beliefs { p.new.beliefs ≡ p.old.beliefs }
     ensures number { p.new.number ≡ p.old.number }
     ensures asks { asks.new ≡ asks.old }
@@ -201,10 +191,8 @@ pub fn stop<B: BeliefBase, A: Actions>(
     asks: &mut u64,
     cur: &mut Stack,
 ) -> Result<Acted, Starved>
-    ensures did { IfOk result (λ a. spec.stop
-        (parts.around k.now.lib.plans (B.rules p.old.beliefs) (A.solve k.now.actions) k.now.budgets) asks.old
-        (parts.parts (B.beliefs p.old.beliefs) p.old.agenda p.old.number) cur.old
-        ≡ spec.did (parts.parts (B.beliefs p.new.beliefs) p.new.agenda p.new.number) asks.new cur.new a) }
+    ensures did { IfOk result (λ a. spec.stop (parts.seen_around A.solve k.now B.rules p.old) asks.old (parts.seen B.beliefs p.old) cur.old
+        ≡ spec.did (parts.seen B.beliefs p.new) asks.new cur.new a) }
     ensures beliefs { p.new.beliefs ≡ p.old.beliefs }
     ensures number { p.new.number ≡ p.old.number }
     ensures asks { asks.new ≡ asks.old }

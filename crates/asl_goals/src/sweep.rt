@@ -1,19 +1,18 @@
 //! `.succeed_goal` and `.fail_goal`: one fold over the stacks.
 
 ghost use Rattle.std.specs.Prelude.{◌≡◌, ◌++◌, Some, None, if◌then◌else◌, false, drop, IfOk, OnOk};
-ghost use Rattle.asl_exec.specs.Parts as parts;
+ghost use Rattle.asl_state.specs.Parts as parts;
 ghost use Rattle.asl_goals.specs.Goals as goals;
 
 use asl_beliefs::base::BeliefBase;
-use asl_exec::clear::emptied;
-use asl_exec::parts::{Around, Parts, fails_as};
-use asl_exec::rows::Row;
-use asl_exec::went::Went;
 use asl_intend::agenda::{Ask, Asks, Error, Event, Stacks};
 use asl_intend::stack::Stack;
-use asl_kqml::took::Falls;
 use asl_queue::queue::Queue;
 use asl_resolve::actions::Actions;
+use asl_state::emptied::emptied;
+use asl_state::parts::{Around, Parts, fails_as};
+use asl_state::rows::{Falls, Row};
+use asl_state::went::Went;
 use asl_term::sequence::{Seq, Starved};
 use asl_term::syntax::Literal;
 use std::alloc::Global;
@@ -61,10 +60,8 @@ fn ended<B: BeliefBase, A: Actions>(
     way: Way,
     stack: &mut Stack,
 ) -> Result<Went, Starved>
-    ensures made { IfOk result (λ w. goals.treated
-        (parts.around k.now.lib.plans (B.rules p.old.beliefs) (A.solve k.now.actions) k.now.budgets) way
-        (parts.parts (B.beliefs p.old.beliefs) p.old.agenda p.old.number) stack.old
-        ≡ parts.made (parts.parts (B.beliefs p.new.beliefs) p.new.agenda p.new.number) stack.new w) }
+    ensures made { IfOk result (λ w. goals.treated (parts.seen_around A.solve k.now B.rules p.old) way (parts.seen B.beliefs p.old) stack.old
+        ≡ parts.made (parts.seen B.beliefs p.new) stack.new w) }
     ensures beliefs { p.new.beliefs ≡ p.old.beliefs }
     ensures number { p.new.number ≡ p.old.number }
 {
@@ -94,10 +91,8 @@ pub fn treat<B: BeliefBase, A: Actions>(
     stack: &mut Stack,
     falls: &mut Falls,
 ) -> Result<(), Starved>
-    ensures made { let x = goals.treated
-        (parts.around k.now.lib.plans (B.rules p.old.beliefs) (A.solve k.now.actions) k.now.budgets) way
-        (parts.parts (B.beliefs p.old.beliefs) p.old.agenda p.old.number) stack.old in
-        OnOk result ((parts.parts (B.beliefs p.new.beliefs) p.new.agenda p.new.number ≡ x.parts) × (stack.new ≡ x.cur)
+    ensures made { let x = goals.treated (parts.seen_around A.solve k.now B.rules p.old) way (parts.seen B.beliefs p.old) stack.old in
+        OnOk result ((parts.seen B.beliefs p.new ≡ x.parts) × (stack.new ≡ x.cur)
         × (falls.new ≡ falls.old ++ goals.falls_of x.went)) }
     ensures beliefs { p.new.beliefs ≡ p.old.beliefs }
     ensures number { p.new.number ≡ p.old.number }
@@ -126,10 +121,8 @@ fn treat_to_back<B: BeliefBase, A: Actions>(
     cut: Stack,
     falls: &mut Falls,
 ) -> Result<(), Starved>
-    ensures made { let x = goals.treated
-        (parts.around k.now.lib.plans (B.rules p.old.beliefs) (A.solve k.now.actions) k.now.budgets) way
-        (parts.parts (B.beliefs p.old.beliefs) p.old.agenda p.old.number) cut in
-        OnOk result ((parts.parts (B.beliefs p.new.beliefs) p.new.agenda p.new.number ≡ goals.to_back x.parts x.cur)
+    ensures made { let x = goals.treated (parts.seen_around A.solve k.now B.rules p.old) way (parts.seen B.beliefs p.old) cut in
+        OnOk result ((parts.seen B.beliefs p.new ≡ goals.to_back x.parts x.cur)
         × (falls.new ≡ falls.old ++ goals.falls_of x.went)) }
     ensures beliefs { p.new.beliefs ≡ p.old.beliefs }
     ensures number { p.new.number ≡ p.old.number }
@@ -154,10 +147,8 @@ fn treat_in_place<B: BeliefBase, A: Actions>(
     left: &mut Stacks,
     falls: &mut Falls,
 ) -> Result<(), Starved>
-    ensures made { let x = goals.treated
-        (parts.around k.now.lib.plans (B.rules p.old.beliefs) (A.solve k.now.actions) k.now.budgets) way
-        (parts.parts (B.beliefs p.old.beliefs) p.old.agenda p.old.number) cut in
-        OnOk result ((parts.parts (B.beliefs p.new.beliefs) p.new.agenda p.new.number ≡ x.parts)
+    ensures made { let x = goals.treated (parts.seen_around A.solve k.now B.rules p.old) way (parts.seen B.beliefs p.old) cut in
+        OnOk result ((parts.seen B.beliefs p.new ≡ x.parts)
         × (left.new ≡ left.old ++ goals.what_is_left x.cur) × (falls.new ≡ falls.old ++ goals.falls_of x.went)) }
     ensures beliefs { p.new.beliefs ≡ p.old.beliefs }
     ensures number { p.new.number ≡ p.old.number }
@@ -183,10 +174,9 @@ fn sweep_stack<B: BeliefBase, A: Actions>(
     left: &mut Stacks,
     falls: &mut Falls,
 ) -> Result<(), Starved>
-    ensures made { let s = goals.in_place
-        (parts.around k.now.lib.plans (B.rules p.old.beliefs) (A.solve k.now.actions) k.now.budgets) way g.now
-        (parts.parts (B.beliefs p.old.beliefs) p.old.agenda p.old.number) stack (goals.from_lowest g.now stack) in
-        OnOk result ((parts.parts (B.beliefs p.new.beliefs) p.new.agenda p.new.number ≡ s.parts)
+    ensures made { let s = goals.in_place (parts.seen_around A.solve k.now B.rules p.old) way g.now
+        (parts.seen B.beliefs p.old) stack (goals.from_lowest g.now stack) in
+        OnOk result ((parts.seen B.beliefs p.new ≡ s.parts)
         × (left.new ≡ left.old ++ s.left) × (falls.new ≡ falls.old ++ s.falls)) }
     ensures beliefs { p.new.beliefs ≡ p.old.beliefs }
     ensures number { p.new.number ≡ p.old.number }
@@ -213,10 +203,9 @@ fn sweep_event<B: BeliefBase, A: Actions>(
     left: &mut Seq<Event>,
     falls: &mut Falls,
 ) -> Result<(), Starved>
-    ensures made { let s = goals.taken_out
-        (parts.around k.now.lib.plans (B.rules p.old.beliefs) (A.solve k.now.actions) k.now.budgets) way g.now
-        (parts.parts (B.beliefs p.old.beliefs) p.old.agenda p.old.number) e (goals.from_lowest g.now e.stack) in
-        OnOk result ((parts.parts (B.beliefs p.new.beliefs) p.new.agenda p.new.number ≡ s.parts)
+    ensures made { let s = goals.taken_out (parts.seen_around A.solve k.now B.rules p.old) way g.now
+        (parts.seen B.beliefs p.old) e (goals.from_lowest g.now e.stack) in
+        OnOk result ((parts.seen B.beliefs p.new ≡ s.parts)
         × (left.new ≡ left.old ++ s.left) × (falls.new ≡ falls.old ++ s.falls)) }
     ensures beliefs { p.new.beliefs ≡ p.old.beliefs }
     ensures number { p.new.number ≡ p.old.number }
@@ -256,10 +245,9 @@ fn sweep_ask<B: BeliefBase, A: Actions>(
     left: &mut Asks,
     falls: &mut Falls,
 ) -> Result<(), Starved>
-    ensures made { let s = goals.taken_out
-        (parts.around k.now.lib.plans (B.rules p.old.beliefs) (A.solve k.now.actions) k.now.budgets) way g.now
-        (parts.parts (B.beliefs p.old.beliefs) p.old.agenda p.old.number) a (goals.from_lowest g.now a.stack) in
-        OnOk result ((parts.parts (B.beliefs p.new.beliefs) p.new.agenda p.new.number ≡ s.parts)
+    ensures made { let s = goals.taken_out (parts.seen_around A.solve k.now B.rules p.old) way g.now
+        (parts.seen B.beliefs p.old) a (goals.from_lowest g.now a.stack) in
+        OnOk result ((parts.seen B.beliefs p.new ≡ s.parts)
         × (left.new ≡ left.old ++ s.left) × (falls.new ≡ falls.old ++ s.falls)) }
     ensures beliefs { p.new.beliefs ≡ p.old.beliefs }
     ensures number { p.new.number ≡ p.old.number }
@@ -297,9 +285,9 @@ fn sweep_running<B: BeliefBase, A: Actions>(
     g: &Literal,
     falls: &mut Falls,
 ) -> Result<(), Starved>
-    ensures made { let e = parts.around k.now.lib.plans (B.rules p.old.beliefs) (A.solve k.now.actions) k.now.budgets in
-        let old = parts.parts (B.beliefs p.old.beliefs) p.old.agenda p.old.number in
-        OnOk result ((parts.parts (B.beliefs p.new.beliefs) p.new.agenda p.new.number ≡ goals.running_swept e way g.now old)
+    ensures made { let e = parts.seen_around A.solve k.now B.rules p.old in
+        let old = parts.seen B.beliefs p.old in
+        OnOk result ((parts.seen B.beliefs p.new ≡ goals.running_swept e way g.now old)
         × (falls.new ≡ falls.old ++ (goals.sweep_running e way g.now old).falls)) }
     ensures beliefs { p.new.beliefs ≡ p.old.beliefs }
     ensures number { p.new.number ≡ p.old.number }
@@ -322,9 +310,9 @@ fn sweep_events<B: BeliefBase, A: Actions>(
     g: &Literal,
     falls: &mut Falls,
 ) -> Result<(), Starved>
-    ensures made { let e = parts.around k.now.lib.plans (B.rules p.old.beliefs) (A.solve k.now.actions) k.now.budgets in
-        let old = parts.parts (B.beliefs p.old.beliefs) p.old.agenda p.old.number in
-        OnOk result ((parts.parts (B.beliefs p.new.beliefs) p.new.agenda p.new.number ≡ goals.events_swept e way g.now old)
+    ensures made { let e = parts.seen_around A.solve k.now B.rules p.old in
+        let old = parts.seen B.beliefs p.old in
+        OnOk result ((parts.seen B.beliefs p.new ≡ goals.events_swept e way g.now old)
         × (falls.new ≡ falls.old ++ (goals.sweep_events e way g.now old).falls)) }
     ensures beliefs { p.new.beliefs ≡ p.old.beliefs }
     ensures number { p.new.number ≡ p.old.number }
@@ -349,9 +337,9 @@ fn sweep_asks<B: BeliefBase, A: Actions>(
     g: &Literal,
     falls: &mut Falls,
 ) -> Result<(), Starved>
-    ensures made { let e = parts.around k.now.lib.plans (B.rules p.old.beliefs) (A.solve k.now.actions) k.now.budgets in
-        let old = parts.parts (B.beliefs p.old.beliefs) p.old.agenda p.old.number in
-        OnOk result ((parts.parts (B.beliefs p.new.beliefs) p.new.agenda p.new.number ≡ goals.asks_swept e way g.now old)
+    ensures made { let e = parts.seen_around A.solve k.now B.rules p.old in
+        let old = parts.seen B.beliefs p.old in
+        OnOk result ((parts.seen B.beliefs p.new ≡ goals.asks_swept e way g.now old)
         × (falls.new ≡ falls.old ++ (goals.sweep_asks e way g.now old).falls)) }
     ensures beliefs { p.new.beliefs ≡ p.old.beliefs }
     ensures number { p.new.number ≡ p.old.number }
@@ -374,12 +362,9 @@ pub fn sweep_all<B: BeliefBase, A: Actions>(
     way: Way,
     g: &Literal,
 ) -> Result<Falls, Starved>
-    ensures swept { OnOk result (parts.parts (B.beliefs p.new.beliefs) p.new.agenda p.new.number ≡ goals.all_swept
-        (parts.around k.now.lib.plans (B.rules p.old.beliefs) (A.solve k.now.actions) k.now.budgets) way g.now
-        (parts.parts (B.beliefs p.old.beliefs) p.old.agenda p.old.number)) }
-    ensures falls { IfOk result (λ f. f ≡ goals.all_falls
-        (parts.around k.now.lib.plans (B.rules p.old.beliefs) (A.solve k.now.actions) k.now.budgets) way g.now
-        (parts.parts (B.beliefs p.old.beliefs) p.old.agenda p.old.number)) }
+    ensures swept { OnOk result (parts.seen B.beliefs p.new
+        ≡ goals.all_swept (parts.seen_around A.solve k.now B.rules p.old) way g.now (parts.seen B.beliefs p.old)) }
+    ensures falls { IfOk result (λ f. f ≡ goals.all_falls (parts.seen_around A.solve k.now B.rules p.old) way g.now (parts.seen B.beliefs p.old)) }
     ensures beliefs { p.new.beliefs ≡ p.old.beliefs }
     ensures number { p.new.number ≡ p.old.number }
 {

@@ -9,8 +9,8 @@ use Rattle.asl_unify.specs.Applied.{applied_literal, within_literal}
 use Rattle.asl_unify.specs.Limits.{within}
 use Rattle.asl_unify.specs.Puts.{nil, value_of, apply}
 use Rattle.asl_unify.proofs.General.{put-lit}
-use Rattle.asl_exec.specs.Parts.{Parts}
-use Rattle.asl_exec.specs.declared.rows.Row.TheVariants as row
+use Rattle.asl_state.specs.Parts.{Parts}
+use Rattle.asl_state.specs.declared.rows.Row.TheVariants as row
 use Rattle.asl_resolve.specs.Calls.{listed}
 use Rattle.asl_resolve.specs.Listed.{list_of}
 use Rattle.asl_resolve.specs.declared.answers.Answers.{Answers}

@@ -1,5 +1,4 @@
 pub mod Found
-pub mod Naming
 pub mod Grounds
 pub mod Unasked
 pub mod Walks

@@ -5,7 +5,7 @@ use Rattle.asl_term.specs.declared.syntax.Term.{Term}
 use Rattle.asl_intend.specs.declared.agenda.Agenda.{Agenda}
 use Rattle.asl_intend.specs.declared.agenda.Ask.{Ask}
 use Rattle.asl_intend.specs.Agendas.{ask_of, without_ask}
-use Rattle.asl_exec.specs.Parts.{Around, Parts, with_agenda}
+use Rattle.asl_state.specs.Parts.{Around, Parts, with_agenda}
 use Rattle.asl_kqml.specs.Receive.{answers_ask, ignored}
 
 none_taken : (n : ℕ) (asks : List Ask) → ask_of n asks ≡ None → without_ask n asks ≡ asks

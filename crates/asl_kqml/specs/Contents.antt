@@ -1,10 +1,7 @@
--- What the contents of messages are, and the names of agents.
-use Rattle.std.specs.Prelude.{ℕ, Bool, false, not, ◌&&◌, ◌==◌, cond, List, [], ◌∷◌, length, Option, None, Some, is_none, codes}
+-- The plans that contents of messages are, and whether a reply says something.
+use Rattle.std.specs.Prelude.{Bool, false, ◌&&◌, ◌==◌, cond, List, [], ◌∷◌, length, Option, None, Some, is_none, codes}
 use Rattle.std.specs.Option.{option_map}
 use Rattle.std.specs.Str.{bytes_eq}
-use Rattle.asl_term.specs.Names.{name_at}
-use Rattle.asl_term.specs.Trees.{is_ground}
-use Rattle.asl_term.specs.declared.syntax.LiteralOf.{LiteralOf}
 use Rattle.asl_term.specs.declared.syntax.Term.{Term}
 use Rattle.asl_term.specs.declared.syntax.Term.TheOpen.{Term-F}
 use Rattle.asl_term.specs.declared.syntax.Term.TheOpen as layer
@@ -13,73 +10,7 @@ use Rattle.asl_term.specs.declared.syntax.Plan.{Plan}
 use Rattle.asl_plans.specs.declared.entry.Which.{Which}
 use Rattle.asl_plans.specs.declared.entry.Which.TheVariants as which
 use Rattle.asl_plan_text.specs.Plans.{plan_in}
-
--- ---- names
-
-abbrev pub name_or_none : Option (List ℕ) → List ℕ
-name_or_none (Some name) = name
-name_or_none None = []
-
--- the name of an agent by its number (each message is from and to an agent, so the name is there)
-abbrev pub agent_name : List (List ℕ) → ℕ → List ℕ
-agent_name names n = name_or_none (name_at names n)
-
--- ---- literals
-
-abbrev pub literal_layer : Term-F Term → Option (LiteralOf Term)
-literal_layer (layer.Lit l) = Some l
-literal_layer other = None
-
--- a literal
-abbrev pub literal_of : Term → Option (LiteralOf Term)
-literal_of t = literal_layer (out-Term t)
-
-abbrev pub before : {A : Type 0} → Option A → Option (List A) → Option (List A)
-before None more = None
-before (Some l) None = None
-before (Some l) (Some more) = Some (l ∷ more)
-
--- terms that all are literals
-abbrev pub all_literals : List Term → Option (List (LiteralOf Term))
-all_literals [] = Some []
-all_literals (t ∷ ts) = before (literal_of t) (all_literals ts)
-
-abbrev pub literals_layer : Term-F Term → Option (List (LiteralOf Term))
-literals_layer (layer.Lit l) = Some (l ∷ [])
-literals_layer (layer.List l) = cond (is_none l.tail) (all_literals l.items) None
-literals_layer other = None
-
--- a literal, or a list of literals without a tail
-abbrev pub literals_of : Term → Option (List (LiteralOf Term))
-literals_of t = literals_layer (out-Term t)
-
--- the same without variables
-abbrev pub ground_literals : Term → Option (List (LiteralOf Term))
-ground_literals t = cond (is_ground t) (literals_of t) None
-
--- ---- strings, and the plans that they are
-
-abbrev pub string_layer : Term-F Term → Option (List ℕ)
-string_layer (layer.Str s) = Some s
-string_layer other = None
-
--- a string
-abbrev pub string_of : Term → Option (List ℕ)
-string_of t = string_layer (out-Term t)
-
--- terms that all are strings
-abbrev pub all_strings : List Term → Option (List (List ℕ))
-all_strings [] = Some []
-all_strings (t ∷ ts) = before (string_of t) (all_strings ts)
-
-abbrev pub strings_layer : Term-F Term → Option (List (List ℕ))
-strings_layer (layer.Str s) = Some (s ∷ [])
-strings_layer (layer.List l) = cond (is_none l.tail) (all_strings l.items) None
-strings_layer other = None
-
--- a string, or a list of strings without a tail
-abbrev pub strings_of : Term → Option (List (List ℕ))
-strings_of t = strings_layer (out-Term t)
+use Rattle.asl_state.specs.Contents.{before, is_atom}
 
 abbrev pub plan_layer : Term-F Term → Option Plan
 plan_layer (layer.Str s) = plan_in s
@@ -104,10 +35,6 @@ abbrev pub plans_of : Term → Option (List Plan)
 plans_of t = plans_layer (out-Term t)
 
 -- ---- answers
-
--- an atom is a positive literal without arguments and annotations
-abbrev pub is_atom : LiteralOf Term → Bool
-is_atom l = not l.neg && (length l.args == 0) && (length l.annots == 0)
 
 abbrev pub nothing_layer : Term-F Term → Bool
 nothing_layer (layer.Lit l) = is_atom l && bytes_eq l.functor (codes "false")

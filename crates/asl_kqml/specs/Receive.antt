@@ -1,13 +1,12 @@
 -- What a message does. The rows are asked in the order of Tell, Untell, Achieve, Unachieve, AskOne, AskAll, AskSpent, Reply,
 -- ReplyFail, TellHow, UntellHow, AskHow, Ignore; the first whose condition holds applies.
-use Rattle.std.specs.Prelude.{ℕ, ◌+◌, ◌&&◌, not, cond, eqb, true, List, [], ◌∷◌, ◌++◌, map, filter, Option, None, Some, codes}
+use Rattle.std.specs.Prelude.{ℕ, ◌+◌, ◌&&◌, not, cond, eqb, List, [], ◌∷◌, ◌++◌, map, filter, Option, None, Some, codes}
 use Rattle.std.specs.List.{list_all, flat_map}
 use Rattle.std.specs.Option.{option_map, option_to_list}
 use Rattle.asl_term.specs.declared.syntax.LiteralOf.{LiteralOf}
 use Rattle.asl_term.specs.declared.syntax.Term.{Term}
 use Rattle.asl_term.specs.declared.syntax.Term.TheVariants as term
 use Rattle.asl_term.specs.declared.syntax.Kind.TheVariants as kind
-use Rattle.asl_term.specs.declared.syntax.Trigger.{Trigger}
 use Rattle.asl_term.specs.declared.syntax.Plan.{Plan}
 use Rattle.asl_term.specs.declared.syntax.Expr.TheVariants as expr
 use Rattle.asl_unify.specs.declared.subst.Pair.{Pair}
@@ -34,14 +33,14 @@ use Rattle.asl_intend.specs.declared.agenda.Error.TheVariants as error
 use Rattle.asl_intend.specs.Stacks.{bound, without_head}
 use Rattle.asl_intend.specs.Agendas.{external_event, ask_of, without_ask, without_desires}
 use Rattle.asl_fail.specs.Fails.{fails}
-use Rattle.asl_exec.specs.declared.rows.Row.{Row}
-use Rattle.asl_exec.specs.declared.rows.Row.TheVariants as row
-use Rattle.asl_exec.specs.Parts.{Around, Parts, with_agenda, with_number, post, believing}
-use Rattle.asl_exec.specs.Exec.{sought}
+use Rattle.asl_state.specs.declared.rows.Row.{Row}
+use Rattle.asl_state.specs.declared.rows.Row.TheVariants as row
+use Rattle.asl_state.specs.Parts.{Around, Parts, with_agenda, with_number, post, running, goal_trigger, believing}
+use Rattle.asl_state.specs.Sought.{sought}
 use Rattle.mas_mind.specs.declared.mind.Message.{Message}
 use Rattle.mas_mind.specs.declared.mind.Verb.{Verb}
 use Rattle.mas_mind.specs.declared.mind.Verb.TheVariants as verb
-use Rattle.asl_kqml.specs.declared.peers.Peers.{Peers}
+use Rattle.asl_state.specs.declared.peers.Peers.{Peers}
 use Rattle.asl_kqml.specs.declared.took.Took.{Took}
 use Rattle.asl_kqml.specs.declared.took.Took.TheVariants as took
 use Rattle.asl_plans.specs.declared.entry.Entry.{Entry}
@@ -51,7 +50,8 @@ use Rattle.asl_plans.specs.Plans.{relevant}
 use Rattle.asl_plans.specs.Libraries.{plan_at}
 use Rattle.asl_plans.specs.Libraries as plans
 use Rattle.asl_print.specs.Agents.{plan_line}
-use Rattle.asl_kqml.specs.Contents.{agent_name, literal_of, literals_of, ground_literals, is_nothing, plans_of, which_of}
+use Rattle.asl_state.specs.Contents.{agent_name, literal_of, literals_of, ground_literals}
+use Rattle.asl_kqml.specs.Contents.{is_nothing, plans_of, which_of}
 
 -- what a message leaves, and what it did
 pub record Received : Type 0 where
@@ -98,7 +98,7 @@ untell name p (Some ls) = changed row.Untell p (all_removed (map (only_from name
 
 abbrev pub achieve : List ℕ → Parts → Option (LiteralOf Term) → Received
 achieve name p None = ignored p
-achieve name p (Some g) = by row.Achieve (post p (external_event (record { add = true; kind = kind.Achieve; lit = sourced name g })))
+achieve name p (Some g) = by row.Achieve (post p (external_event (goal_trigger kind.Achieve (sourced name g))))
 
 abbrev pub unachieve : Parts → Option (LiteralOf Term) → Received
 unachieve p None = ignored p
@@ -158,12 +158,8 @@ asks_all k me m p (Some g) = ask_all me m p g (sought_all k p g)
 
 -- ---- Reply and ReplyFail
 
--- the stack goes to the back of those that run
-abbrev pub runs : Parts → List Means → Parts
-runs p stack = with_agenda p (record p.agenda { running = p.agenda.running ++ stack ∷ [] })
-
 abbrev pub answered : Around → Parts → List Means → Option (List Pair) → Received
-answered k p stack (Some s) = by row.Reply (runs p (without_head (bound s stack)))
+answered k p stack (Some s) = by row.Reply (running p (without_head (bound s stack)))
 answered k p stack None =
     let f = fails k.plans p.number error.IaFailed p.agenda stack in
     received (with_agenda p f.agenda) (took.Row row.ReplyFail None (record { error = error.IaFailed; fell = f.fell } ∷ []))
@@ -205,10 +201,6 @@ learned lib n m = (learns lib m.from (renamed n m.content) m.verb).plans
 
 -- ---- AskHow
 
--- +!g
-abbrev pub goal_trigger : LiteralOf Term → Trigger
-goal_trigger g = record { add = true; kind = kind.Achieve; lit = g }
-
 -- the text of a chosen plan
 abbrev pub choice_text : List Entry → Choice → Option (List ℕ)
 choice_text lib c = option_map plan_line (plan_at lib c.plan)
@@ -228,7 +220,7 @@ limited_strings texts = cond (within (string_list texts)) (string_list texts) ni
 
 -- the texts of the plans that are relevant for +!g, in order
 abbrev pub how_answer : List Entry → ℕ → LiteralOf Term → Term
-how_answer lib n g = limited_strings (texts_of lib (relevant lib n (goal_trigger g)))
+how_answer lib n g = limited_strings (texts_of lib (relevant lib n (goal_trigger kind.Achieve g)))
 
 -- to an ask without a number they are told as plans
 abbrev pub how_verb : Message → Verb

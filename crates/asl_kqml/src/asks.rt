@@ -4,8 +4,8 @@ ghost use Rattle.std.specs.Prelude.{◌≡◌, ◌+◌, ◌<◌, ◌^◌, ◌-�
 ghost use Rattle.asl_term.specs.declared.syntax.Expr.TheVariants as expr;
 ghost use Rattle.asl_term.specs.declared.syntax.Term.TheVariants as term;
 ghost use Rattle.asl_unify.specs.Applied.{applied_literal, within_literal};
-ghost use Rattle.asl_exec.specs.Exec as rows;
-ghost use Rattle.asl_exec.specs.Parts as parts;
+ghost use Rattle.asl_state.specs.Parts as parts;
+ghost use Rattle.asl_state.specs.Sought as searches;
 ghost use Rattle.asl_resolve.specs.Listed.{list_of};
 ghost use Rattle.asl_kqml.specs.Receive as spec;
 ghost use Rattle.asl_kqml.specs.inner.Asks as inner;
@@ -13,12 +13,12 @@ ghost use Rattle.asl_kqml.specs.inner.Asks as inner;
 use crate::content::is_nothing;
 use crate::took::{Took, by};
 use asl_beliefs::base::BeliefBase;
-use asl_exec::goals::sought;
-use asl_exec::parts::{Around, Parts};
-use asl_exec::rows::Row;
 use asl_resolve::actions::Actions;
 use asl_resolve::all::all_listed;
 use asl_resolve::answers::{Answer, Listed};
+use asl_state::parts::{Around, Parts};
+use asl_state::rows::Row;
+use asl_state::sought::sought;
 use asl_term::copying::{copy_literal, text_of};
 use asl_term::sequence::{Seq, Starved};
 use asl_term::syntax::{Expr, ListingOf, Literal, LiteralOf, Term, Terms};
@@ -148,9 +148,7 @@ fn sought_one<B: BeliefBase, A: Actions>(
     g: &Literal,
 ) -> Result<Answer, Starved>
     requires { p.now.number + k.now.budgets.tries < 2 ^ 64 - 1 }
-    ensures { IfOk result (λ r. r ≡ rows.sought
-        (parts.around k.now.lib.plans (B.rules p.now.beliefs) (A.solve k.now.actions) k.now.budgets)
-        (parts.parts (B.beliefs p.now.beliefs) p.now.agenda p.now.number) (expr.Holds g.now)) }
+    ensures { IfOk result (λ r. r ≡ searches.sought (parts.seen_around A.solve k.now B.rules p.now) (parts.seen B.beliefs p.now) (expr.Holds g.now)) }
 {
     let e = Expr::Holds(copy_literal(alloc, g)?);
     let answer = sought(alloc, k, p, &e);
@@ -167,9 +165,7 @@ fn listed_by<B: BeliefBase, A: Actions>(
     item: &Term,
 ) -> Result<Listed, Starved>
     requires { p.now.number + k.now.budgets.tries < 2 ^ 64 - 1 }
-    ensures { IfOk result (λ r. r ≡ list_of item.now (spec.sought_all
-        (parts.around k.now.lib.plans (B.rules p.now.beliefs) (A.solve k.now.actions) k.now.budgets)
-        (parts.parts (B.beliefs p.now.beliefs) p.now.agenda p.now.number) g.now)) }
+    ensures { IfOk result (λ r. r ≡ list_of item.now (spec.sought_all (parts.seen_around A.solve k.now B.rules p.now) (parts.seen B.beliefs p.now) g.now)) }
 {
     let e = Expr::Holds(copy_literal(alloc, g)?);
     let answer = all_listed(
@@ -187,9 +183,8 @@ fn listed_all<B: BeliefBase, A: Actions>(
     g: &Literal,
 ) -> Result<Listed, Starved>
     requires { p.now.number + k.now.budgets.tries < 2 ^ 64 - 1 }
-    ensures { IfOk result (λ r. r ≡ list_of (term.Lit g.now) (spec.sought_all
-        (parts.around k.now.lib.plans (B.rules p.now.beliefs) (A.solve k.now.actions) k.now.budgets)
-        (parts.parts (B.beliefs p.now.beliefs) p.now.agenda p.now.number) g.now)) }
+    ensures { IfOk result (λ r. r
+        ≡ list_of (term.Lit g.now) (spec.sought_all (parts.seen_around A.solve k.now B.rules p.now) (parts.seen B.beliefs p.now) g.now)) }
 {
     let item = Term::Lit(copy_literal(alloc, g)?);
     let answer = listed_by(alloc, k, p, g, &item);
@@ -207,8 +202,8 @@ pub fn asks_one<B: BeliefBase, A: Actions>(
     g: &Option<Literal>,
 ) -> Result<Took, Starved>
     requires { p.now.number + k.now.budgets.tries < 2 ^ 64 - 1 }
-    ensures { let q = parts.parts (B.beliefs p.now.beliefs) p.now.agenda p.now.number in
-        IfOk result (λ t. spec.asks_one (parts.around k.now.lib.plans (B.rules p.now.beliefs) (A.solve k.now.actions) k.now.budgets) me m.now q g.now
+    ensures { let q = parts.seen B.beliefs p.now in
+        IfOk result (λ t. spec.asks_one (parts.seen_around A.solve k.now B.rules p.now) me m.now q g.now
         ≡ spec.received q t) }
 {
     match g {
@@ -232,8 +227,8 @@ pub fn asks_all<B: BeliefBase, A: Actions>(
     g: &Option<Literal>,
 ) -> Result<Took, Starved>
     requires { p.now.number + k.now.budgets.tries < 2 ^ 64 - 1 }
-    ensures { let q = parts.parts (B.beliefs p.now.beliefs) p.now.agenda p.now.number in
-        IfOk result (λ t. spec.asks_all (parts.around k.now.lib.plans (B.rules p.now.beliefs) (A.solve k.now.actions) k.now.budgets) me m.now q g.now
+    ensures { let q = parts.seen B.beliefs p.now in
+        IfOk result (λ t. spec.asks_all (parts.seen_around A.solve k.now B.rules p.now) me m.now q g.now
         ≡ spec.received q t) }
 {
     match g {

@@ -1,19 +1,19 @@
 //! The rows Tell and Untell.
 
-ghost use Rattle.std.specs.Prelude.{◌≡◌, true, IfOk, IfSome, OnOk, option_to_list};
+ghost use Rattle.std.specs.Prelude.{◌≡◌, true, IfOk, IfSome, OnOk};
 ghost use Rattle.asl_beliefs.specs.Bases.{all_ground};
 ghost use Rattle.asl_beliefs.specs.Changes as changes;
-ghost use Rattle.asl_exec.specs.Parts as parts;
+ghost use Rattle.asl_state.specs.Parts as parts;
 ghost use Rattle.asl_kqml.specs.Receive as spec;
 
 use crate::sourced::{all_only_from, all_sourced};
 use crate::took::{Took, by};
 use asl_beliefs::base::BeliefBase;
-use asl_beliefs::removed::{BeliefFault, Removed};
-use asl_exec::parts::{Parts, tell_one};
-use asl_exec::rows::Row;
+use asl_beliefs::removed::BeliefFault;
+use asl_state::parts::{Parts, event_of, tell_one};
+use asl_state::rows::Row;
 use asl_term::sequence::Starved;
-use asl_term::syntax::{Literal, Literals, Text, Trigger};
+use asl_term::syntax::{Literal, Literals, Text};
 use asl_unify::subst::no_subst;
 use std::alloc::Global;
 
@@ -34,19 +34,6 @@ fn add_all<B: BeliefBase>(alloc: Global, p: &mut Parts<B>, ls: &[Literal]) -> Re
         }
     }
     Ok(())
-}
-
-/// The event of what was removed.
-fn event_of(removed: Option<Removed>) -> Option<Trigger>
-    ensures { option_to_list result ≡ changes.removed_events removed }
-{
-    match removed {
-        None => None,
-        Some(r) => {
-            let Removed { event, subst: _ } = r;
-            Some(event)
-        }
-    }
 }
 
 /// Removes literals one after another, and posts their events.
@@ -72,8 +59,7 @@ pub fn tell<B: BeliefBase>(
     ls: Option<Literals>,
 ) -> Result<Took, Starved>
     requires { IfSome ls (λ held. all_ground held ≡ true) }
-    ensures made { IfOk result (λ t. spec.tell name.now (parts.parts (B.beliefs p.old.beliefs) p.old.agenda p.old.number) ls
-        ≡ spec.received (parts.parts (B.beliefs p.new.beliefs) p.new.agenda p.new.number) t) }
+    ensures made { IfOk result (λ t. spec.tell name.now (parts.seen B.beliefs p.old) ls ≡ spec.received (parts.seen B.beliefs p.new) t) }
     ensures rules { B.rules p.new.beliefs ≡ B.rules p.old.beliefs }
     ensures number { p.new.number ≡ p.old.number }
 {
@@ -96,8 +82,7 @@ pub fn untell<B: BeliefBase>(
     p: &mut Parts<B>,
     ls: Option<Literals>,
 ) -> Result<Took, Starved>
-    ensures made { IfOk result (λ t. spec.untell name.now (parts.parts (B.beliefs p.old.beliefs) p.old.agenda p.old.number) ls
-        ≡ spec.received (parts.parts (B.beliefs p.new.beliefs) p.new.agenda p.new.number) t) }
+    ensures made { IfOk result (λ t. spec.untell name.now (parts.seen B.beliefs p.old) ls ≡ spec.received (parts.seen B.beliefs p.new) t) }
     ensures rules { B.rules p.new.beliefs ≡ B.rules p.old.beliefs }
     ensures number { p.new.number ≡ p.old.number }
 {

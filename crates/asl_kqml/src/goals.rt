@@ -1,18 +1,16 @@
 //! The rows Achieve and Unachieve.
 
 ghost use Rattle.std.specs.Prelude.{◌≡◌, IfOk};
-ghost use Rattle.asl_exec.specs.Parts as parts;
+ghost use Rattle.asl_state.specs.Parts as parts;
 ghost use Rattle.asl_kqml.specs.Receive as spec;
 
 use crate::sourced::sourced;
 use crate::took::{Took, by};
 use asl_beliefs::base::BeliefBase;
-use asl_exec::parts::Parts;
-use asl_exec::rows::Row;
-use asl_intend::agenda::Event;
-use asl_intend::stack::Stack;
+use asl_state::parts::{Parts, external_event, goal_trigger};
+use asl_state::rows::Row;
 use asl_term::sequence::Starved;
-use asl_term::syntax::{Kind, Literal, Text, Trigger};
+use asl_term::syntax::{Kind, Literal, Text};
 use std::alloc::Global;
 
 /// Achieve, or Ignore where there is no goal. The event is external.
@@ -22,8 +20,7 @@ pub fn achieve<B: BeliefBase>(
     p: &mut Parts<B>,
     g: Option<Literal>,
 ) -> Result<Took, Starved>
-    ensures made { IfOk result (λ t. spec.achieve name.now (parts.parts (B.beliefs p.old.beliefs) p.old.agenda p.old.number) g
-        ≡ spec.received (parts.parts (B.beliefs p.new.beliefs) p.new.agenda p.new.number) t) }
+    ensures made { IfOk result (λ t. spec.achieve name.now (parts.seen B.beliefs p.old) g ≡ spec.received (parts.seen B.beliefs p.new) t) }
     ensures beliefs { p.new.beliefs ≡ p.old.beliefs }
     ensures number { p.new.number ≡ p.old.number }
 {
@@ -31,15 +28,8 @@ pub fn achieve<B: BeliefBase>(
         None => Ok(by(alloc, Row::Ignore)),
         Some(g) => {
             let lit = sourced(alloc, name, g)?;
-            p.agenda.post(Event {
-                trigger: Trigger {
-                    add: true,
-                    kind: Kind::Achieve,
-                    lit,
-                },
-                stack: Stack::new(alloc),
-                error: None,
-            })?;
+            p.agenda
+                .post(external_event(alloc, goal_trigger(Kind::Achieve, lit)))?;
             Ok(by(alloc, Row::Achieve))
         }
     }
@@ -51,8 +41,7 @@ pub fn unachieve<B: BeliefBase>(
     p: &mut Parts<B>,
     g: &Option<Literal>,
 ) -> Result<Took, Starved>
-    ensures made { IfOk result (λ t. spec.unachieve (parts.parts (B.beliefs p.old.beliefs) p.old.agenda p.old.number) g.now
-        ≡ spec.received (parts.parts (B.beliefs p.new.beliefs) p.new.agenda p.new.number) t) }
+    ensures made { IfOk result (λ t. spec.unachieve (parts.seen B.beliefs p.old) g.now ≡ spec.received (parts.seen B.beliefs p.new) t) }
     ensures beliefs { p.new.beliefs ≡ p.old.beliefs }
     ensures number { p.new.number ≡ p.old.number }
 {

@@ -1,7 +1,7 @@
 //! The rows TellHow, UntellHow and AskHow: messages about plans.
 
 ghost use Rattle.std.specs.Prelude.{◌≡◌, ◌++◌, IfOk, OnOk, option_to_list};
-ghost use Rattle.asl_exec.specs.Parts as parts;
+ghost use Rattle.asl_state.specs.Parts as parts;
 ghost use Rattle.asl_kqml.specs.Contents as contents;
 ghost use Rattle.asl_kqml.specs.Receive as spec;
 ghost use Rattle.asl_kqml.specs.inner.Hows as inner;
@@ -10,14 +10,14 @@ use crate::asks::{list, reply_by};
 use crate::content::{plans_of, which_of};
 use crate::took::{Took, by};
 use asl_beliefs::base::BeliefBase;
-use asl_exec::parts::{Around, Parts};
-use asl_exec::rows::Row;
 use asl_plans::library::{Choice, Library};
 use asl_print::printing::plan_line;
 use asl_resolve::actions::Actions;
+use asl_state::parts::{Around, Parts, goal_trigger};
+use asl_state::rows::Row;
 use asl_term::copying::copy_literal;
 use asl_term::sequence::{Seq, Starved};
-use asl_term::syntax::{Kind, Literal, Term, Terms, Trigger};
+use asl_term::syntax::{Kind, Literal, Term, Terms};
 use mas_mind::mind::{Message, Verb};
 use std::alloc::Global;
 
@@ -100,11 +100,7 @@ fn listed(alloc: Global, lib: &Library, choices: &[Choice]) -> Result<Term, Star
 fn how_answer(alloc: Global, lib: &Library, number: u64, g: &Literal) -> Result<Term, Starved>
     ensures { IfOk result (λ t. t ≡ spec.how_answer lib.now.plans number g.now) }
 {
-    let event = Trigger {
-        add: true,
-        kind: Kind::Achieve,
-        lit: copy_literal(alloc, g)?,
-    };
+    let event = goal_trigger(Kind::Achieve, copy_literal(alloc, g)?);
     let choices = lib.relevant(alloc, &event, number);
     drop(event);
     let choices = choices?;
@@ -133,8 +129,8 @@ pub fn asks_how<B: BeliefBase, A: Actions>(
     m: &Message,
     g: &Option<Literal>,
 ) -> Result<Took, Starved>
-    ensures { let q = parts.parts (B.beliefs p.now.beliefs) p.now.agenda p.now.number in
-        IfOk result (λ t. spec.asks_how (parts.around k.now.lib.plans (B.rules p.now.beliefs) (A.solve k.now.actions) k.now.budgets) me m.now q g.now
+    ensures { let q = parts.seen B.beliefs p.now in
+        IfOk result (λ t. spec.asks_how (parts.seen_around A.solve k.now B.rules p.now) me m.now q g.now
         ≡ spec.received q t) }
 {
     match g {

@@ -1,20 +1,20 @@
 //! The row of a message.
 
 ghost use Rattle.std.specs.Prelude.{◌≡◌, ◌+◌, ◌<◌, ◌^◌, ◌-◌, IfOk, OnOk};
-ghost use Rattle.asl_exec.specs.Parts as parts;
+ghost use Rattle.asl_state.specs.Parts as parts;
 ghost use Rattle.asl_kqml.specs.Receive as spec;
 
 use crate::asks::{asks_all, asks_one};
 use crate::believing::{tell, untell};
-use crate::content::{ground_literals, literal_of, literals_of};
 use crate::goals::{achieve, unachieve};
 use crate::how::{asks_how, tell_how, untell_how};
-use crate::peers::{Peers, agent_name};
 use crate::replies::answers_ask;
 use crate::took::{Took, by};
 use asl_beliefs::base::BeliefBase;
-use asl_exec::parts::{Around, Parts};
 use asl_resolve::actions::Actions;
+use asl_state::content::{ground_literals, literal_of, literals_of};
+use asl_state::parts::{Around, Parts};
+use asl_state::peers::{Peers, agent_name};
 use asl_term::sequence::Starved;
 use asl_term::syntax::{Term, Text};
 use asl_unify::rename::rename_term;
@@ -30,10 +30,8 @@ fn tells<B: BeliefBase, A: Actions>(
     m: &Message,
     content: &Term,
 ) -> Result<Took, Starved>
-    ensures made { IfOk result (λ t. spec.tells
-        (parts.around k.now.lib.plans (B.rules p.old.beliefs) (A.solve k.now.actions) k.now.budgets) name.now
-        (parts.parts (B.beliefs p.old.beliefs) p.old.agenda p.old.number) m.now content.now
-        ≡ spec.received (parts.parts (B.beliefs p.new.beliefs) p.new.agenda p.new.number) t) }
+    ensures made { IfOk result (λ t. spec.tells (parts.seen_around A.solve k.now B.rules p.old) name.now (parts.seen B.beliefs p.old) m.now content.now
+        ≡ spec.received (parts.seen B.beliefs p.new) t) }
     ensures rules { B.rules p.new.beliefs ≡ B.rules p.old.beliefs }
     ensures number { p.new.number ≡ p.old.number }
 {
@@ -55,10 +53,9 @@ fn of_verb<B: BeliefBase, A: Actions>(
     content: &Term,
 ) -> Result<Took, Starved>
     requires { p.old.number + k.old.budgets.tries < 2 ^ 64 - 1 }
-    ensures made { IfOk result (λ t. spec.of_verb
-        (parts.around k.old.lib.plans (B.rules p.old.beliefs) (A.solve k.old.actions) k.old.budgets) me name.now
-        (parts.parts (B.beliefs p.old.beliefs) p.old.agenda p.old.number) m.now content.now m.now.verb
-        ≡ spec.received (parts.parts (B.beliefs p.new.beliefs) p.new.agenda p.new.number) t) }
+    ensures made { IfOk result (λ t. spec.of_verb (parts.seen_around A.solve k.old B.rules p.old) me name.now
+        (parts.seen B.beliefs p.old) m.now content.now m.now.verb
+        ≡ spec.received (parts.seen B.beliefs p.new) t) }
     ensures plans { OnOk result (k.new.lib.plans ≡ (spec.learns k.old.lib.plans m.now.from content.now m.now.verb).plans) }
     ensures rules { B.rules p.new.beliefs ≡ B.rules p.old.beliefs }
     ensures number { p.new.number ≡ p.old.number }
@@ -108,10 +105,8 @@ pub fn receive<B: BeliefBase, A: Actions>(
     m: &Message,
 ) -> Result<Took, Starved>
     requires { p.old.number + k.old.budgets.tries + 1 < 2 ^ 64 - 1 }
-    ensures made { IfOk result (λ t. spec.receive
-        (parts.around k.old.lib.plans (B.rules p.old.beliefs) (A.solve k.old.actions) k.old.budgets) peers.now
-        (parts.parts (B.beliefs p.old.beliefs) p.old.agenda p.old.number) m.now
-        ≡ spec.received (parts.parts (B.beliefs p.new.beliefs) p.new.agenda p.new.number) t) }
+    ensures made { IfOk result (λ t. spec.receive (parts.seen_around A.solve k.old B.rules p.old) peers.now (parts.seen B.beliefs p.old) m.now
+        ≡ spec.received (parts.seen B.beliefs p.new) t) }
     ensures plans { OnOk result (k.new.lib.plans ≡ spec.learned k.old.lib.plans p.old.number m.now) }
     ensures rules { B.rules p.new.beliefs ≡ B.rules p.old.beliefs }
     ensures number { p.new.number ≡ p.old.number + 1 }

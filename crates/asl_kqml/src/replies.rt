@@ -3,17 +3,17 @@
 ghost use Rattle.std.specs.Prelude.{◌≡◌, IfOk};
 ghost use Rattle.asl_intend.specs.Agendas.{ask_of};
 ghost use Rattle.asl_intend.specs.Stacks.{bound, without_head};
-ghost use Rattle.asl_exec.specs.Parts as parts;
+ghost use Rattle.asl_state.specs.Parts as parts;
 ghost use Rattle.asl_kqml.specs.Receive as spec;
 
 use crate::took::{Took, by};
 use asl_beliefs::base::BeliefBase;
-use asl_exec::parts::{Around, Parts};
-use asl_exec::rows::{Fall, Row};
 use asl_fail::fail::fail;
 use asl_intend::agenda::{Ask, Error};
 use asl_intend::stack::Stack;
 use asl_resolve::actions::Actions;
+use asl_state::parts::{Around, Parts};
+use asl_state::rows::{Fall, Row};
 use asl_term::sequence::{Seq, Starved};
 use asl_term::syntax::Term;
 use asl_unify::matching::attempt;
@@ -28,9 +28,8 @@ fn goes_on<B: BeliefBase>(
     mut stack: Stack,
     s: &Subst,
 ) -> Result<Took, Starved>
-    ensures made { IfOk result (λ t. spec.by Row.Reply (spec.runs
-        (parts.parts (B.beliefs p.old.beliefs) p.old.agenda p.old.number) (without_head (bound s.now stack)))
-        ≡ spec.received (parts.parts (B.beliefs p.new.beliefs) p.new.agenda p.new.number) t) }
+    ensures made { IfOk result (λ t. spec.by Row.Reply (parts.running (parts.seen B.beliefs p.old) (without_head (bound s.now stack)))
+        ≡ spec.received (parts.seen B.beliefs p.new) t) }
     ensures beliefs { p.new.beliefs ≡ p.old.beliefs }
     ensures number { p.new.number ≡ p.old.number }
 {
@@ -55,10 +54,8 @@ fn answered<B: BeliefBase, A: Actions>(
     mut stack: Stack,
     s: &Option<Subst>,
 ) -> Result<Took, Starved>
-    ensures made { IfOk result (λ t. spec.answered
-        (parts.around k.now.lib.plans (B.rules p.old.beliefs) (A.solve k.now.actions) k.now.budgets)
-        (parts.parts (B.beliefs p.old.beliefs) p.old.agenda p.old.number) stack s.now
-        ≡ spec.received (parts.parts (B.beliefs p.new.beliefs) p.new.agenda p.new.number) t) }
+    ensures made { IfOk result (λ t. spec.answered (parts.seen_around A.solve k.now B.rules p.old) (parts.seen B.beliefs p.old) stack s.now
+        ≡ spec.received (parts.seen B.beliefs p.new) t) }
     ensures beliefs { p.new.beliefs ≡ p.old.beliefs }
     ensures number { p.new.number ≡ p.old.number }
 {
@@ -90,10 +87,9 @@ pub fn answers_ask<B: BeliefBase, A: Actions>(
     number: u64,
     content: &Term,
 ) -> Result<Took, Starved>
-    ensures made { IfOk result (λ t. spec.answers_ask
-        (parts.around k.now.lib.plans (B.rules p.old.beliefs) (A.solve k.now.actions) k.now.budgets)
-        (parts.parts (B.beliefs p.old.beliefs) p.old.agenda p.old.number) number content.now (ask_of number p.old.agenda.asks)
-        ≡ spec.received (parts.parts (B.beliefs p.new.beliefs) p.new.agenda p.new.number) t) }
+    ensures made { IfOk result (λ t. spec.answers_ask (parts.seen_around A.solve k.now B.rules p.old)
+        (parts.seen B.beliefs p.old) number content.now (ask_of number p.old.agenda.asks)
+        ≡ spec.received (parts.seen B.beliefs p.new) t) }
     ensures beliefs { p.new.beliefs ≡ p.old.beliefs }
     ensures number { p.new.number ≡ p.old.number }
 {

@@ -2,14 +2,11 @@
 
 ghost use Rattle.std.specs.Prelude.{◌≡◌, [], None};
 
-use asl_exec::rows::{Fall, Row};
 use asl_resolve::answers::Spent;
+use asl_state::rows::{Falls, Row};
 use asl_term::sequence::Seq;
 use mas_mind::mind::Message;
 use std::alloc::Global;
-
-/// Why stacks failed and what became of them, in order.
-pub type Falls = Seq<Fall>;
 
 /// What the row of a message did beside its change.
 #[derive(Drop)]

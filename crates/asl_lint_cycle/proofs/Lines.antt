@@ -3,13 +3,13 @@ use Rattle.std.proofs.Common.{◌≡◌, ◌-◌, ◌++◌, ℕ, zero, suc, fals
 use Rattle.asl_intend.specs.declared.agenda.Error.{Error}
 use Rattle.asl_fail.specs.declared.fail.Fell.{Fell}
 use Rattle.asl_fail.specs.declared.fail.Fell.TheVariants.{Raised, Dropped}
-use Rattle.asl_exec.specs.declared.rows.Fall.{Fall}
-use Rattle.asl_exec.specs.declared.rows.Row.{Row}
-use Rattle.asl_exec.specs.declared.rows.Row.TheVariants as row
-use Rattle.asl_exec.specs.declared.went.Went.{Went}
-use Rattle.asl_exec.specs.declared.went.Went.TheVariants as went
+use Rattle.asl_state.specs.declared.rows.Fall.{Fall}
+use Rattle.asl_state.specs.declared.rows.Row.{Row}
+use Rattle.asl_state.specs.declared.rows.Row.TheVariants as row
+use Rattle.asl_state.specs.declared.went.Went.{Went}
+use Rattle.asl_state.specs.declared.went.Went.TheVariants as went
 use Rattle.mas_mind.specs.declared.mind.Message.{Message}
-use Rattle.asl_kqml.specs.declared.peers.Peers.{Peers}
+use Rattle.asl_state.specs.declared.peers.Peers.{Peers}
 use Rattle.asl_cycle.specs.declared.rows.Line.{Line}
 use Rattle.asl_cycle.specs.declared.rows.Line.TheVariants as line
 use Rattle.asl_cycle.specs.Steps.{pops, fall_lines, falls_lines, sends_line, lines_of}

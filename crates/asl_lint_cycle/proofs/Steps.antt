@@ -22,11 +22,11 @@ use Rattle.asl_intend.specs.declared.agenda.Event.{Event}
 use Rattle.asl_intend.specs.Means.{applied_means}
 use Rattle.asl_intend.specs.Stacks.{without_head}
 use Rattle.asl_fail.specs.Fails.{fails}
-use Rattle.asl_exec.specs.declared.rows.Row.{Row}
-use Rattle.asl_exec.specs.declared.rows.Row.TheVariants as row
-use Rattle.asl_exec.specs.declared.went.Went.{Went}
-use Rattle.asl_exec.specs.declared.went.Went.TheVariants as went
-use Rattle.asl_exec.specs.Parts.{Around, Parts, Made}
+use Rattle.asl_state.specs.declared.rows.Row.{Row}
+use Rattle.asl_state.specs.declared.rows.Row.TheVariants as row
+use Rattle.asl_state.specs.declared.went.Went.{Went}
+use Rattle.asl_state.specs.declared.went.Went.TheVariants as went
+use Rattle.asl_state.specs.Parts.{Around, Parts, Made, running}
 use Rattle.asl_exec.specs.Clear.{clear}
 use Rattle.asl_choose.specs.declared.chosen.Chosen.{Chosen}
 use Rattle.asl_choose.specs.declared.chosen.Chosen.TheVariants as chosen
@@ -37,7 +37,7 @@ use Rattle.asl_cycle.specs.declared.config.Related.{Related}
 use Rattle.asl_cycle.specs.declared.config.Intended.{Intended}
 use Rattle.asl_cycle.specs.declared.config.Applied.{Applied}
 use Rattle.asl_cycle.specs.declared.config.Applied.TheVariants as applied
-use Rattle.asl_cycle.specs.Steps.{by, Stepped, Onward, percept_row, percept, running, none_acting, fed, feed_on, feed, sel_ev_on, sel_ev, irrelevant, virtual, error_of, no_plan, dropped_or_fails, rel_pl_on, rel_pl, appl_pl_on, appl_pl, sel_appl, add_im_row, add_im, sel_int_on, sel_int, row_of, of_made, clear_step}
+use Rattle.asl_cycle.specs.Steps.{by, Stepped, Onward, percept_row, percept, none_acting, fed, feed_on, feed, sel_ev_on, sel_ev, irrelevant, virtual, error_of, no_plan, dropped_or_fails, rel_pl_on, rel_pl, appl_pl_on, appl_pl, sel_appl, add_im_row, add_im, sel_int_on, sel_int, row_of, of_made, clear_step}
 use Rattle.asl_lint_laws.specs.Served.{IsSome}
 use Rattle.asl_lint_agenda.specs.Agendas.{MeansServed, StackServed, TakenServed, EventServed}
 use Rattle.asl_lint_agenda.proofs.Bound.{older_put}

@@ -3,13 +3,13 @@ use Rattle.std.specs.Prelude.{◌≡◌, ◌-◌, ℕ, Bool, false, List, slice_
 use Rattle.std.specs.List.{AllByRecursion}
 use Rattle.asl_term.specs.declared.syntax.AgentText.{AgentText}
 use Rattle.asl_plans.specs.declared.entry.Entry.{Entry}
-use Rattle.asl_exec.specs.Parts.{Around, Parts}
+use Rattle.asl_state.specs.Parts.{Around, Parts}
 use Rattle.mas_mind.specs.declared.mind.Feedback.{Feedback}
 use Rattle.mas_mind.specs.declared.mind.Input.{Input}
 use Rattle.mas_mind.specs.declared.mind.Thought.{Thought}
 use Rattle.mas_mind.specs.declared.mind.Thought.TheVariants as thought
 use Rattle.std.specs.Prelude.{Option}
-use Rattle.asl_kqml.specs.declared.peers.Peers.{Peers}
+use Rattle.asl_state.specs.declared.peers.Peers.{Peers}
 use Rattle.asl_cycle.specs.declared.rows.Line.{Line}
 use Rattle.asl_cycle.specs.declared.rows.Line.TheVariants as line
 use Rattle.asl_cycle.specs.Cycle.{Ran, cycle}

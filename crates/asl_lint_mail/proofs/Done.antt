@@ -19,11 +19,11 @@ use Rattle.asl_intend.specs.declared.entry.Means.{Means}
 use Rattle.asl_intend.specs.declared.agenda.Agenda.{Agenda}
 use Rattle.asl_intend.specs.Agendas.{without_intentions, without_desires}
 use Rattle.asl_intend.specs.Stacks.{bound, has_goal, without_head}
-use Rattle.asl_exec.specs.declared.rows.Fall.{Fall}
-use Rattle.asl_exec.specs.Parts.{Around, Parts}
+use Rattle.asl_state.specs.declared.rows.Fall.{Fall}
+use Rattle.asl_state.specs.Parts.{Around, Parts}
 use Rattle.mas_mind.specs.declared.mind.Message.{Message}
-use Rattle.asl_kqml.specs.declared.peers.Peers.{Peers}
-use Rattle.asl_kqml.specs.Contents.{literal_of}
+use Rattle.asl_state.specs.declared.peers.Peers.{Peers}
+use Rattle.asl_state.specs.Contents.{literal_of}
 use Rattle.asl_goals.specs.declared.acted.Why.{Why}
 use Rattle.asl_goals.specs.declared.acted.Why.TheVariants as why
 use Rattle.asl_goals.specs.declared.letter.Letter.{Letter}

@@ -29,8 +29,8 @@ use Rattle.mas_mind.specs.declared.mind.Message.{Message}
 use Rattle.mas_mind.specs.declared.mind.Verb.{Verb}
 use Rattle.mas_mind.specs.declared.mind.Verb.TheVariants as verb
 use Rattle.mas_mind.specs.Minds.{verb_text}
-use Rattle.asl_kqml.specs.Contents.{literal_of, is_atom}
-use Rattle.asl_kqml.specs.declared.peers.Peers.{Peers}
+use Rattle.asl_state.specs.Contents.{literal_of, is_atom}
+use Rattle.asl_state.specs.declared.peers.Peers.{Peers}
 use Rattle.asl_lint.specs.Items as lint
 use Rattle.asl_lint.specs.Goals.{one_of, sent_in, sent_to, achieved_by}
 use Rattle.asl_lint.specs.Goals as goals

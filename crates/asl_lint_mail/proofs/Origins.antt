@@ -24,7 +24,7 @@ use Rattle.asl_unify.specs.Settling.{Settled, and_then, each, operation, settle,
 use Rattle.asl_unify.specs.Unifiers.{items_before, is_tidy, is_tidy_step}
 use Rattle.asl_unify.proofs.General.{and_true, put-lit, put-op}
 use Rattle.asl_unify.proofs.Puts.{put-nil, put-list}
-use Rattle.asl_kqml.specs.Contents.{literal_layer, literal_of, is_atom}
+use Rattle.asl_state.specs.Contents.{literal_layer, literal_of, is_atom}
 use Rattle.asl_lint.specs.Items as lint
 use Rattle.asl_goals.specs.Sending.{plain_arg, term_at}
 use Rattle.asl_lint_laws.proofs.Fresh.{flat_is_tidy}

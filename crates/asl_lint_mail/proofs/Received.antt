@@ -38,14 +38,15 @@ use Rattle.asl_intend.specs.declared.agenda.Ask.{Ask}
 use Rattle.asl_intend.specs.declared.agenda.Error.TheVariants as error
 use Rattle.asl_intend.specs.Agendas.{external_event, ask_of, without_ask}
 use Rattle.asl_intend.specs.Stacks.{bound, without_head}
-use Rattle.asl_exec.specs.declared.rows.Row.{Row}
-use Rattle.asl_exec.specs.declared.rows.Row.TheVariants as row
-use Rattle.asl_exec.specs.Parts.{Around, Parts, with_agenda, with_number}
+use Rattle.asl_state.specs.declared.rows.Row.{Row}
+use Rattle.asl_state.specs.declared.rows.Row.TheVariants as row
+use Rattle.asl_state.specs.Parts.{Around, Parts, with_agenda, with_number}
 use Rattle.mas_mind.specs.declared.mind.Message.{Message}
 use Rattle.mas_mind.specs.declared.mind.Verb.{Verb}
 use Rattle.mas_mind.specs.declared.mind.Verb.TheVariants as verb
-use Rattle.asl_kqml.specs.declared.peers.Peers.{Peers}
-use Rattle.asl_kqml.specs.Contents.{agent_name, literal_layer, literal_of, literals_of, ground_literals, is_nothing, which_of}
+use Rattle.asl_state.specs.declared.peers.Peers.{Peers}
+use Rattle.asl_state.specs.Contents.{agent_name, literal_layer, literal_of, literals_of, ground_literals}
+use Rattle.asl_kqml.specs.Contents.{is_nothing, which_of}
 use Rattle.asl_kqml.specs.Receive as receive
 use Rattle.asl_kqml.specs.Receive.{Received}
 use Rattle.asl_kqml.proofs.Grounds.{content_closed, all_sourced_ground}

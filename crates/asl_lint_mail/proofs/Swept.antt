@@ -17,8 +17,8 @@ use Rattle.asl_intend.specs.declared.agenda.Error.TheVariants as error
 use Rattle.asl_intend.specs.declared.agenda.Event.{Event}
 use Rattle.asl_intend.specs.Entries.{is_achieve}
 use Rattle.asl_intend.specs.Stacks.{names_goal, goal_match}
-use Rattle.asl_exec.specs.declared.rows.Row.TheVariants as row
-use Rattle.asl_exec.specs.Parts.{Around, Parts}
+use Rattle.asl_state.specs.declared.rows.Row.TheVariants as row
+use Rattle.asl_state.specs.Parts.{Around, Parts}
 use Rattle.asl_goals.specs.declared.sweep.Way.{Way}
 use Rattle.asl_goals.specs.declared.sweep.Way.TheVariants as way
 use Rattle.asl_goals.specs.Goals.{or_else, first_of, stack_match, event_match, first_goal, from_lowest, treated, Swept, sweep, with_running, with_events, with_asks, what_is_left, in_place, taken_out, sweep_running, sweep_events, sweep_asks, running_swept, events_swept, asks_swept, all_swept}

@@ -7,8 +7,8 @@ use Rattle.asl_term.specs.declared.syntax.Expr.{Expr}
 use Rattle.asl_plans.specs.declared.entry.Entry.{Entry}
 use Rattle.asl_plans.specs.Libraries.{opened}
 use Rattle.asl_intend.specs.declared.entry.Means.{Means}
-use Rattle.asl_exec.specs.Parts.{Around, Parts}
-use Rattle.asl_kqml.specs.declared.peers.Peers.{Peers}
+use Rattle.asl_state.specs.Parts.{Around, Parts}
+use Rattle.asl_state.specs.declared.peers.Peers.{Peers}
 use Rattle.asl_goals.specs.declared.acted.Acted.{Acted}
 use Rattle.asl_goals.specs.declared.acted.Acted.TheVariants as acted
 use Rattle.asl_goals.specs.Inside.{Did, act_inside}

@@ -4,9 +4,9 @@ use Rattle.asl_term.specs.declared.syntax.AgentText.{AgentText}
 use Rattle.asl_term.specs.declared.syntax.Plan.{Plan}
 use Rattle.asl_plans.specs.declared.entry.Entry.{Entry}
 use Rattle.asl_plans.specs.Libraries.{opened}
-use Rattle.asl_exec.specs.Parts.{Around, Parts}
+use Rattle.asl_state.specs.Parts.{Around, Parts}
 use Rattle.mas_mind.specs.declared.mind.Message.{Message}
-use Rattle.asl_kqml.specs.declared.peers.Peers.{Peers}
+use Rattle.asl_state.specs.declared.peers.Peers.{Peers}
 use Rattle.asl_kqml.specs.Receive.{receive, learned}
 use Rattle.asl_lint_rows.specs.Served.{AroundServed, PartsServed}
 use Rattle.asl_lint_mail.specs.Messages.{AreOwn, MessageServed, ReceivedServed}

@@ -12,7 +12,7 @@ use Rattle.mas_mind.specs.declared.mind.Verb.{Verb}
 use Rattle.mas_mind.specs.declared.mind.Verb.TheVariants as verb
 use Rattle.asl_kqml.specs.declared.took.Took.{Took}
 use Rattle.asl_kqml.specs.declared.took.Took.TheVariants as took
-use Rattle.asl_kqml.specs.Contents.{literal_of}
+use Rattle.asl_state.specs.Contents.{literal_of}
 use Rattle.asl_kqml.specs.Receive.{Received}
 use Rattle.asl_lint_laws.specs.Served.{IsServed}
 use Rattle.asl_lint_agenda.specs.Agendas.{IsMerged}

@@ -37,7 +37,7 @@ use Rattle.asl_plans.specs.declared.entry.Entry.{Entry}
 use Rattle.asl_plans.specs.declared.library.Choice.{Choice}
 use Rattle.asl_plans.specs.Plans.{alike, kept, relevant_from, relevant}
 use Rattle.asl_intend.specs.Means.{applied_means}
-use Rattle.asl_exec.specs.Parts.{Around, Parts}
+use Rattle.asl_state.specs.Parts.{Around, Parts}
 use Rattle.asl_choose.specs.declared.chosen.Chosen.{Chosen}
 use Rattle.asl_choose.specs.Choosing.{renamed_means, sought, choose_by, choose_at, choose}
 use Rattle.asl_lint.specs.Instances.{AreMerged}

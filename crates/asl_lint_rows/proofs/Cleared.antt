@@ -15,10 +15,11 @@ use Rattle.asl_plans.specs.declared.entry.Entry.{Entry}
 use Rattle.asl_intend.specs.declared.entry.Means.{Means}
 use Rattle.asl_intend.specs.declared.agenda.Error.TheVariants as error
 use Rattle.asl_intend.specs.Stacks.{head, has_head, is_bounded, is_bounded_trigger}
-use Rattle.asl_exec.specs.declared.rows.Row.TheVariants as row
-use Rattle.asl_exec.specs.declared.went.Went.TheVariants as went
-use Rattle.asl_exec.specs.Parts.{Around, Parts, Made, made, failed}
-use Rattle.asl_exec.specs.Clear.{unifier, answer, bound_by, waits, done_below, popped, emptied_top, emptied, clear}
+use Rattle.asl_state.specs.declared.rows.Row.TheVariants as row
+use Rattle.asl_state.specs.declared.went.Went.TheVariants as went
+use Rattle.asl_state.specs.Parts.{Around, Parts, Made, made, failed}
+use Rattle.asl_state.specs.Emptied.{unifier, answer, bound_by, done_below, popped, emptied_top, emptied}
+use Rattle.asl_exec.specs.Clear.{waits, clear}
 use Rattle.asl_lint_agenda.specs.Agendas.{FormulaServed, MeansServed, StackServed}
 use Rattle.asl_lint_agenda.proofs.Bound.{stack_bound}
 use Rattle.asl_lint_rows.specs.Served.{AroundServed, PartsServed, MadeServed}

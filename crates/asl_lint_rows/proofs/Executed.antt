@@ -28,12 +28,13 @@ use Rattle.asl_resolve.specs.declared.answers.Answer.TheVariants as answer
 use Rattle.asl_intend.specs.declared.entry.Means.{Means}
 use Rattle.asl_intend.specs.declared.agenda.Error.TheVariants as error
 use Rattle.asl_intend.specs.Stacks.{bound, head, with_head, without_head}
-use Rattle.asl_exec.specs.declared.rows.Row.{Row}
-use Rattle.asl_exec.specs.declared.rows.Row.TheVariants as row
-use Rattle.asl_exec.specs.declared.went.Went.TheVariants as went
+use Rattle.asl_state.specs.declared.rows.Row.{Row}
+use Rattle.asl_state.specs.declared.rows.Row.TheVariants as row
+use Rattle.asl_state.specs.declared.went.Went.TheVariants as went
 use Rattle.asl_exec.specs.Said.{print_text}
-use Rattle.asl_exec.specs.Parts.{Around, Parts, Made, made, goal_event, failed}
-use Rattle.asl_exec.specs.Exec.{act, waiting, achieve, spawn, test, tested, sought, solved, waits, changed, add, replace, bound_by, delete, related, relation, is_deed, answered, searched, inner, of_formula, of_settled, of_head, exec}
+use Rattle.asl_state.specs.Parts.{Around, Parts, Made, made, goal_event, failed}
+use Rattle.asl_state.specs.Sought.{sought}
+use Rattle.asl_exec.specs.Exec.{act, waiting, achieve, spawn, test, tested, solved, waits, changed, add, replace, bound_by, delete, related, relation, is_deed, answered, searched, inner, of_formula, of_settled, of_head, exec}
 use Rattle.asl_lint_laws.specs.Served.{IsServed}
 use Rattle.asl_lint_agenda.specs.Agendas.{IsOlder, FormulaServed, StackServed}
 use Rattle.asl_lint_agenda.proofs.Bound.{stack_bound}

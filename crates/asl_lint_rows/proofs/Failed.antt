@@ -14,8 +14,8 @@ use Rattle.asl_intend.specs.declared.agenda.Event.{Event}
 use Rattle.asl_intend.specs.Agendas.{external, external_event}
 use Rattle.asl_intend.specs.Stacks.{replaced, with_head, without_head}
 use Rattle.asl_beliefs.specs.Changes.{Changed}
-use Rattle.asl_exec.specs.declared.rows.Row.{Row}
-use Rattle.asl_exec.specs.Parts.{Around, Parts, Made, with_number, post, told, believing, failed}
+use Rattle.asl_state.specs.declared.rows.Row.{Row}
+use Rattle.asl_state.specs.Parts.{Around, Parts, Made, with_number, post, told, believing, failed}
 use Rattle.asl_lint_laws.specs.Served.{AreSource}
 use Rattle.asl_lint_agenda.specs.Agendas.{FormulaServed, StackServed, TakenServed, EventServed, AgendaServed}
 use Rattle.asl_lint_agenda.proofs.Failing.{all_last, fails_served, posted_served}

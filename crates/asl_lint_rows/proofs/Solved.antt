@@ -29,8 +29,8 @@ use Rattle.asl_fresh.specs.Fresh.{late, terms_count, TermsBelow, LiteralBelow, E
 use Rattle.asl_fresh.proofs.Matching.{unified_keeps, matches_below}
 use Rattle.asl_fresh.proofs.Solutions.{solutions_below}
 use Rattle.asl_plans.specs.declared.entry.Entry.{Entry}
-use Rattle.asl_exec.specs.Parts.{Around, Parts}
-use Rattle.asl_exec.specs.Exec.{sought}
+use Rattle.asl_state.specs.Parts.{Around, Parts}
+use Rattle.asl_state.specs.Sought.{sought}
 use Rattle.asl_lint_agenda.specs.Read.{AreGround}
 use Rattle.asl_lint_rows.specs.Served.{AroundServed, PartsServed}
 use Rattle.asl_lint_rows.proofs.Beliefs.{all_append}

@@ -10,7 +10,7 @@ use Rattle.asl_plans.specs.declared.entry.Entry.{Entry}
 use Rattle.asl_plans.specs.Plans.{relevant}
 use Rattle.asl_intend.specs.declared.entry.Means.{Means}
 use Rattle.asl_intend.specs.Means.{applied_means}
-use Rattle.asl_exec.specs.Parts.{Around, Parts, goal_event}
+use Rattle.asl_state.specs.Parts.{Around, Parts, goal_event}
 use Rattle.asl_exec.specs.Exec.{exec}
 use Rattle.asl_exec.specs.Clear.{clear}
 use Rattle.asl_choose.specs.declared.chosen.Chosen.{Chosen}

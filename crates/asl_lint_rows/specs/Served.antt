@@ -10,11 +10,11 @@ use Rattle.asl_unify.specs.Facts.{Rule}
 use Rattle.asl_unify.specs.Settling.{settle_call}
 use Rattle.asl_fresh.specs.Fresh.{ExprBelow, FactBelow, SolvesBelow}
 use Rattle.asl_plans.specs.declared.entry.Entry.{Entry}
-use Rattle.asl_exec.specs.declared.rows.Row.{Row}
-use Rattle.asl_exec.specs.declared.rows.Row.TheVariants as row
-use Rattle.asl_exec.specs.declared.went.Went.{Went}
-use Rattle.asl_exec.specs.declared.went.Went.TheVariants as went
-use Rattle.asl_exec.specs.Parts.{Around, Parts, Made}
+use Rattle.asl_state.specs.declared.rows.Row.{Row}
+use Rattle.asl_state.specs.declared.rows.Row.TheVariants as row
+use Rattle.asl_state.specs.declared.went.Went.{Went}
+use Rattle.asl_state.specs.declared.went.Went.TheVariants as went
+use Rattle.asl_state.specs.Parts.{Around, Parts, Made}
 use Rattle.asl_lint_laws.specs.Served.{HasWritten}
 use Rattle.asl_lint_agenda.specs.Linted.{IsLinted}
 use Rattle.asl_lint_agenda.specs.Read.{AreGround}

@@ -14,7 +14,7 @@ use Rattle.mas_reading.specs.Files.{agents, worlds, projects}
 use Rattle.mas_reading.specs.Known.{known}
 use Rattle.mas_reading.specs.Sources.{PartRefused}
 use Rattle.mas_reading.specs.Statuses.{whole}
-use Rattle.mas_reading.proofs.Refusing.{refuses, no_report}
+use Rattle.mas_reading.proofs.Refusing.{refuses, agents_tell, worlds_tell, projects_tell, no_report}
 use Rattle.mas_opening.specs.Opening.{Setup}
 use Rattle.mas_both.specs.Artifacts.{left_by}
 use Rattle.mas_both.specs.Pairs.{Wish, HasPair, FailsTest, many_agents, many_cycles, taken_name}
@@ -25,8 +25,8 @@ use Rattle.mas_both.specs.Caused.{Sites, wish_of, ForPair, SitesCaused, ReportsS
 
 part_refuses : (names : List (List ℕ)) (held : Option (List Filed)) (before after : ℕ) (status : Status) (p : ProjectText) →
     PartRefused names p held before after status → refuses status ≡ true
-part_refuses names held before after status p (inl w) = no_report (worlds names) w.name held before after status w.why
-part_refuses names held before after status p (inr l) = no_report agents l.why.line.file held before after status l.why.why
+part_refuses names held before after status p (inl w) = no_report (worlds names) (worlds_tell names) w.name held before after status w.why
+part_refuses names held before after status p (inr l) = no_report agents agents_tell l.why.line.file held before after status l.why.why
 
 test_refuses : (second : List ℕ) (cycles : ℕ) (one two : List (List ℕ)) (status : Status) → FailsTest second cycles one two status → refuses status ≡ true
 test_refuses second cycles one two status (many_agents l) = refl
@@ -35,8 +35,8 @@ test_refuses second cycles one two status (taken_name f s t) = refl
 
 pair_refuses : (objects : List Used) (held : Option (List Filed)) (w : Wish) (before after : ℕ) (status : Status) → PairRefused objects held w before after status →
     refuses status ≡ true
-pair_refuses objects held w before after status (projects_refused (inl r)) = no_report projects w.first held before after status r.why
-pair_refuses objects held w before after status (projects_refused (inr r)) = no_report projects w.second held before after status r.why.why
+pair_refuses objects held w before after status (projects_refused (inl r)) = no_report projects projects_tell w.first held before after status r.why
+pair_refuses objects held w before after status (projects_refused (inr r)) = no_report projects projects_tell w.second held before after status r.why.why
 pair_refuses objects held w before after status (together_refused r) =
     test_refuses w.second w.cycles (names_of r.first.agents) (names_of r.second.agents) status r.fails
 pair_refuses objects held w before after status (parts_refused p q a (inl r)) = part_refuses (known objects) held before after status p r

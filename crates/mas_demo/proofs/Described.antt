@@ -2,12 +2,14 @@
 use Rattle.std.proofs.Common.{◌≡◌, ◌≤◌, ℕ, zero, suc, ◌+◌, inl, true, false, List, [], ◌∷◌, map, Some, refl, ap, sym, arith}
 use Rattle.std.specs.Prelude.{codes}
 use Rattle.std.specs.List.{range_with_len}
+use Rattle.env_file.specs.declared.fault.WorldFault.TheVariants as fault
 use Rattle.env_file.specs.Worlds.{has_name}
 use Rattle.mas_project.specs.declared.syntax.AgentLine.{AgentLine}
 use Rattle.mas_project.specs.declared.syntax.ProjectText.{ProjectText}
 use Rattle.mas_reading.specs.declared.sources.Role.{Role}
 use Rattle.mas_reading.specs.declared.sources.Source.{Source}
 use Rattle.mas_io.specs.Causes.{Rose}
+use Rattle.mas_reading.specs.Files.{faulty}
 use Rattle.mas_reading.specs.Projects.{line_in}
 use Rattle.mas_reading.proofs.Single.{not_refused}
 use Rattle.mas_reading.specs.Sources.{HasProject, HasRole, HasRoles, IsAsked, Describe, part_refused}
@@ -92,5 +94,9 @@ demo_refused known k before after n l h =
     (inl (record {
       name = codes "demo.env";
       named_is = refl;
-      why = record { same = refl; has = record { bytes = world_source; has = world_held k; are = is_unknown known n } };
+      why = faulty (record {
+        why = fault.UnknownArtifact 1 (codes "tally");
+        is = record { bytes = world_source; has = world_held k; are = is_unknown known n };
+        status_is = refl;
+      });
     }))

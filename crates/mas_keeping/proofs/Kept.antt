@@ -1,5 +1,5 @@
 -- What a run that is kept comes to, by its status.
-use Rattle.std.proofs.Common.{◌≡◌, ℕ, inl, List, [], Option, None, Some, Result, Ok, Err, IfOk, IfErr, sym, subst, refl}
+use Rattle.std.proofs.Common.{◌≡◌, ℕ, inl, List, [], Option, None, Some, Result, Ok, Err, IfOk, IfErr}
 use Rattle.std.specs.Prelude.{MatchResult}
 use Rattle.mas_disk.specs.Disk.{Image, DiskState}
 use Rattle.mas_mind.specs.Minds.{Kind}
@@ -8,6 +8,7 @@ use Rattle.mas_report.specs.declared.options.Options.{Options}
 use Rattle.mas_report.specs.Report.{latest, IsReport}
 use Rattle.mas_schedule.specs.Schedule.{printed}
 use Rattle.mas_reading.specs.declared.status.Status.{Status}
+use Rattle.mas_reading.specs.declared.status.Status.TheVariants.{Memory}
 use Rattle.mas_recorded.specs.declared.fault.RecordFault.{RecordFault}
 use Rattle.mas_recorded.specs.declared.fault.RecordFault.TheVariants as fault
 use Rattle.mas_recorded.specs.Records.{IsKeptOn, RecordCause, ResumeCause}
@@ -19,23 +20,15 @@ use Rattle.mas_keeping.specs.Disks.{state_of}
 use Rattle.mas_keeping.specs.Keeping.{IsKept, KeepCause, KeepRefused, fault_status, IsUntouched}
 
 module _ {V : Type 0} (k : Kind V) (p : Platform V) (name : List ℕ) (old new : DiskState) where
-  refuses : (keeping : Keeping) (f : RecordFault) → KeepCause k p keeping name old new f → KeepRefused k p keeping name old new (fault_status name f)
-  refuses keeping fault.Memory h = tt
-  refuses Anew fault.Disk h = h
-  refuses On fault.Disk h = h
-  refuses Anew fault.Missing h = absurd h
-  refuses On fault.Missing h = record { same = refl; missing = h }
-  refuses Anew fault.NoHeader h = absurd h
-  refuses On fault.NoHeader h = record { same = refl; cause = (refl, h) }
-  refuses Anew fault.TooLong h = absurd h
-  refuses On fault.TooLong h = (refl, h)
-  refuses Anew (fault.Illegal place) h = absurd h
-  refuses On (fault.Illegal place) h = record { same = refl; cause = h }
+  -- where memory lacked
+  pub starved : (keeping : Keeping) (status : Status) → status ≡ Memory → KeepRefused k p keeping name old new status
+  starved Anew status e = record { why = fault.Memory; is = tt; status_is = e }
+  starved On status e = record { why = fault.Memory; is = tt; status_is = e }
 
   -- the status of a fault that has its cause
   pub refused_by : (keeping : Keeping) (f : RecordFault) (status : Status) → KeepCause k p keeping name old new f → status ≡ fault_status name f →
       KeepRefused k p keeping name old new status
-  refused_by keeping f status h e = subst (KeepRefused k p keeping name old new) (sym e) (refuses keeping f h)
+  refused_by keeping f status h e = record { why = f; is = h; status_is = e }
 
 -- ---- what is kept
 

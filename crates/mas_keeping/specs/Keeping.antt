@@ -1,7 +1,6 @@
 -- What a run that is kept comes to, and the cause of each refusal.
 use Rattle.std.specs.Prelude.{ℕ, ◌≡◌, ◌≤◌, Bool, true, List, length}
 use Rattle.mas_lists.specs.Lists.{StartsWith}
-use Rattle.mas_io.specs.Causes.{Rose}
 use Rattle.mas_disk.specs.Disk.{Image, bytes_of, DiskState}
 use Rattle.mas_journal.specs.Journals.{Recovers}
 use Rattle.mas_journal.specs.Kept.{most_bytes}
@@ -10,15 +9,14 @@ use Rattle.mas_core.specs.Platform.{Platform}
 use Rattle.mas_report.specs.declared.options.Options.{Options}
 use Rattle.mas_report.specs.Report.{latest, IsReport}
 use Rattle.mas_schedule.specs.Schedule.{printed}
-use Rattle.mas_reading.specs.declared.status.Reason.{Reason}
 use Rattle.mas_reading.specs.declared.status.Reason.TheVariants as reason
-use Rattle.mas_reading.specs.declared.status.What.{What}
 use Rattle.mas_reading.specs.declared.status.What.TheVariants as what
 use Rattle.mas_reading.specs.declared.status.Status.{Status}
-use Rattle.mas_reading.specs.declared.status.Status.TheVariants.{Ok, No, Usage, Missing, ReadFault, WriteFault, Refused, Limit, Budget, Memory, DiskFault}
+use Rattle.mas_reading.specs.declared.status.Status.TheVariants.{Missing, Refused, Limit, Memory, DiskFault}
+use Rattle.mas_reading.specs.Files.{HasFault}
 use Rattle.mas_recorded.specs.declared.fault.RecordFault.{RecordFault}
 use Rattle.mas_recorded.specs.declared.fault.RecordFault.TheVariants as fault
-use Rattle.mas_recorded.specs.Records.{Tells, IsMissing, HasNoHeader, IsTooLong, IsIllegal, RecordCause, ResumeCause, IsCrashSafe}
+use Rattle.mas_recorded.specs.Records.{Tells, RecordCause, ResumeCause, IsCrashSafe}
 use Rattle.mas_keeping.specs.declared.keep.Keeping.{Keeping}
 use Rattle.mas_keeping.specs.declared.keep.Keeping.TheVariants.{Anew, On}
 
@@ -62,50 +60,9 @@ fault_status name fault.NoHeader = Refused name 1 reason.Line
 fault_status name fault.TooLong = Limit what.File most_bytes
 fault_status name (fault.Illegal place) = Refused name place reason.Illegal
 
--- there is no file of this name, which is the one that is told
-pub record LacksFile (name lacked : List ℕ) (old new : DiskState) : Type 0 where
-  pub same : lacked ≡ name
-  pub missing : IsMissing name old new
-
--- its bytes are those of no journal, or this turn of it has no place in the run from p
-abbrev pub IsFaulty : {V : Type 0} → Kind V → Platform V → List ℕ → DiskState → DiskState → ℕ → Reason → Type 0
-IsFaulty k p name old new place reason.Line = (place ≡ 1) × HasNoHeader name old new
-IsFaulty k p name old new place reason.Illegal = IsIllegal k p name old place
-IsFaulty k p name old new place other = ⊥
-
-pub record IsFaultyFile {V : Type 0} (k : Kind V) (p : Platform V) (name file : List ℕ) (old new : DiskState) (place : ℕ) (why : Reason) : Type 0 where
-  pub same : file ≡ name
-  pub cause : IsFaulty k p name old new place why
-
--- it has too many bytes
-abbrev pub IsPast : List ℕ → DiskState → DiskState → What → ℕ → Type 0
-IsPast name old new what.File count = (count ≡ most_bytes) × IsTooLong name old new
-IsPast name old new other count = ⊥
-
--- why the file of this name is not gone on from, by the status
-abbrev pub FileRefused : {V : Type 0} → Kind V → Platform V → List ℕ → DiskState → DiskState → Status → Type 0
-FileRefused k p name old new Ok = ⊥
-FileRefused k p name old new No = ⊥
-FileRefused k p name old new Usage = ⊥
-FileRefused k p name old new (Missing lacked) = LacksFile name lacked old new
-FileRefused k p name old new ReadFault = ⊥
-FileRefused k p name old new WriteFault = ⊥
-FileRefused k p name old new (Refused file place why) = IsFaultyFile k p name file old new place why
-FileRefused k p name old new (Limit quantity count) = IsPast name old new quantity count
-FileRefused k p name old new Budget = ⊥
-FileRefused k p name old new Memory = ⊥
-FileRefused k p name old new DiskFault = ⊥
-
--- a run that begins refuses no file
-abbrev pub FileRefusedBy : {V : Type 0} → Kind V → Platform V → Keeping → List ℕ → DiskState → DiskState → Status → Type 0
-FileRefusedBy k p Anew name old new status = ⊥
-FileRefusedBy k p On name old new status = FileRefused k p name old new status
-
--- want of memory, which alone is free, a fault of the disk, or such a file
+-- why the run is not kept, by the status; want of memory alone is free
 abbrev pub KeepRefused : {V : Type 0} → Kind V → Platform V → Keeping → List ℕ → DiskState → DiskState → Status → Type 0
-KeepRefused k p keeping name old new Memory = Unit {0}
-KeepRefused k p keeping name old new DiskFault = Rose old.faults new.faults
-KeepRefused k p keeping name old new status = FileRefusedBy k p keeping name old new status
+KeepRefused k p keeping name old new status = HasFault (KeepCause k p keeping name old new) (fault_status name) status
 
 -- ---- crashes
 

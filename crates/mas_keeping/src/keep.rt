@@ -88,7 +88,7 @@ fn keep<R: Threads + Wait + Sync, M: Mind + Send, A: Artifact + Send, D: Disk + 
 }
 
 /// The report of the run by so many workers, which the file of this name keeps, or why there is none. The disk is given back.
-#[tactic(auto, using(crate::proofs::Kept::refused_by))]
+#[tactic(auto, using(crate::proofs::Kept::refused_by, crate::proofs::Kept::starved))]
 pub fn keep_run<R: Threads + Wait + Sync, M: Mind + Send, A: Artifact + Send, D: Disk + Send>(
     rt: &R,
     alloc: Global,

@@ -22,7 +22,7 @@ use Rattle.mas_lint.specs.Linting.{is_yes, verdict_text, usual_cycles, IsLinted,
 lint_refuses : (known : List (List ℕ)) (word : List ℕ) (held : Option (List Filed)) (before after : ℕ) (status : Status) →
     FirstRefused known usual_cycles held word before after status → refuses status ≡ true
 lint_refuses known word held before after status r =
-    first_by (λ s. refuses s ≡ true) known usual_cycles held word before after status (λ r name s. no_report r name held before after s) (λ count. refl) r
+    first_by (λ s. refuses s ≡ true) known usual_cycles held word before after status (λ r t name s. no_report r t name held before after s) (λ count. refl) r
 
 refused_by : (known : List (List ℕ)) (word : List ℕ) (before after : Told) (status : Status) → refuses status ≡ true →
     FirstRefused known usual_cycles before.held word before.shelf_faults after.shelf_faults status → IsUnwritten before after → LintCaused known word before after status

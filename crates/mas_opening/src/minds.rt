@@ -9,8 +9,8 @@ ghost use Rattle.mas_reading.specs.Sources.{texts_of};
 ghost use Rattle.mas_opening.specs.Opening as spec;
 
 use asl_cycle::agent::{Agent, open_agent};
-use asl_kqml::shared::SharedNames;
 use asl_resolve::answers::Budgets;
+use asl_state::shared::SharedNames;
 use asl_term::names::Names;
 use asl_term::sequence::{Seq, Starved};
 use asl_term::syntax::AgentText;

@@ -1,25 +1,23 @@
 -- Files describe one source, and are then not refused.
-use Rattle.std.proofs.Common.{ℕ, ◌≡◌, ◌≤◌, ◌<◌, inl, inr, Bool, true, false, List, [], ◌∷◌, ◌++◌, Option, None, Some, refl, ap, sym, ◌∙◌, subst, arith}
+use Rattle.std.proofs.Common.{ℕ, ◌≡◌, ◌≤◌, ◌<◌, ◌⊎◌, inl, inr, Bool, true, false, List, [], ◌∷◌, ◌++◌, Option, None, Some, refl, ap, sym, ◌∙◌, subst, arith}
 use Rattle.std.specs.Prelude.{Result, Ok as Yes, Err as No}
 use Rattle.asl_term.specs.declared.syntax.Filed.{Filed}
 use Rattle.asl_term.specs.declared.syntax.AgentText.{AgentText}
-use Rattle.asl_lexer.specs.declared.token.LexFault.{LexFault}
-use Rattle.asl_lexer.specs.declared.token.LexFault.TheVariants as lex
-use Rattle.asl_lexer.specs.Lexing.{IsFirstFault}
 use Rattle.asl_reading.specs.declared.fault.TextFault.{TextFault}
 use Rattle.asl_reading.specs.declared.fault.TextFault.TheVariants as fault
 use Rattle.asl_grammar.specs.declared.sentence.Sentence.{Sentence}
-use Rattle.asl_grammar.specs.Agents.{AreSentences, IsAgent}
+use Rattle.asl_grammar.specs.Agents.{IsAgent, IsAnswer}
 use Rattle.asl_grammar.proofs.Single.{one_answer, one_agent}
 use Rattle.mas_world.specs.declared.acts.WorldText.{WorldText}
 use Rattle.env_file.specs.declared.fault.WorldFault.{WorldFault}
 use Rattle.env_file.specs.declared.fault.WorldFault.TheVariants as world
+use Rattle.env_file.specs.Worlds as env
 use Rattle.env_file.specs.Worlds.{IsWorld}
 use Rattle.env_file.proofs.Single.{one_world}
 use Rattle.mas_project.specs.declared.syntax.AgentLine.{AgentLine}
 use Rattle.mas_project.specs.declared.syntax.ProjectText.{ProjectText}
-use Rattle.mas_project.specs.declared.fault.ProjectFault.TheVariants as project
 use Rattle.mas_project.specs.declared.fault.ProjectFault.{ProjectFault}
+use Rattle.mas_project.specs.declared.fault.ProjectFault.TheVariants as project
 use Rattle.mas_project.specs.Projects.{IsProject, IsRefused}
 use Rattle.mas_project.proofs.Answers.{one_answer as one_reply}
 use Rattle.mas_io.specs.Causes.{Rose}
@@ -28,12 +26,9 @@ use Rattle.mas_reading.specs.declared.sources.Role.{Role}
 use Rattle.mas_reading.specs.declared.sources.Source.{Source}
 use Rattle.mas_reading.specs.declared.status.Status.{Status}
 use Rattle.mas_reading.specs.declared.status.Status.TheVariants.{Ok, No, Usage, Missing, ReadFault, WriteFault, Refused, Limit, Budget, Memory, DiskFault}
-use Rattle.mas_reading.specs.declared.status.Reason.{Reason}
-use Rattle.mas_reading.specs.declared.status.Reason.TheVariants as reason
-use Rattle.mas_reading.specs.declared.status.What.{What}
-use Rattle.mas_reading.specs.declared.status.What.TheVariants as what
+use Rattle.mas_reading.specs.Faults.{text_status, world_status, project_status}
 use Rattle.mas_reading.specs.Projects.{folder, project_in, is_agent_file, all_cycles, most_cycles}
-use Rattle.mas_reading.specs.Files.{HasFile, Reader, agents, worlds, projects, IsRefusal, most_bytes}
+use Rattle.mas_reading.specs.Files.{HasFile, Reader, agents, worlds, projects, IsRefusal, unfetched, faulty, missing, too_long, failed, starved, most_bytes}
 use Rattle.mas_reading.specs.Sources.{
   ProjectBy,
   HasProject,
@@ -75,14 +70,14 @@ said p = Yes p
 projects_same : (p q : ProjectText) → said p ≡ said q → p ≡ q
 projects_same p q e = cc
 
-project_fault : (p : ProjectText) (f : ProjectFault) → Yes p ≡ No f → ⊥
-project_fault p f e = cc
+planned_fault : (p : ProjectText) (f : ProjectFault) → Yes p ≡ No f → ⊥
+planned_fault p f e = cc
 
 one_project : (bytes : List ℕ) (p q : ProjectText) → IsProject bytes p → IsProject bytes q → p ≡ q
 one_project bytes p q h g = projects_same p q (one_reply bytes (Yes p) (Yes q) h g)
 
 not_both : (bytes : List ℕ) (p : ProjectText) (f : ProjectFault) → IsProject bytes p → IsRefused bytes f → ⊥
-not_both bytes p f h g = project_fault p f (one_reply bytes (Yes p) (No f) h g)
+not_both bytes p f h g = planned_fault p f (one_reply bytes (Yes p) (No f) h g)
 
 -- ---- files of one name
 
@@ -161,107 +156,53 @@ answer_fault said fault e = cc
 text_fault : (text : WorldText) (fault : WorldFault) → Yes text ≡ No fault → ⊥
 text_fault text fault e = cc
 
--- bytes with this promise are refused by a reader at no place and for no limit
-pub record Accepted (r : Reader) (bytes : List ℕ) : Type 0 where
-  pub faulty : (place : ℕ) (why : Reason) → r.faulty bytes place why → ⊥
-  pub large : (quantity : What) (number : ℕ) → r.large bytes quantity number → ⊥
+-- where a reader has the fault, memory lacked, or the bytes answer it
+module _ (name bytes : List ℕ) where
+  pub agent_fault : (why : TextFault) → agents.faulty bytes why → (text_status name why ≡ Memory) ⊎ IsAnswer bytes (No why)
+  agent_fault fault.Memory h = inl refl
+  agent_fault (fault.Lex why) h = inr h
+  agent_fault (fault.Clause number line column) h = inr h
+  agent_fault (fault.Limit number) h = inr h
 
-not_lex : (bytes : List ℕ) (said : List Sentence) (why : LexFault) → AreSentences bytes said → IsFirstFault bytes why → ⊥
-not_lex bytes said why a r = answer_fault said (fault.Lex why) (one_answer bytes (Yes said) (No (fault.Lex why)) a r)
+  pub world_fault : (known : List (List ℕ)) (why : WorldFault) → (worlds known).faulty bytes why → (world_status name why ≡ Memory) ⊎ env.IsAnswer known bytes (No why)
+  world_fault known world.Memory h = inl refl
+  world_fault known (world.Lex why) h = inr h
+  world_fault known (world.Clause number line column) h = inr h
+  world_fault known (world.Limit number) h = inr h
+  world_fault known (world.Unbound number variable) h = inr h
+  world_fault known (world.UnknownArtifact number artifact) h = inr h
 
-agent_faulty : (bytes : List ℕ) (said : List Sentence) → AreSentences bytes said → (place : ℕ) (why : Reason) → agents.faulty bytes place why → ⊥
-agent_faulty bytes said a place reason.Byte r = not_lex bytes said (lex.BadByte place) a r
-agent_faulty bytes said a place reason.String r = not_lex bytes said (lex.OpenString place) a r
-agent_faulty bytes said a place reason.Comment r = not_lex bytes said (lex.OpenComment place) a r
-agent_faulty bytes said a place reason.Number r = not_lex bytes said (lex.NumberRange place) a r
-agent_faulty bytes said a place reason.Clause r =
-    answer_fault said (fault.Clause place r.line r.column) (one_answer bytes (Yes said) (No (fault.Clause place r.line r.column)) a r.refused)
-agent_faulty bytes said a place (reason.Name name) r = absurd r
-agent_faulty bytes said a place (reason.Option word) r = absurd r
-agent_faulty bytes said a place (reason.Unbound name) r = absurd r
-agent_faulty bytes said a place (reason.Artifact name) r = absurd r
-agent_faulty bytes said a place reason.Line r = absurd r
-agent_faulty bytes said a place reason.Illegal r = absurd r
-agent_faulty bytes said a place reason.Unended r = absurd r
+  pub project_fault : (why : ProjectFault) → projects.faulty bytes why → (project_status name why ≡ Memory) ⊎ IsRefused bytes why
+  project_fault project.Memory h = inl refl
+  project_fault (project.Lex why) h = inr h
+  project_fault (project.Clause number line column) h = inr h
+  project_fault (project.Option number word) h = inr h
+  project_fault (project.TooMany count) h = inr h
+  project_fault (project.TwoNames agent twice) h = inr h
 
-agent_large : (bytes : List ℕ) (said : List Sentence) → AreSentences bytes said → (quantity : What) (number : ℕ) → agents.large bytes quantity number → ⊥
-agent_large bytes said a what.File number r = absurd r
-agent_large bytes said a what.Clause number r = answer_fault said (fault.Limit number) (one_answer bytes (Yes said) (No (fault.Limit number)) a r)
-agent_large bytes said a what.Agents number r = absurd r
-agent_large bytes said a what.Cycles number r = absurd r
+-- a reader refuses such bytes for no fault but want of memory
+abbrev pub Accepted : Reader → List ℕ → Type 0
+Accepted r bytes = (name : List ℕ) (why : r.Fault) → r.faulty bytes why → r.status_of name why ≡ Memory
 
 pub agent_read : (bytes : List ℕ) (source : AgentText) → IsAgent bytes source → Accepted agents bytes
-agent_read bytes source h = record { faulty = agent_faulty bytes h.sentences h.said; large = agent_large bytes h.sentences h.said }
-
-no_lex : (known : List (List ℕ)) (bytes : List ℕ) (text : WorldText) (why : LexFault) → IsWorld known bytes text → IsFirstFault bytes why → ⊥
-no_lex known bytes text why a r = text_fault text (world.Lex why) (one_world known bytes (Yes text) (No (world.Lex why)) a r)
-
-world_faulty : (known : List (List ℕ)) (bytes : List ℕ) (text : WorldText) → IsWorld known bytes text → (place : ℕ) (why : Reason) → (worlds known).faulty bytes place why → ⊥
-world_faulty known bytes text a place reason.Byte r = no_lex known bytes text (lex.BadByte place) a r
-world_faulty known bytes text a place reason.String r = no_lex known bytes text (lex.OpenString place) a r
-world_faulty known bytes text a place reason.Comment r = no_lex known bytes text (lex.OpenComment place) a r
-world_faulty known bytes text a place reason.Number r = no_lex known bytes text (lex.NumberRange place) a r
-world_faulty known bytes text a place reason.Clause r =
-    text_fault text (world.Clause place r.line r.column) (one_world known bytes (Yes text) (No (world.Clause place r.line r.column)) a r.refused)
-world_faulty known bytes text a place (reason.Name name) r = absurd r
-world_faulty known bytes text a place (reason.Option word) r = absurd r
-world_faulty known bytes text a place (reason.Unbound name) r = text_fault text (world.Unbound place name) (one_world known bytes (Yes text) (No (world.Unbound place name)) a r)
-world_faulty known bytes text a place (reason.Artifact name) r =
-    text_fault text (world.UnknownArtifact place name) (one_world known bytes (Yes text) (No (world.UnknownArtifact place name)) a r)
-world_faulty known bytes text a place reason.Line r = absurd r
-world_faulty known bytes text a place reason.Illegal r = absurd r
-world_faulty known bytes text a place reason.Unended r = absurd r
-
-world_large : (known : List (List ℕ)) (bytes : List ℕ) (text : WorldText) → IsWorld known bytes text → (quantity : What) (number : ℕ) → (worlds known).large bytes quantity number → ⊥
-world_large known bytes text a what.File number r = absurd r
-world_large known bytes text a what.Clause number r = text_fault text (world.Limit number) (one_world known bytes (Yes text) (No (world.Limit number)) a r)
-world_large known bytes text a what.Agents number r = absurd r
-world_large known bytes text a what.Cycles number r = absurd r
+agent_read bytes source h name why r =
+    elim (agent_fault name bytes why r) [ inl e ↦ e | inr g ↦ absurd (answer_fault h.sentences why (one_answer bytes (Yes h.sentences) (No why) h.said g)) ]
 
 world_read : (known : List (List ℕ)) (bytes : List ℕ) (text : WorldText) → IsWorld known bytes text → Accepted (worlds known) bytes
-world_read known bytes text h = record { faulty = world_faulty known bytes text h; large = world_large known bytes text h }
-
-project_faulty : (bytes : List ℕ) (p : ProjectText) → IsProject bytes p → (place : ℕ) (why : Reason) → projects.faulty bytes place why → ⊥
-project_faulty bytes p a place reason.Byte r = not_both bytes p (project.Lex (lex.BadByte place)) a r
-project_faulty bytes p a place reason.String r = not_both bytes p (project.Lex (lex.OpenString place)) a r
-project_faulty bytes p a place reason.Comment r = not_both bytes p (project.Lex (lex.OpenComment place)) a r
-project_faulty bytes p a place reason.Number r = not_both bytes p (project.Lex (lex.NumberRange place)) a r
-project_faulty bytes p a place reason.Clause r = not_both bytes p (project.Clause place r.line r.column) a r.refused
-project_faulty bytes p a place (reason.Name name) r = not_both bytes p (project.TwoNames place name) a r
-project_faulty bytes p a place (reason.Option word) r = not_both bytes p (project.Option place word) a r
-project_faulty bytes p a place (reason.Unbound name) r = absurd r
-project_faulty bytes p a place (reason.Artifact name) r = absurd r
-project_faulty bytes p a place reason.Line r = absurd r
-project_faulty bytes p a place reason.Illegal r = absurd r
-project_faulty bytes p a place reason.Unended r = absurd r
-
-project_large : (bytes : List ℕ) (p : ProjectText) → IsProject bytes p → (quantity : What) (number : ℕ) → projects.large bytes quantity number → ⊥
-project_large bytes p a what.File number r = absurd r
-project_large bytes p a what.Clause number r = absurd r
-project_large bytes p a what.Agents number r = not_both bytes p (project.TooMany number) a r
-project_large bytes p a what.Cycles number r = absurd r
+world_read known bytes text h name why r =
+    elim (world_fault name bytes known why r) [ inl e ↦ e | inr g ↦ absurd (text_fault text why (one_world known bytes (Yes text) (No why) h g)) ]
 
 project_read : (bytes : List ℕ) (p : ProjectText) → IsProject bytes p → Accepted projects bytes
-project_read bytes p h = record { faulty = project_faulty bytes p h; large = project_large bytes p h }
+project_read bytes p h name why r = elim (project_fault name bytes why r) [ inl e ↦ e | inr g ↦ absurd (not_both bytes p why h g) ]
 
 -- a file that is there and is not refused is so with no status but Memory, where no fault came
 pub not_refused_file : (r : Reader) (files : List Filed) (name : List ℕ) (before after : ℕ) (status : Status) (P : List ℕ → Type 0) →
     (h : HasFile r.most (Some files) name P) → Accepted r h.bytes → (Rose before after → ⊥) → IsRefusal r name (Some files) before after status → status ≡ Memory
-not_refused_file r files name before after Ok P h n f c = absurd c
-not_refused_file r files name before after No P h n f c = absurd c
-not_refused_file r files name before after Usage P h n f c = absurd c
-not_refused_file r files name before after (Missing lacked) P h n f c = absurd (bytes_lack h.bytes (h.has ∙ sym c.has))
-not_refused_file r files name before after ReadFault P h n f c = absurd (f c)
-not_refused_file r files name before after WriteFault P h n f c = absurd c
-not_refused_file r files name before after (Refused file place why) P h n f c =
-    absurd (n.faulty place why (with_file r.most files name P (λ x. r.faulty x place why) h c.has))
-not_refused_file r files name before after (Limit what.File count) P h n f c = absurd (bytes_long h.bytes (h.has ∙ sym c.has))
-not_refused_file r files name before after (Limit what.Clause count) P h n f c = absurd (n.large what.Clause count (with_file r.most files name P (λ x. r.large x what.Clause count) h c))
-not_refused_file r files name before after (Limit what.Agents count) P h n f c = absurd (n.large what.Agents count (with_file r.most files name P (λ x. r.large x what.Agents count) h c))
-not_refused_file r files name before after (Limit what.Cycles count) P h n f c = absurd (n.large what.Cycles count (with_file r.most files name P (λ x. r.large x what.Cycles count) h c))
-not_refused_file r files name before after Budget P h n f c = absurd c
-not_refused_file r files name before after Memory P h n f c = refl
-not_refused_file r files name before after DiskFault P h n f c = absurd c
+not_refused_file r files name before after status P h n f (unfetched (missing e g)) = absurd (bytes_lack h.bytes (h.has ∙ sym g))
+not_refused_file r files name before after status P h n f (unfetched (too_long e g)) = absurd (bytes_long h.bytes (h.has ∙ sym g))
+not_refused_file r files name before after status P h n f (unfetched (failed e g)) = absurd (f g)
+not_refused_file r files name before after status P h n f (unfetched (starved e)) = e
+not_refused_file r files name before after status P h n f (faulty g) = g.status_is ∙ n name g.why (with_file r.most files name P (λ x. r.faulty x g.why) h g.is)
 
 -- ---- each of them
 

@@ -1,5 +1,5 @@
 -- Files describe a source, or one of them is refused.
-use Rattle.std.proofs.Common.{ℕ, ◌≡◌, ◌≢◌, ◌+◌, ◌-◌, ◌≤◌, ◌<◌, ◌⊎◌, inl, inr, Bool, true, false, cond, List, [], ◌∷◌, ◌++◌, length, take, slice_get, Option, None, Some, refl, ap, sym, ◌∙◌, subst, arith, nat_lt}
+use Rattle.std.proofs.Common.{ℕ, ◌≡◌, ◌≢◌, ◌+◌, ◌-◌, ◌⊎◌, inl, inr, Bool, true, false, cond, List, [], ◌∷◌, length, take, slice_get, Option, None, Some, refl, ap, sym, ◌∙◌, arith, nat_lt}
 use Rattle.std.specs.Prelude.{Result, Ok as Yes, Err as No}
 use Rattle.std.specs.Option.{option_map_or}
 use Rattle.std.specs.Str.{bytes_eq}
@@ -20,7 +20,6 @@ use Rattle.env_file.specs.declared.fault.WorldFault.{WorldFault}
 use Rattle.env_file.specs.declared.fault.WorldFault.TheVariants as world
 use Rattle.env_file.specs.Worlds as env
 use Rattle.env_file.proofs.Total as world_files
-use Rattle.mas_project.specs.declared.lexeme.Lexeme.{Lexeme}
 use Rattle.mas_project.specs.declared.piece.Turn.{Turn}
 use Rattle.mas_project.specs.declared.syntax.AgentLine.{AgentLine}
 use Rattle.mas_project.specs.declared.syntax.ProjectText.{ProjectText}
@@ -33,8 +32,7 @@ use Rattle.mas_project.specs.Projects as project_answers
 use Rattle.mas_project.specs.Projects.{IsProject, IsRefused, of_token, of_piece, of_agents, FailsTest, too_many, two_names}
 use Rattle.mas_project.proofs.Refused.{unless_memory}
 use Rattle.mas_project.proofs.Total as project_files
-use Rattle.mas_io.specs.Causes.{Rose}
-use Rattle.mas_io.specs.Shelf.{limited, fetched}
+use Rattle.mas_io.specs.Shelf.{fetched}
 use Rattle.mas_io.specs.declared.shelf.Fetched.{Fetched}
 use Rattle.mas_io.specs.declared.shelf.Fetched.TheVariants.{Bytes, Missing as Lacks, TooLong, Failed}
 use Rattle.mas_reading.specs.declared.sources.Role.{Role}
@@ -44,10 +42,10 @@ use Rattle.mas_reading.specs.declared.status.Status.{Status}
 use Rattle.mas_reading.specs.declared.status.Status.TheVariants.{Missing, Limit, Memory}
 use Rattle.mas_reading.specs.Projects.{folder, project_in, is_agent_file, solo_project, all_cycles, most_cycles}
 use Rattle.mas_reading.specs.Faults.{lex_status, text_status, world_status, project_status}
-use Rattle.mas_reading.specs.Files.{Has, HasFile, Reader, agents, worlds, projects, most_bytes, IsRefusal}
-use Rattle.mas_reading.specs.Sources.{ProjectBy, HasProject, HasWorld, HasRole, HasRoles, IsAsked, HasSource, LineRefused, PartRefused, FirstRefused, project_refused, cycles_refused, part_refused, AreRefused}
-use Rattle.mas_reading.specs.Laws.{Surely, SomeSource, NoneRefused, UnrefusedDescribe}
-use Rattle.mas_reading.proofs.Fetched.{text_by, fault_by, piece_by}
+use Rattle.mas_reading.specs.Files.{Has, HasFile, Reader, agents, worlds, projects, most_bytes, IsRefusal, unfetched, missing, too_long}
+use Rattle.mas_reading.specs.Sources.{ProjectBy, HasProject, HasWorld, HasRole, HasRoles, IsAsked, HasSource, LineRefused, FirstRefused, project_refused, cycles_refused, part_refused}
+use Rattle.mas_reading.specs.Laws.{SomeSource, UnrefusedDescribe}
+use Rattle.mas_reading.proofs.Fetched.{refused_by}
 use Rattle.mas_reading.proofs.Unless.{unless}
 
 -- it is so of this status, which is not want of memory, where no call has failed
@@ -141,48 +139,47 @@ module _ (r : Reader) (files : List Filed) (name : List ℕ) (P : List ℕ → T
     where
       go : (o : Fetched) → fetched files name r.most ≡ o → HasFile r.most (Some files) name P ⊎ RefusedFile r files name
       go (Bytes bytes) e = elim (read bytes (sym e)) [ inl h ↦ inl (record { bytes = bytes; has = sym e; are = h }) | inr f ↦ inr f ]
-      go Lacks e = inr (record { status = Missing name; no_lack = λ m. absurd cc; is = record { same = refl; has = sym e } })
-      go TooLong e = inr (record { status = Limit what.File r.most; no_lack = λ m. absurd cc; is = record { most_is = refl; has = sym e } })
+      go Lacks e = inr (record { status = Missing name; no_lack = λ m. absurd cc; is = unfetched (missing refl (sym e)) })
+      go TooLong e = inr (record { status = Limit what.File r.most; no_lack = λ m. absurd cc; is = unfetched (too_long refl (sym e)) })
       go Failed e = absurd (never_failed files name r.most e)
 
--- ---- the file of an agent
+module _ (files : List Filed) (name bytes : List ℕ) where
+  bytes_refused : {P : Type 0} (r : Reader) → Has r.most (Some files) name (Bytes bytes) → (f : r.Fault) → (r.status_of name f ≢ Memory) × r.faulty bytes f → P ⊎ RefusedFile r files name
+  bytes_refused r has f h = inr (record { status = r.status_of name f; no_lack = h.0; is = refused_by r name (Some files) 0 0 bytes f (r.status_of name f) has h.1 refl })
 
 module _ (files : List Filed) (name bytes : List ℕ) (has : Has most_bytes (Some files) name (Bytes bytes)) where
-  abbrev AgentTold : Type 0
-  AgentTold = ((text : AgentText) × IsAgent bytes text) ⊎ RefusedFile agents files name
+  -- ---- the file of an agent
 
-  agent_told : (r : Result (List Sentence) TextFault) → IsAnswer bytes r → AgentTold
+  text_known : (f : TextFault) → IsAnswer bytes (No f) → (text_status name f ≢ Memory) × agents.faulty bytes f
+  text_known fault.Memory h = absurd h
+  text_known (fault.Lex why) h = (lex_known name bytes why h, h)
+  text_known (fault.Clause number line column) h = ((λ e. cc), h)
+  text_known (fault.Limit number) h = ((λ e. cc), h)
+
+  agent_told : (r : Result (List Sentence) TextFault) → IsAnswer bytes r → ((text : AgentText) × IsAgent bytes text) ⊎ RefusedFile agents files name
   agent_told (Yes said) h = inl (all_added nothing said, record { sentences = said; said = h; together = refl })
-  agent_told (No fault.Memory) h = absurd h
-  agent_told (No (fault.Lex why)) h = inr (record { status = lex_status name why; no_lack = lex_known name bytes why h; is = text_by name (Some files) 0 0 bytes (fault.Lex why) has h })
-  agent_told (No (fault.Clause number line column)) h =
-      inr (record { status = text_status name (fault.Clause number line column); no_lack = λ m. absurd cc; is = text_by name (Some files) 0 0 bytes (fault.Clause number line column) has h })
-  agent_told (No (fault.Limit number)) h =
-      inr (record { status = text_status name (fault.Limit number); no_lack = λ m. absurd cc; is = text_by name (Some files) 0 0 bytes (fault.Limit number) has h })
+  agent_told (No f) h = bytes_refused files name bytes agents has f (text_known f h)
 
   -- ---- that of a world
 
-  abbrev WorldTold : List (List ℕ) → Type 0
-  WorldTold known = ((text : WorldText) × env.IsWorld known bytes text) ⊎ RefusedFile (worlds known) files name
+  module _ (known : List (List ℕ)) where
+    world_known : (f : WorldFault) → env.IsAnswer known bytes (No f) → (world_status name f ≢ Memory) × (worlds known).faulty bytes f
+    world_known world.Memory h = absurd h
+    world_known (world.Lex why) h = (lex_known name bytes why h, h)
+    world_known (world.Clause number line column) h = ((λ e. cc), h)
+    world_known (world.Limit number) h = ((λ e. cc), h)
+    world_known (world.Unbound number variable) h = ((λ e. cc), h)
+    world_known (world.UnknownArtifact number artifact) h = ((λ e. cc), h)
 
-  world_refused : (known : List (List ℕ)) (f : WorldFault) → world_status name f ≢ Memory → env.IsNone known bytes f → WorldTold known
-  world_refused known f n h = inr (record { status = world_status name f; no_lack = n; is = fault_by known name (Some files) 0 0 bytes f has h })
-
-  world_told : (known : List (List ℕ)) (r : Result WorldText WorldFault) → env.IsAnswer known bytes r → WorldTold known
-  world_told known (Yes text) h = inl (text, h)
-  world_told known (No world.Memory) h = absurd h
-  world_told known (No (world.Lex why)) h = world_refused known (world.Lex why) (lex_known name bytes why h) h
-  world_told known (No (world.Clause number line column)) h = world_refused known (world.Clause number line column) (λ m. absurd cc) h
-  world_told known (No (world.Limit number)) h = world_refused known (world.Limit number) (λ m. absurd cc) h
-  world_told known (No (world.Unbound number variable)) h = world_refused known (world.Unbound number variable) (λ m. absurd cc) h
-  world_told known (No (world.UnknownArtifact number artifact)) h = world_refused known (world.UnknownArtifact number artifact) (λ m. absurd cc) h
+    world_told : (r : Result WorldText WorldFault) → env.IsAnswer known bytes r → ((text : WorldText) × env.IsWorld known bytes text) ⊎ RefusedFile (worlds known) files name
+    world_told (Yes text) h = inl (text, h)
+    world_told (No f) h = bytes_refused files name bytes (worlds known) has f (world_known f h)
 
   -- ---- that of a project
 
   project_told : (r : Result ProjectText ProjectFault) → project_answers.IsAnswer bytes r → ((p : ProjectText) × IsProject bytes p) ⊎ RefusedFile projects files name
   project_told (Yes p) h = inl (p, h)
-  project_told (No f) h =
-      inr (record { status = project_status name f; no_lack = project_known name bytes h; is = piece_by name (Some files) 0 0 bytes f has (unless_memory (IsRefused bytes) f h) })
+  project_told (No f) h = bytes_refused files name bytes projects has f (project_known name bytes h, unless_memory (IsRefused bytes) f h)
 
 -- ---- the files of a project
 

@@ -1,27 +1,38 @@
 -- What becomes of the files that are asked for.
 use Rattle.std.proofs.Common.{ℕ, ◌≡◌, inl, inr, Bool, true, false, List, Option, sym, subst, refl}
 use Rattle.asl_term.specs.declared.syntax.Filed.{Filed}
+use Rattle.mas_core.specs.declared.replay.PlayFault.TheVariants as play
+use Rattle.mas_schedule.specs.declared.reading.LineFault.TheVariants as line
 use Rattle.mas_io.specs.Causes.{Rose}
 use Rattle.mas_io.specs.Sink.{grown}
 use Rattle.mas_io.specs.Told.{Told, IsUnwritten}
 use Rattle.mas_io.specs.Writing.{IsCut}
+use Rattle.mas_reading.specs.declared.sources.Source.{Source}
 use Rattle.mas_reading.specs.declared.status.Status.{Status}
 use Rattle.mas_reading.specs.declared.status.Status.TheVariants.{Ok, No, Usage, Missing, ReadFault, WriteFault, Refused, Limit, Budget, Memory, DiskFault}
 use Rattle.mas_reading.specs.Statuses.{whole}
-use Rattle.mas_reading.proofs.Refusing.{refuses, no_report, first_by}
+use Rattle.mas_reading.proofs.Refusing.{refuses, Tells, no_report, first_by}
 use Rattle.mas_opening.specs.Opening.{Setup}
 use Rattle.mas_reading.specs.Known.{known}
 use Rattle.mas_top.specs.Runs.{Wanted, schedules, FileRefused, GivenRefused}
+use Rattle.mas_top.specs.declared.playing.ScheduleFault.TheVariants as fault
 use Rattle.mas_top.specs.Caused.{Texts, ForFiles, FileCaused}
 
 -- ---- what is refused
+
+schedules_tell : (u : Setup) (source : Source) → Tells (schedules u source)
+schedules_tell u source name (fault.Line line.Memory) = refl
+schedules_tell u source name (fault.Line (line.BadLine number)) = refl
+schedules_tell u source name (fault.Play play.Memory) = refl
+schedules_tell u source name (fault.Play (play.Illegal place)) = refl
+schedules_tell u source name (fault.Play (play.Unended agent)) = refl
 
 pub file_refuses : (u : Setup) (held : Option (List Filed)) (wanted : Wanted) (before after : ℕ) (status : Status) → FileRefused u held wanted before after status →
     refuses status ≡ true
 file_refuses u held wanted before after status (inl r) =
     first_by (λ s. refuses s ≡ true) (known u.objects) u.options.cycles held wanted.project before after status
-    (λ r name s. no_report r name held before after s) (λ count. refl) r
-file_refuses u held wanted before after status (inr r) = no_report (schedules u r.source) r.name held before after status r.why
+    (λ r t name s. no_report r t name held before after s) (λ count. refl) r
+file_refuses u held wanted before after status (inr r) = no_report (schedules u r.source) (schedules_tell u r.source) r.name held before after status r.why
 
 refused_by : (Is : Texts) (u : Setup) (wanted : Wanted) (before after : Told) (status : Status) → refuses status ≡ true →
     FileRefused u before.held wanted before.shelf_faults after.shelf_faults status → IsUnwritten before after → FileCaused Is u wanted before after status

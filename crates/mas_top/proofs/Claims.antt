@@ -25,8 +25,8 @@ claim_refuses : (objects : List Used) (held : Option (List Filed)) (c : Claim) (
     refuses status ≡ true
 claim_refuses objects held c before after status (inl r) =
     first_by (λ s. refuses s ≡ true) (known objects) 1000 held c.project before after status
-    (λ r name s. no_report r name held before after s) (λ count. refl) r
-claim_refuses objects held c before after status (inr r) = no_report reports c.report held before after status r.why
+    (λ r t name s. no_report r t name held before after s) (λ count. refl) r
+claim_refuses objects held c before after status (inr r) = no_report reports (λ name why. absurd why) c.report held before after status r.why
 
 refused_by : (objects : List Used) (c : Claim) (before after : Told) (status : Status) → refuses status ≡ true →
     ClaimRefused objects before.held c before.shelf_faults after.shelf_faults status → IsUnwritten before after → ClaimCaused objects c before after status

@@ -1,5 +1,5 @@
 -- What becomes of a demo.
-use Rattle.std.proofs.Common.{ℕ, ◌≡◌, ◌≤◌, inl, inr, Bool, true, false, List, Some, Option, refl, subst, codes, arith}
+use Rattle.std.proofs.Common.{ℕ, ◌≡◌, ◌≤◌, inl, inr, true, List, Some, Option, refl, ap, ◌∙◌, subst, codes, arith}
 use Rattle.std.specs.Prelude.{Result, MatchResult}
 use Rattle.asl_cycle.specs.Agent.{agent_kind}
 use Rattle.asl_term.specs.declared.syntax.Filed.{Filed}
@@ -18,7 +18,7 @@ use Rattle.env_file.specs.Worlds.{has_name}
 use Rattle.mas_demo.proofs.Described.{demo_not_refused}
 use Rattle.mas_report.specs.Limits.{defaults}
 use Rattle.mas_reading.proofs.Unless.{unless}
-use Rattle.mas_reading.specs.Files.{Reader, IsRefusal}
+use Rattle.mas_reading.specs.Files.{Reader, IsRefusal, unfetched, faulty, missing, too_long, failed, starved}
 use Rattle.mas_reading.specs.Known.{known}
 use Rattle.mas_reading.specs.Sources.{HasSource, FirstRefused, AreRefused, UnlessMemory}
 use Rattle.mas_reading.specs.declared.sources.Source.{Source}
@@ -29,7 +29,7 @@ use Rattle.mas_report.specs.declared.options.Options.{Options}
 use Rattle.mas_world.specs.Worlds.{Used}
 use Rattle.mas_opening.specs.Opening.{Setup, setup, opening}
 use Rattle.mas_top.specs.Ways.{Way, way_of}
-use Rattle.mas_reading.proofs.Refusing.{first_by}
+use Rattle.mas_reading.proofs.Refusing.{tells, Tells, first_by}
 use Rattle.mas_top.proofs.Runs.{by_workers}
 
 -- the lines of a run by so many workers
@@ -56,30 +56,16 @@ described u k held word r e f h =
     subst (λ w. MatchResult r (HasSource names cycles (Some (demo_files k)) w) (AreRefused names cycles (Some (demo_files k)) w 0 0)) f
     (subst (λ x. MatchResult r (HasSource names cycles x word) (AreRefused names cycles x word 0 0)) e h)
 
--- a status that tells of a file of a shelf of which no call fails
-abbrev tells : Status → Bool
-tells (Missing lacked) = true
-tells (Refused file place why) = true
-tells (Limit quantity count) = true
-tells Memory = true
-tells other = false
-
 -- a count that stands at 0 has not risen
 still : Rose 0 0 → ⊥
 still r = omega (arith, r)
 
-told_of_file : (r : Reader) (name : List ℕ) (held : Option (List Filed)) (status : Status) → IsRefusal r name held 0 0 status → tells status ≡ true
-told_of_file r name held Ok h = absurd h
-told_of_file r name held No h = absurd h
-told_of_file r name held Usage h = absurd h
-told_of_file r name held (Missing lacked) h = refl
-told_of_file r name held ReadFault h = absurd (still h)
-told_of_file r name held WriteFault h = absurd h
-told_of_file r name held (Refused file place why) h = refl
-told_of_file r name held (Limit quantity count) h = refl
-told_of_file r name held Budget h = absurd h
-told_of_file r name held Memory h = refl
-told_of_file r name held DiskFault h = absurd h
+told_of_file : (r : Reader) → Tells r → (name : List ℕ) (held : Option (List Filed)) (status : Status) → IsRefusal r name held 0 0 status → tells status ≡ true
+told_of_file r t name held status (unfetched (missing e h)) = ap tells e
+told_of_file r t name held status (unfetched (too_long e h)) = ap tells e
+told_of_file r t name held status (unfetched (failed e h)) = absurd (still h)
+told_of_file r t name held status (unfetched (starved e)) = ap tells e
+told_of_file r t name held status (faulty f) = ap tells f.status_is ∙ t name f.why
 
 one_refused : (u : Setup) (k : ℕ) (way : Way) (before after : Told) (status : Status) → tells status ≡ true → DemoRefused u k status → IsUnwritten before after →
     DemoCaused u k way before after status
@@ -100,7 +86,7 @@ by_first : (u : Setup) (k : ℕ) (way : Way) (before after : Told) (status : Sta
 by_first u k way before after status r w =
     one_refused u k way before after status
     (first_by (λ s. tells s ≡ true) (known u.objects) u.options.cycles (Some (demo_files k)) (codes "demo.mas2j") 0 0 status
-    (λ r name s. told_of_file r name (Some (demo_files k)) s) (λ count. refl) r) r w
+    (λ r t name s. told_of_file r t name (Some (demo_files k)) s) (λ count. refl) r) r w
 
 -- a file is refused, and nothing was written
 pub unwritten : (u : Setup) (k : ℕ) (way : Way) (before after : Told) (status : Status) → UnlessMemory (DemoRefused u k) status → IsUnwritten before after →

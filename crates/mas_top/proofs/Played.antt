@@ -1,113 +1,52 @@
 -- What is run of the files that are asked for.
-use Rattle.std.proofs.Common.{ℕ, ◌≡◌, ◌≤◌, inl, inr, Bool, List, Option, sym, subst, refl}
+use Rattle.std.proofs.Common.{ℕ, ◌≡◌, ◌≤◌, inl, inr, Bool, List, Option, subst, refl}
 use Rattle.std.specs.Prelude.{Result, MatchResult}
 use Rattle.asl_term.specs.declared.syntax.Filed.{Filed}
 use Rattle.asl_cycle.specs.Agent.{agent_kind}
 use Rattle.mas_world.specs.Worlds.{Used}
 use Rattle.mas_core.specs.Replay.{Faulted}
 use Rattle.mas_core.specs.declared.replay.PlayFault.{PlayFault}
-use Rattle.mas_core.specs.declared.replay.PlayFault.TheVariants as play
 use Rattle.mas_io.specs.declared.shelf.Fetched.TheVariants.{Bytes}
-use Rattle.mas_schedule.specs.Reading.{IsSchedule, IsFaultAt}
-use Rattle.mas_schedule.specs.declared.reading.LineFault.{LineFault}
-use Rattle.mas_schedule.specs.declared.reading.LineFault.TheVariants as line
+use Rattle.mas_schedule.specs.Reading.{IsSchedule}
 use Rattle.mas_reading.specs.declared.sources.Source.{Source}
-use Rattle.mas_reading.specs.declared.status.Reason.{Reason}
-use Rattle.mas_reading.specs.declared.status.Reason.TheVariants as reason
-use Rattle.mas_reading.specs.declared.status.What.TheVariants as what
 use Rattle.mas_reading.specs.declared.status.Status.{Status}
-use Rattle.mas_reading.specs.declared.status.Status.TheVariants.{Ok, No, Usage, Missing, ReadFault, WriteFault, Refused, Limit, Budget, Memory, DiskFault}
-use Rattle.mas_reading.specs.Files.{Has, HasFile, IsRefusal, IsUnfetched}
+use Rattle.mas_reading.specs.Files.{Has, HasFile, IsRefusal, unfetched, IsUnfetched}
 use Rattle.mas_reading.specs.Known.{known}
 use Rattle.mas_reading.specs.Sources.{HasSource, FirstRefused, AreRefused}
-use Rattle.mas_reading.proofs.Fetched.{unfetched, refusal_from}
+use Rattle.mas_reading.proofs.Fetched.{refused_by, refusal_from}
 use Rattle.mas_reading.proofs.Unless.{unless, unless_as}
 use Rattle.mas_report.specs.declared.options.Options.{Options}
 use Rattle.mas_opening.specs.Opening.{Setup, setup, opening}
 use Rattle.mas_opening.proofs.Able.{can_run}
-use Rattle.mas_top.specs.Runs.{by_workers, by_file, Wanted, wanted, given, most_bytes, schedules, FileRefused, GivenRefused}
+use Rattle.mas_top.specs.Runs.{by_workers, by_file, Wanted, wanted, given, most_bytes, IsStopped, IsUnfollowed, schedule_status, schedules, FileRefused, GivenRefused}
+use Rattle.mas_top.specs.declared.playing.ScheduleFault.{ScheduleFault}
 use Rattle.mas_top.specs.Ways.{along, way_of}
 use Rattle.mas_top.specs.Caused.{ForFiles}
 use Rattle.mas_top.specs.Headline.{IsRunReport, IsRunReportOf}
-use Rattle.mas_top.specs.Playing.{IsReplayed, ForSchedule, lines, line_status, play_status}
+use Rattle.mas_top.specs.Playing.{IsReplayed, ForSchedule}
 
--- ---- the lines of a schedule
+-- ---- the bytes of a schedule
 
-pub no_lines : (name : List ℕ) (held : Option (List Filed)) (before after : ℕ) (status : Status) → IsUnfetched 268435456 name held before after status →
-    IsRefusal lines name held before after status
-no_lines = unfetched lines
+module _ (u : Setup) (source : Source) (bytes names : List ℕ) where
+  pub followed : (spent : Bool) (w : List ℕ) → IsSchedule bytes names → IsReplayed agent_kind u.options (opening u source) names spent w → ForSchedule u source bytes spent w
+  followed spent w h r = record { names = names; followed = record { is = h; leads = r.leads }; report = r.report }
 
-pub read_lines : (held : Option (List Filed)) (name bytes names : List ℕ) → Has 268435456 held name (Bytes bytes) → IsSchedule bytes names →
-    HasFile most_bytes held name (λ bytes. IsSchedule bytes names)
-read_lines held name bytes names h g = record { bytes = bytes; has = h; are = g }
+  pub stopped : (why : PlayFault) → IsSchedule bytes names → Faulted agent_kind (opening u source) names why → IsStopped u source bytes why
+  stopped why h r = record { names = names; is = h; stopped = r }
 
-bad_by : (name : List ℕ) (held : Option (List Filed)) (before after : ℕ) (bytes : List ℕ) (why : LineFault) → Has 268435456 held name (Bytes bytes) →
-    IsFaultAt bytes why → IsRefusal lines name held before after (line_status name why)
-bad_by name held before after bytes line.Memory h r = tt
-bad_by name held before after bytes (line.BadLine number) h r = record { same = refl; has = record { bytes = bytes; has = h; are = r } }
+-- ---- its file
 
-pub bad_lines : (name : List ℕ) (held : Option (List Filed)) (before after : ℕ) (bytes : List ℕ) (why : LineFault) (status : Status) →
-    Has 268435456 held name (Bytes bytes) → IsFaultAt bytes why → status ≡ line_status name why → IsRefusal lines name held before after status
-bad_lines name held before after bytes why status h r e =
-    subst (λ s. IsRefusal lines name held before after s) (sym e) (bad_by name held before after bytes why h r)
-
--- ---- the run along them
-
-line_why : (u : Setup) (source : Source) (bytes : List ℕ) (place : ℕ) (why : Reason) → lines.faulty bytes place why → (schedules u source).faulty bytes place why
-line_why u source bytes place reason.Byte h = absurd h
-line_why u source bytes place reason.String h = absurd h
-line_why u source bytes place reason.Comment h = absurd h
-line_why u source bytes place reason.Number h = absurd h
-line_why u source bytes place reason.Clause h = absurd h
-line_why u source bytes place (reason.Name name) h = absurd h
-line_why u source bytes place (reason.Option word) h = absurd h
-line_why u source bytes place (reason.Unbound name) h = absurd h
-line_why u source bytes place (reason.Artifact name) h = absurd h
-line_why u source bytes place reason.Line h = h
-line_why u source bytes place reason.Illegal h = absurd h
-line_why u source bytes place reason.Unended h = absurd h
-
--- a schedule whose lines are refused is refused
 pub unread : (u : Setup) (source : Source) (name : List ℕ) (held : Option (List Filed)) (before after : ℕ) (status : Status) →
-    IsRefusal lines name held before after status → IsRefusal (schedules u source) name held before after status
-unread u source name held before after Ok h = absurd h
-unread u source name held before after No h = absurd h
-unread u source name held before after Usage h = absurd h
-unread u source name held before after (Missing lacked) h = h
-unread u source name held before after ReadFault h = h
-unread u source name held before after WriteFault h = absurd h
-unread u source name held before after (Refused file place why) h =
-    record { same = h.same; has = record { bytes = h.has.bytes; has = h.has.has; are = line_why u source h.has.bytes place why h.has.are } }
-unread u source name held before after (Limit what.File count) h = h
-unread u source name held before after (Limit what.Clause count) h = absurd h.are
-unread u source name held before after (Limit what.Agents count) h = absurd h.are
-unread u source name held before after (Limit what.Cycles count) h = absurd h.are
-unread u source name held before after Budget h = absurd h
-unread u source name held before after Memory h = tt
-unread u source name held before after DiskFault h = absurd h
+    IsUnfetched 268435456 name held before after status → IsRefusal (schedules u source) name held before after status
+unread u source name held before after status h = unfetched h
 
-pub followed : (u : Setup) (held : Option (List Filed)) (source : Source) (name names : List ℕ) (spent : Bool) (w : List ℕ) →
-    HasFile most_bytes held name (λ bytes. IsSchedule bytes names) → IsReplayed agent_kind u.options (opening u source) names spent w → ForSchedule u held source name spent w
-followed u held source name names spent w h r = record {
-  names = names;
-  has = record { bytes = h.bytes; has = h.has; are = record { is = h.are; leads = r.leads } };
-  report = r.report;
-}
+pub replayed_file : (u : Setup) (source : Source) (held : Option (List Filed)) (name bytes : List ℕ) (spent : Bool) (w : List ℕ) → Has 268435456 held name (Bytes bytes) →
+    ForSchedule u source bytes spent w → HasFile most_bytes held name (λ b. ForSchedule u source b spent w)
+replayed_file u source held name bytes spent w h r = record { bytes = bytes; has = h; are = r }
 
-stopped_by : (u : Setup) (source : Source) (name : List ℕ) (held : Option (List Filed)) (before after : ℕ) (names : List ℕ) (why : PlayFault) →
-    HasFile most_bytes held name (λ bytes. IsSchedule bytes names) → Faulted agent_kind (opening u source) names why →
-    IsRefusal (schedules u source) name held before after (play_status name why)
-stopped_by u source name held before after names play.Memory h r = tt
-stopped_by u source name held before after names (play.Illegal place) h r =
-    record { same = refl; has = record { bytes = h.bytes; has = h.has; are = record { names = names; is = h.are; stuck = r } } }
-stopped_by u source name held before after names (play.Unended agent) h r =
-    record { same = refl; has = record { bytes = h.bytes; has = h.has; are = record { names = names; is = h.are; stays = r } } }
-
-pub not_followed : (u : Setup) (source : Source) (name : List ℕ) (held : Option (List Filed)) (before after : ℕ) (names : List ℕ) (why : PlayFault) (status : Status) →
-    HasFile most_bytes held name (λ bytes. IsSchedule bytes names) → Faulted agent_kind (opening u source) names why → status ≡ play_status name why →
-    IsRefusal (schedules u source) name held before after status
-not_followed u source name held before after names why status h r e =
-    subst (λ s. IsRefusal (schedules u source) name held before after s) (sym e) (stopped_by u source name held before after names why h r)
+pub not_replayed : (u : Setup) (source : Source) (name : List ℕ) (held : Option (List Filed)) (before after : ℕ) (bytes : List ℕ) (why : ScheduleFault) (status : Status) →
+    Has 268435456 held name (Bytes bytes) → IsUnfollowed u source bytes why → status ≡ schedule_status name why → IsRefusal (schedules u source) name held before after status
+not_replayed u source = refused_by (schedules u source)
 
 -- the names of the artifacts under another name
 pub known_as : (names : List (List ℕ)) (objects : List Used) (cycles : ℕ) (held : Option (List Filed)) (word : List ℕ) (before after : ℕ) (result : Result Source Status) →
@@ -124,10 +63,14 @@ pub ran : (o : Options) (objects : List Used) (held : Option (List Filed)) (word
 ran o objects held word source workers spent w h r = record { given = given source (way_of workers); has = record { source = h; way = refl }; is = r }
 
 pub replayed : (o : Options) (objects : List Used) (held : Option (List Filed)) (word : List ℕ) (source : Source) (name : List ℕ) (spent : Bool) (w : List ℕ) →
-    HasSource (known objects) o.cycles held word source → ForSchedule (setup o objects) held source name spent w →
+    HasSource (known objects) o.cycles held word source → HasFile most_bytes held name (λ b. ForSchedule (setup o objects) source b spent w) →
     ForFiles (IsRunReportOf (setup o objects)) (setup o objects) held (wanted word (by_file name)) spent w
 replayed o objects held word source name spent w h r =
-    record { given = given source (along r.names); has = record { source = h; way = r.has }; is = r.report }
+    record {
+      given = given source (along r.are.names);
+      has = record { source = h; way = record { bytes = r.bytes; has = r.has; are = r.are.followed } };
+      is = r.are.report;
+    }
 
 pub no_source : (o : Options) (objects : List Used) (held : Option (List Filed)) (a : Wanted) (before after : ℕ) (status : Status) →
     AreRefused (known objects) o.cycles held a.project before after status → GivenRefused (setup o objects) held a before after status

@@ -1,5 +1,5 @@
 -- What becomes of a run that is recorded.
-use Rattle.std.proofs.Common.{ℕ, ◌≡◌, inl, inr, Bool, true, false, List, ◌++◌, Option, Some, refl, ap, sym, subst, arith}
+use Rattle.std.proofs.Common.{ℕ, ◌≡◌, ◌≢◌, ◌⊎◌, inl, inr, Bool, true, false, List, ◌++◌, Option, Some, refl, ap, sym, ◌∙◌, subst, arith}
 use Rattle.std.specs.Prelude.{Result, Ok as Yes, Err as Refusal, MatchResult}
 use Rattle.std.proofs.lemmas.List.{append_cancel_left}
 use Rattle.asl_term.specs.declared.syntax.Filed.{Filed}
@@ -11,11 +11,10 @@ use Rattle.mas_io.specs.Writing.{Wrote, IsCut}
 use Rattle.mas_journal.specs.Journals.{recovered_image}
 use Rattle.mas_schedule.specs.Schedule.{printed}
 use Rattle.mas_report.specs.declared.options.Options.{Options}
+use Rattle.mas_recorded.specs.declared.fault.RecordFault.{RecordFault}
+use Rattle.mas_recorded.specs.declared.fault.RecordFault.TheVariants as fault
 use Rattle.mas_recordings.specs.declared.report.Written.{Written}
 use Rattle.mas_reading.specs.declared.sources.Source.{Source}
-use Rattle.mas_reading.specs.declared.status.Reason.{Reason}
-use Rattle.mas_reading.specs.declared.status.Reason.TheVariants as reason
-use Rattle.mas_reading.specs.declared.status.What.TheVariants as what
 use Rattle.mas_reading.specs.declared.status.Status.{Status}
 use Rattle.mas_reading.specs.declared.status.Status.TheVariants.{Ok, No, Usage, Missing, ReadFault, WriteFault, Refused, Limit, Budget, Memory, DiskFault}
 use Rattle.mas_reading.specs.Known.{known}
@@ -25,12 +24,12 @@ use Rattle.mas_reading.proofs.Refusing.{refuses}
 use Rattle.mas_world.specs.Worlds.{Used}
 use Rattle.mas_keeping.specs.declared.keep.Keeping.{Keeping}
 use Rattle.mas_keeping.specs.declared.keep.Keeping.TheVariants.{Anew, On}
-use Rattle.mas_keeping.specs.Keeping.{IsKept, IsFaulty, FileRefused as FileFaulty, FileRefusedBy, KeepRefused}
+use Rattle.mas_keeping.specs.Keeping.{IsKept, KeepCause, fault_status, KeepRefused}
 use Rattle.mas_top.specs.Caused.{ForFiles}
 use Rattle.mas_top.specs.Headline.{IsHeadline}
 use Rattle.mas_opening.specs.Opening.{Setup, setup, opening}
 use Rattle.mas_top.specs.Recording.{Recorded, wanted_of, Lent, before_of, after_of, IsLeft, IsRecordedReport, RecordRefused, AnswerRefused}
-use Rattle.mas_top.specs.Recording.{RecordCaused, KeepsSchedule, KeepsPrinted, IsJournalOf, CanGoOn, IsRecordComplete}
+use Rattle.mas_top.specs.Recording.{RecordCaused, KeepsSchedule, KeepsPrinted, CanGoOn, IsRecordComplete}
 use Rattle.mas_top.specs.Runs.{given, HasGiven, NoneRefused}
 use Rattle.mas_top.specs.Ways.{way_of}
 use Rattle.mas_top.proofs.Caused.{file_refuses}
@@ -44,6 +43,17 @@ module _ (l : Lent) where
       IsKept agent_kind o (opening (setup o objects) source) r.keeping r.file (before_of l) (after_of l) spent w →
       ForFiles (IsRecordedReport l (setup o objects) r) (setup o objects) held (wanted_of r) spent w
   recorded o objects r held source spent w h k = record { given = given source (way_of r.workers); has = record { source = h; way = refl }; is = k }
+
+  -- the cause of a fault of the disk
+  rose_by : (u : Setup) (r : Recorded) (source : Source) (keeping : Keeping) (f : RecordFault) → DiskFault ≡ fault_status r.file f →
+      KeepCause agent_kind (opening u source) keeping r.file (before_of l) (after_of l) f → Rose (before_of l).faults (after_of l).faults
+  rose_by u r source keeping fault.Memory e h = absurd cc
+  rose_by u r source Anew fault.Disk e h = h
+  rose_by u r source On fault.Disk e h = h
+  rose_by u r source keeping fault.Missing e h = absurd cc
+  rose_by u r source keeping fault.NoHeader e h = absurd cc
+  rose_by u r source keeping fault.TooLong e h = absurd cc
+  rose_by u r source keeping (fault.Illegal place) e h = absurd cc
 
   not_recorded : (o : Options) (objects : List Used) (r : Recorded) (held : Option (List Filed)) (source : Source) (before after : ℕ) (status : Status) →
       HasSource (known objects) o.cycles held r.project source →
@@ -59,7 +69,7 @@ module _ (l : Lent) where
   not_recorded o objects r held source before after (Limit quantity count) h k = inr (record { source = source; has = h; why = k })
   not_recorded o objects r held source before after Budget h k = inr (record { source = source; has = h; why = k })
   not_recorded o objects r held source before after Memory h k = tt
-  not_recorded o objects r held source before after DiskFault h k = k
+  not_recorded o objects r held source before after DiskFault h k = rose_by (setup o objects) r source r.keeping k.why k.status_is k.is
 
   never : {A : Type 0} → false ≡ true → A
   never e = absurd cc
@@ -100,38 +110,36 @@ module _ (l : Lent) where
 
   -- ---- what is refused
 
-  journal_refuses : (u : Setup) (r : Recorded) (source : Source) (keeping : Keeping) (status : Status) →
-      FileRefusedBy agent_kind (opening u source) keeping r.file (before_of l) (after_of l) status → refuses status ≡ true
-  journal_refuses u r source Anew status h = absurd h
-  journal_refuses u r source On Ok h = absurd h
-  journal_refuses u r source On No h = absurd h
-  journal_refuses u r source On Usage h = absurd h
-  journal_refuses u r source On (Missing lacked) h = refl
-  journal_refuses u r source On ReadFault h = absurd h
-  journal_refuses u r source On WriteFault h = absurd h
-  journal_refuses u r source On (Refused file place why) h = refl
-  journal_refuses u r source On (Limit quantity count) h = refl
-  journal_refuses u r source On Budget h = absurd h
-  journal_refuses u r source On Memory h = absurd h
-  journal_refuses u r source On DiskFault h = absurd h
+  keep_refuses : (file : List ℕ) (f : RecordFault) → (refuses (fault_status file f) ≡ true) ⊎ (fault_status file f ≡ DiskFault)
+  keep_refuses file fault.Memory = inl refl
+  keep_refuses file fault.Disk = inr refl
+  keep_refuses file fault.Missing = inl refl
+  keep_refuses file fault.NoHeader = inl refl
+  keep_refuses file fault.TooLong = inl refl
+  keep_refuses file (fault.Illegal place) = inl refl
 
   record_refuses : (u : Setup) (r : Recorded) (held : Option (List Filed)) (before after : ℕ) (status : Status) →
-      RecordRefused l u r held before after status → refuses status ≡ true
-  record_refuses u r held before after status (inl p) = file_refuses u held (wanted_of r) before after status p.why
-  record_refuses u r held before after status (inr j) = journal_refuses u r j.source r.keeping status j.why
+      RecordRefused l u r held before after status → (refuses status ≡ true) ⊎ (status ≡ DiskFault)
+  record_refuses u r held before after status (inl p) = inl (file_refuses u held (wanted_of r) before after status p.why)
+  record_refuses u r held before after status (inr j) =
+      subst (λ s. (refuses s ≡ true) ⊎ (s ≡ DiskFault)) (sym j.why.status_is) (keep_refuses r.file j.why.why)
+
+  neither : {A : Type 0} (s : Status) → refuses s ≡ false → s ≢ DiskFault → (refuses s ≡ true) ⊎ (s ≡ DiskFault) → A
+  neither s f n (inl e) = never (sym f ∙ e)
+  neither s f n (inr e) = absurd (n e)
 
   -- a refusal, where nothing was written
   pub refused_record : (u : Setup) (r : Recorded) (before after : Told) (status : Status) →
       AnswerRefused l u r before.held before.shelf_faults after.shelf_faults status → IsUnwritten before after → RecordCaused l u r before after status
-  refused_record u r before after Ok h n = never (record_refuses u r before.held before.shelf_faults after.shelf_faults Ok h)
-  refused_record u r before after No h n = never (record_refuses u r before.held before.shelf_faults after.shelf_faults No h)
-  refused_record u r before after Usage h n = never (record_refuses u r before.held before.shelf_faults after.shelf_faults Usage h)
+  refused_record u r before after Ok h n = neither Ok refl (λ e. cc) (record_refuses u r before.held before.shelf_faults after.shelf_faults Ok h)
+  refused_record u r before after No h n = neither No refl (λ e. cc) (record_refuses u r before.held before.shelf_faults after.shelf_faults No h)
+  refused_record u r before after Usage h n = neither Usage refl (λ e. cc) (record_refuses u r before.held before.shelf_faults after.shelf_faults Usage h)
   refused_record u r before after (Missing lacked) h n = record { why = h; unwritten = n }
   refused_record u r before after ReadFault h n = record { why = h; unwritten = n }
-  refused_record u r before after WriteFault h n = never (record_refuses u r before.held before.shelf_faults after.shelf_faults WriteFault h)
+  refused_record u r before after WriteFault h n = neither WriteFault refl (λ e. cc) (record_refuses u r before.held before.shelf_faults after.shelf_faults WriteFault h)
   refused_record u r before after (Refused file place why) h n = record { why = h; unwritten = n }
   refused_record u r before after (Limit quantity count) h n = record { why = h; unwritten = n }
-  refused_record u r before after Budget h n = never (record_refuses u r before.held before.shelf_faults after.shelf_faults Budget h)
+  refused_record u r before after Budget h n = neither Budget refl (λ e. cc) (record_refuses u r before.held before.shelf_faults after.shelf_faults Budget h)
   refused_record u r before after Memory h n = n
   refused_record u r before after DiskFault h n = record { rose = h; unwritten = n }
 
@@ -182,67 +190,42 @@ module _ (l : Lent) where
 
   -- ---- completeness
 
-  faulty_not : (u : Setup) (r : Recorded) (files : List Filed) (source : Source) (place : ℕ) (why : Reason) → IsJournalOf l u r files →
-      HasSource (known u.objects) u.options.cycles (Some files) r.project source →
-      IsFaulty agent_kind (opening u source) r.file (before_of l) (after_of l) place why → ⊥
-  faulty_not u r files source place reason.Byte j h f = f
-  faulty_not u r files source place reason.String j h f = f
-  faulty_not u r files source place reason.Comment j h f = f
-  faulty_not u r files source place reason.Number j h f = f
-  faulty_not u r files source place reason.Clause j h f = f
-  faulty_not u r files source place (reason.Name name) j h f = f
-  faulty_not u r files source place (reason.Option word) j h f = f
-  faulty_not u r files source place (reason.Unbound name) j h f = f
-  faulty_not u r files source place (reason.Artifact name) j h f = f
-  faulty_not u r files source place reason.Line j h f = j.recovers (f.1.nothing j.told)
-  faulty_not u r files source place reason.Illegal j h f = j.legal source f.turns place h (f.tells j.told) f.stuck
-  faulty_not u r files source place reason.Unended j h f = f
-
-  file_not : (u : Setup) (r : Recorded) (files : List Filed) (source : Source) (status : Status) → IsJournalOf l u r files →
-      HasSource (known u.objects) u.options.cycles (Some files) r.project source →
-      FileFaulty agent_kind (opening u source) r.file (before_of l) (after_of l) status → ⊥
-  file_not u r files source Ok j h f = f
-  file_not u r files source No j h f = f
-  file_not u r files source Usage j h f = f
-  file_not u r files source (Missing lacked) j h f = j.recovers (ap recovered_image (f.missing.missing j.told))
-  file_not u r files source ReadFault j h f = f
-  file_not u r files source WriteFault j h f = f
-  file_not u r files source (Refused file place why) j h f = faulty_not u r files source place why j h f.cause
-  file_not u r files source (Limit what.File count) j h f = let short = j.short in let long = f.1.long j.told in omega arith
-  file_not u r files source (Limit what.Clause count) j h f = f
-  file_not u r files source (Limit what.Agents count) j h f = f
-  file_not u r files source (Limit what.Cycles count) j h f = f
-  file_not u r files source Budget j h f = f
-  file_not u r files source Memory j h f = f
-  file_not u r files source DiskFault j h f = f
-
-  journal_not : (u : Setup) (r : Recorded) (files : List Filed) (source : Source) (keeping : Keeping) (status : Status) → CanGoOn l u r keeping files →
-      HasSource (known u.objects) u.options.cycles (Some files) r.project source →
-      FileRefusedBy agent_kind (opening u source) keeping r.file (before_of l) (after_of l) status → ⊥
-  journal_not u r files source Anew status j h f = f
-  journal_not u r files source On status j h f = file_not u r files source status j h f
+  journal_not : (u : Setup) (r : Recorded) (files : List Filed) (source : Source) (keeping : Keeping) (f : RecordFault) → CanGoOn l u r keeping files →
+      HasSource (known u.objects) u.options.cycles (Some files) r.project source → fault_status r.file f ≢ Memory →
+      (Rose (before_of l).faults (after_of l).faults → ⊥) → KeepCause agent_kind (opening u source) keeping r.file (before_of l) (after_of l) f → ⊥
+  journal_not u r files source keeping fault.Memory j h n d c = n refl
+  journal_not u r files source Anew fault.Disk j h n d c = d c
+  journal_not u r files source Anew fault.Missing j h n d c = c
+  journal_not u r files source Anew fault.NoHeader j h n d c = c
+  journal_not u r files source Anew fault.TooLong j h n d c = c
+  journal_not u r files source Anew (fault.Illegal place) j h n d c = c
+  journal_not u r files source On fault.Disk j h n d c = d c
+  journal_not u r files source On fault.Missing j h n d c = j.recovers (ap recovered_image (c.missing j.told))
+  journal_not u r files source On fault.NoHeader j h n d c = j.recovers (c.nothing j.told)
+  journal_not u r files source On fault.TooLong j h n d c = let short = j.short in let long = c.long j.told in omega arith
+  journal_not u r files source On (fault.Illegal place) j h n d c = j.legal source c.turns place h (c.tells j.told) c.stuck
 
   -- a refusal of which none is there
   not_here : (u : Setup) (r : Recorded) (before after : Told) (status : Status) (files : List Filed) → before.held ≡ Some files →
-      NoneRefused u files (wanted_of r) → CanGoOn l u r r.keeping files → (Rose before.shelf_faults after.shelf_faults → ⊥) → (status ≡ Memory → ⊥) →
+      NoneRefused u files (wanted_of r) → CanGoOn l u r r.keeping files → (Rose before.shelf_faults after.shelf_faults → ⊥) → (Rose (before_of l).faults (after_of l).faults → ⊥) → status ≢ Memory →
       RecordRefused l u r before.held before.shelf_faults after.shelf_faults status → ⊥
-  not_here u r before after status files e n g f m (inl p) = not_refused_here u (wanted_of r) before after status files e n f m p.why
-  not_here u r before after status files e n g f m (inr j) =
-      journal_not u r files j.source r.keeping status g
-      (subst (λ held. HasSource (known u.objects) u.options.cycles held r.project j.source) e j.has) j.why
+  not_here u r before after status files e n g f d m (inl p) = not_refused_here u (wanted_of r) before after status files e n f m p.why
+  not_here u r before after status files e n g f d m (inr j) =
+      journal_not u r files j.source r.keeping j.why.why g
+      (subst (λ held. HasSource (known u.objects) u.options.cycles held r.project j.source) e j.has) (λ q. m (j.why.status_is ∙ q)) d j.why.is
 
   pub complete_record : (u : Setup) (r : Recorded) (before after : Told) (status : Status) → RecordCaused l u r before after status →
       IsRecordComplete l u r before after status
   complete_record u r before after Ok c files e n g f k d = inl (false, refl)
   complete_record u r before after No c files e n g f k d = absurd c
   complete_record u r before after Usage c files e n g f k d = absurd c
-  complete_record u r before after (Missing lacked) c files e n g f k d = absurd (not_here u r before after (Missing lacked) files e n g f (λ q. cc) c.why)
-  complete_record u r before after ReadFault c files e n g f k d = absurd (not_here u r before after ReadFault files e n g f (λ q. cc) c.why)
+  complete_record u r before after (Missing lacked) c files e n g f k d = absurd (not_here u r before after (Missing lacked) files e n g f d (λ q. cc) c.why)
+  complete_record u r before after ReadFault c files e n g f k d = absurd (not_here u r before after ReadFault files e n g f d (λ q. cc) c.why)
   complete_record u r before after WriteFault c files e n g f k d = absurd (k c.rose)
   complete_record u r before after (Refused file place why) c files e n g f k d =
-      absurd (not_here u r before after (Refused file place why) files e n g f (λ q. cc) c.why)
+      absurd (not_here u r before after (Refused file place why) files e n g f d (λ q. cc) c.why)
   complete_record u r before after (Limit quantity count) c files e n g f k d =
-      absurd (not_here u r before after (Limit quantity count) files e n g f (λ q. cc) c.why)
+      absurd (not_here u r before after (Limit quantity count) files e n g f d (λ q. cc) c.why)
   complete_record u r before after Budget c files e n g f k d = inl (true, refl)
   complete_record u r before after Memory c files e n g f k d = inr refl
   complete_record u r before after DiskFault c files e n g f k d = absurd (d c.rose)

@@ -1,36 +1,32 @@
 -- What is asked for is refused in one way.
-use Rattle.std.proofs.Common.{ℕ, ◌≡◌, inl, inr, List, Some, ap, sym, ◌∙◌, subst}
+use Rattle.std.proofs.Common.{ℕ, ◌≡◌, inl, inr, List, Some, refl, ap, sym, ◌∙◌, subst}
 use Rattle.std.specs.Prelude.{Result, Ok as Yes, Err as No}
 use Rattle.asl_term.specs.declared.syntax.Filed.{Filed}
 use Rattle.asl_cycle.specs.Agent.{Mindset, agent_kind}
 use Rattle.mas_core.specs.Platform.{run, first_here}
 use Rattle.mas_core.specs.Replay.{Followed, Stuck, follow}
+use Rattle.mas_core.specs.declared.replay.PlayFault.{PlayFault}
+use Rattle.mas_core.specs.declared.replay.PlayFault.TheVariants as play
 use Rattle.mas_schedule.specs.Reading.{IsBadLine}
+use Rattle.mas_schedule.specs.declared.reading.LineFault.TheVariants as line
 use Rattle.mas_schedule.proofs.Answered.{one_answer}
 use Rattle.mas_reading.specs.declared.sources.Source.{Source}
-use Rattle.mas_reading.specs.declared.status.Reason.TheVariants as reason
 use Rattle.mas_reading.specs.declared.status.Status.{Status}
-use Rattle.mas_reading.specs.declared.status.Status.TheVariants.{Refused}
 use Rattle.mas_reading.specs.Files.{IsRefusal}
 use Rattle.mas_reading.specs.Known.{known}
 use Rattle.mas_reading.specs.Laws.{Surely}
 use Rattle.mas_reading.specs.Sources.{HasSource, FirstRefused, AreRefused}
 use Rattle.mas_reading.proofs.Unless.{unless}
 use Rattle.mas_reading.proofs.Single.{some_same, one_source, not_refused}
-use Rattle.mas_reading.proofs.Refusals.{OneStatus, Faulty, Large, FaultOf, there, one_status, file_one, calm, one_refusal as one_of_project}
+use Rattle.mas_reading.proofs.Refusals.{OneFault, file_one, calm, one_refusal as one_of_project}
 use Rattle.mas_opening.specs.Opening.{Setup, opening}
-use Rattle.mas_top.specs.Runs.{Wanted, IsIllegal, IsUnended, schedules, FileRefused, ScheduleRefused}
+use Rattle.mas_top.specs.Runs.{Wanted, IsStopped, schedules, FileRefused, ScheduleRefused}
+use Rattle.mas_top.specs.declared.playing.ScheduleFault.TheVariants as fault
 use Rattle.mas_top.specs.Laws.{OneRefusal}
 use Rattle.mas_report.proofs.Judged.{came_stuck, follows}
 use Rattle.mas_top.proofs.Followed.{names_fault, file_same, one_schedule}
 
 -- ---- the bytes of a schedule are refused in one way
-
--- why they are refused
-data Fault : Type 0 where
-  bad_line : ℕ → Fault
-  illegal : ℕ → Fault
-  unended : ℕ → Fault
 
 abbrev unread : ℕ → Result (List ℕ) ℕ
 unread n = No n
@@ -45,67 +41,52 @@ stuck_same : (n m : ℕ) → stuck n ≡ stuck m → n ≡ m
 stuck_same n m e = cc
 
 module _ (u : Setup) (source : Source) where
-  abbrev Has : List ℕ → Fault → Type 0
-  Has bytes (bad_line number) = IsBadLine bytes number
-  Has bytes (illegal place) = IsIllegal u source bytes place
-  Has bytes (unended agent) = IsUnended u source bytes agent
+  abbrev IsIllegal : List ℕ → ℕ → Type 0
+  IsIllegal bytes place = IsStopped u source bytes (play.Illegal place)
 
-  abbrev status_of : List ℕ → Fault → Status
-  status_of name (bad_line number) = Refused name number reason.Line
-  status_of name (illegal place) = Refused name place reason.Illegal
-  status_of name (unended agent) = Refused name agent reason.Unended
+  abbrev IsUnended : List ℕ → ℕ → Type 0
+  IsUnended bytes agent = IsStopped u source bytes (play.Unended agent)
 
-  abbrev is_there : (name bytes : List ℕ) (f : Fault) → Has bytes f → FaultOf Fault (Has bytes) (status_of name) (status_of name f)
-  is_there name bytes f h = there Fault (Has bytes) (status_of name) f h
-
-  faulty : Faulty (schedules u source) Fault Has status_of
-  faulty name bytes place reason.Byte h = absurd h
-  faulty name bytes place reason.String h = absurd h
-  faulty name bytes place reason.Comment h = absurd h
-  faulty name bytes place reason.Number h = absurd h
-  faulty name bytes place reason.Clause h = absurd h
-  faulty name bytes place (reason.Name x) h = absurd h
-  faulty name bytes place (reason.Option word) h = absurd h
-  faulty name bytes place (reason.Unbound x) h = absurd h
-  faulty name bytes place (reason.Artifact x) h = absurd h
-  faulty name bytes place reason.Line h = is_there name bytes (bad_line place) h
-  faulty name bytes place reason.Illegal h = is_there name bytes (illegal place) h
-  faulty name bytes place reason.Unended h = is_there name bytes (unended place) h
-
-  large : Large (schedules u source) Fault Has status_of
-  large name bytes quantity count h = absurd h
-
-  stuck_one : (bytes : List ℕ) (n m : ℕ) → IsIllegal u source bytes n → IsIllegal u source bytes m → n ≡ m
+  stuck_one : (bytes : List ℕ) (n m : ℕ) → IsIllegal bytes n → IsIllegal bytes m → n ≡ m
   stuck_one bytes n m h g =
       stuck_same n m
-      (sym h.stuck ∙ ap (follow agent_kind (opening u source) 1) (one_schedule bytes h.names g.names h.is g.is) ∙ g.stuck)
+      (sym h.stopped ∙ ap (follow agent_kind (opening u source) 1) (one_schedule bytes h.names g.names h.is g.is) ∙ g.stopped)
 
   -- where all numbers have their turn there is none that has not
-  stuck_stays : (bytes : List ℕ) (place agent : ℕ) → IsIllegal u source bytes place → IsUnended u source bytes agent → ⊥
+  stuck_stays : (bytes : List ℕ) (place agent : ℕ) → IsIllegal bytes place → IsUnended bytes agent → ⊥
   stuck_stays bytes place agent h g =
-      came_stuck g.stays.done place
-      (sym (follows agent_kind (opening u source) 1 g.names g.stays.done g.stays.ran)
-      ∙ ap (follow agent_kind (opening u source) 1) (one_schedule bytes g.names h.names g.is h.is) ∙ h.stuck)
+      came_stuck g.stopped.done place
+      (sym (follows agent_kind (opening u source) 1 g.names g.stopped.done g.stopped.ran)
+      ∙ ap (follow agent_kind (opening u source) 1) (one_schedule bytes g.names h.names g.is h.is) ∙ h.stopped)
 
-  stays_one : (bytes : List ℕ) (a b : ℕ) → IsUnended u source bytes a → IsUnended u source bytes b → a ≡ b
+  stays_one : (bytes : List ℕ) (a b : ℕ) → IsUnended bytes a → IsUnended bytes b → a ≡ b
   stays_one bytes a b h g =
       let e = one_schedule bytes h.names g.names h.is g.is in
-      let d = some_same (sym h.stays.ran ∙ ap (run agent_kind (opening u source)) e ∙ g.stays.ran) in
-      some_same (sym h.stays.first ∙ ap (λ p. first_here 1 p.board.seats) d ∙ g.stays.first)
+      let d = some_same (sym h.stopped.ran ∙ ap (run agent_kind (opening u source)) e ∙ g.stopped.ran) in
+      some_same (sym h.stopped.first ∙ ap (λ p. first_here 1 p.board.seats) d ∙ g.stopped.first)
 
-  fault_one : (bytes : List ℕ) (f g : Fault) → Has bytes f → Has bytes g → f ≡ g
-  fault_one bytes (bad_line n) (bad_line m) h g = ap bad_line (unread_same n m (one_answer bytes (No n) (No m) h g))
-  fault_one bytes (bad_line n) (illegal m) h g = absurd (names_fault g.names n (one_answer bytes (Yes g.names) (No n) g.is h))
-  fault_one bytes (bad_line n) (unended m) h g = absurd (names_fault g.names n (one_answer bytes (Yes g.names) (No n) g.is h))
-  fault_one bytes (illegal n) (bad_line m) h g = absurd (names_fault h.names m (one_answer bytes (Yes h.names) (No m) h.is g))
-  fault_one bytes (illegal n) (illegal m) h g = ap illegal (stuck_one bytes n m h g)
-  fault_one bytes (illegal n) (unended m) h g = absurd (stuck_stays bytes n m h g)
-  fault_one bytes (unended n) (bad_line m) h g = absurd (names_fault h.names m (one_answer bytes (Yes h.names) (No m) h.is g))
-  fault_one bytes (unended n) (illegal m) h g = absurd (stuck_stays bytes m n g h)
-  fault_one bytes (unended n) (unended m) h g = ap unended (stays_one bytes n m h g)
+  no_line : (bytes : List ℕ) (n : ℕ) (why : PlayFault) → IsBadLine bytes n → IsStopped u source bytes why → ⊥
+  no_line bytes n why h g = names_fault g.names n (one_answer bytes (Yes g.names) (No n) g.is h)
 
-  schedules_one : OneStatus (schedules u source)
-  schedules_one = one_status (schedules u source) Fault Has status_of faulty large fault_one
+  schedules_one : OneFault (schedules u source)
+  schedules_one name bytes (fault.Line line.Memory) g h k n m = absurd (n refl)
+  schedules_one name bytes (fault.Play play.Memory) g h k n m = absurd (n refl)
+  schedules_one name bytes (fault.Line (line.BadLine a)) (fault.Line line.Memory) h k n m = absurd (m refl)
+  schedules_one name bytes (fault.Line (line.BadLine a)) (fault.Line (line.BadLine b)) h k n m =
+      ap (λ x. fault.Line (line.BadLine x)) (unread_same a b (one_answer bytes (No a) (No b) h k))
+  schedules_one name bytes (fault.Line (line.BadLine a)) (fault.Play play.Memory) h k n m = absurd (m refl)
+  schedules_one name bytes (fault.Line (line.BadLine a)) (fault.Play (play.Illegal b)) h k n m = absurd (no_line bytes a (play.Illegal b) h k)
+  schedules_one name bytes (fault.Line (line.BadLine a)) (fault.Play (play.Unended b)) h k n m = absurd (no_line bytes a (play.Unended b) h k)
+  schedules_one name bytes (fault.Play (play.Illegal a)) (fault.Line line.Memory) h k n m = absurd (m refl)
+  schedules_one name bytes (fault.Play (play.Illegal a)) (fault.Line (line.BadLine b)) h k n m = absurd (no_line bytes b (play.Illegal a) k h)
+  schedules_one name bytes (fault.Play (play.Illegal a)) (fault.Play play.Memory) h k n m = absurd (m refl)
+  schedules_one name bytes (fault.Play (play.Illegal a)) (fault.Play (play.Illegal b)) h k n m = ap (λ x. fault.Play (play.Illegal x)) (stuck_one bytes a b h k)
+  schedules_one name bytes (fault.Play (play.Illegal a)) (fault.Play (play.Unended b)) h k n m = absurd (stuck_stays bytes a b h k)
+  schedules_one name bytes (fault.Play (play.Unended a)) (fault.Line line.Memory) h k n m = absurd (m refl)
+  schedules_one name bytes (fault.Play (play.Unended a)) (fault.Line (line.BadLine b)) h k n m = absurd (no_line bytes b (play.Unended a) k h)
+  schedules_one name bytes (fault.Play (play.Unended a)) (fault.Play play.Memory) h k n m = absurd (m refl)
+  schedules_one name bytes (fault.Play (play.Unended a)) (fault.Play (play.Illegal b)) h k n m = absurd (stuck_stays bytes b a k h)
+  schedules_one name bytes (fault.Play (play.Unended a)) (fault.Play (play.Unended b)) h k n m = ap (λ x. fault.Play (play.Unended x)) (stays_one bytes a b h k)
 
 -- ---- so is what is asked for
 

@@ -15,11 +15,11 @@ use Rattle.mas_report.specs.declared.reading.Told.{Told}
 use Rattle.mas_report.proofs.Shown.{one_shown, shown_printed}
 use Rattle.mas_reading.specs.declared.sources.Source.{Source}
 use Rattle.mas_reading.specs.declared.status.Status.{Status}
-use Rattle.mas_reading.specs.Files.{Has, HasFile, IsRefusal, IsUnfetched}
+use Rattle.mas_reading.specs.Files.{Has, HasFile, IsRefusal, unfetched, IsUnfetched}
 use Rattle.mas_reading.specs.Known.{known}
 use Rattle.mas_reading.specs.Projects.{most_cycles}
 use Rattle.mas_reading.specs.Sources.{HasSource, FirstRefused, AreRefused, UnlessMemory}
-use Rattle.mas_reading.proofs.Fetched.{unfetched, refusal_from}
+use Rattle.mas_reading.proofs.Fetched.{refusal_from}
 use Rattle.mas_reading.proofs.Unless.{unless, unless_as}
 use Rattle.mas_top.specs.Checking.{Asks, IsAllowed, IsOwn, Says, IsJudged, Claim, IsDecided, reports, ClaimRefused}
 use Rattle.mas_opening.specs.Opening.{setup, opening}
@@ -92,7 +92,7 @@ own_answer asks objects source bytes t (Err why) s a h = tt
 
 pub unread : (name : List ℕ) (held : Option (List Filed)) (before after : ℕ) (status : Status) → IsUnfetched 268435456 name held before after status →
     IsRefusal reports name held before after status
-unread = unfetched reports
+unread name held before after status h = unfetched h
 
 pub judged : (asks : Asks) (objects : List Used) (held : Option (List Filed)) (source : Source) (name bytes : List ℕ) (answer : Option (List ℕ)) →
     Has 268435456 held name (Bytes bytes) → IsJudged asks objects source bytes answer → HasFile most_bytes held name (λ b. IsJudged asks objects source b answer)

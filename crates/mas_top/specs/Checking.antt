@@ -91,9 +91,9 @@ pub record IsDecided (objects : List Used) (held : Option (List Filed)) (c : Cla
 
 -- ---- what is refused
 
--- of a report only that it is too long
+-- the bytes of a report have no fault
 abbrev pub reports : Reader
-reports = record { most = most_bytes; faulty = λ bytes place why. ⊥; large = λ bytes quantity count. ⊥ }
+reports = record { most = most_bytes; Fault = ⊥; faulty = λ bytes why. ⊥; status_of = λ name why. Memory }
 
 -- the source is described, and the report is not there or too long
 pub record ReportRefused (objects : List Used) (held : Option (List Filed)) (c : Claim) (before after : ℕ) (status : Status) : Type 0 where

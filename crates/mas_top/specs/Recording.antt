@@ -20,7 +20,7 @@ use Rattle.mas_recorded.specs.Runs.{WentOn}
 use Rattle.mas_keeping.specs.declared.keep.Keeping.{Keeping}
 use Rattle.mas_keeping.specs.declared.keep.Keeping.TheVariants.{Anew, On}
 use Rattle.mas_keeping.specs.Disks.{state_of}
-use Rattle.mas_keeping.specs.Keeping.{IsGoneOn, LeavesAll, IsKept, FileRefusedBy, IsSafe}
+use Rattle.mas_keeping.specs.Keeping.{IsGoneOn, LeavesAll, IsKept, KeepRefused, IsSafe}
 use Rattle.mas_top.specs.declared.recording.Recorded as code
 use Rattle.mas_top.specs.Caused.{Texts, ForFiles, ForEnded}
 use Rattle.mas_opening.specs.Opening.{Setup, opening}
@@ -87,7 +87,7 @@ pub record ProjectRefused (l : Lent) (u : Setup) (r : Recorded) (held : Option (
 pub record JournalRefused (l : Lent) (u : Setup) (r : Recorded) (held : Option (List Filed)) (status : Status) : Type 0 where
   pub source : Source
   pub has : HasSource (known u.objects) u.options.cycles held r.project source
-  pub why : FileRefusedBy agent_kind (opening u source) r.keeping r.file (before_of l) (after_of l) status
+  pub why : KeepRefused agent_kind (opening u source) r.keeping r.file (before_of l) (after_of l) status
 
 abbrev pub RecordRefused : Lent → Setup → Recorded → Option (List Filed) → ℕ → ℕ → Status → Type 0
 RecordRefused l u r held before after status = ProjectRefused l u r held before after status ⊎ JournalRefused l u r held status

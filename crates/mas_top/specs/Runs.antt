@@ -2,19 +2,24 @@
 use Rattle.std.specs.Prelude.{ℕ, ◌≡◌, ◌⊎◌, List, Option, Some}
 use Rattle.asl_term.specs.declared.syntax.Filed.{Filed}
 use Rattle.asl_cycle.specs.Agent.{agent_kind}
-use Rattle.mas_core.specs.Replay.{follow, Stuck, Stays}
+use Rattle.mas_core.specs.Replay.{Faulted}
+use Rattle.mas_core.specs.declared.replay.PlayFault.{PlayFault}
+use Rattle.mas_core.specs.declared.replay.PlayFault.TheVariants as play
 use Rattle.mas_report.specs.Limits.{IsFrom}
-use Rattle.mas_schedule.specs.Reading.{IsSchedule, IsBadLine}
+use Rattle.mas_schedule.specs.Reading.{IsSchedule, IsFaultAt}
+use Rattle.mas_schedule.specs.declared.reading.LineFault.TheVariants as line
 use Rattle.mas_reading.specs.declared.sources.Source.{Source}
-use Rattle.mas_reading.specs.declared.status.Reason.{Reason}
 use Rattle.mas_reading.specs.declared.status.Reason.TheVariants as reason
 use Rattle.mas_reading.specs.declared.status.Status.{Status}
+use Rattle.mas_reading.specs.declared.status.Status.TheVariants.{Refused, Memory}
 use Rattle.mas_reading.specs.Files.{HasFile, Reader, IsRefusal}
 use Rattle.mas_reading.specs.Known.{known}
 use Rattle.mas_reading.specs.Laws.{Surely}
 use Rattle.mas_reading.specs.Sources.{HasSource, FirstRefused, UnlessMemory}
 use Rattle.mas_opening.specs.Opening.{Setup, opening}
 use Rattle.mas_top.specs.Ways.{Way, alone, shared, along, way_of, Leads}
+use Rattle.mas_top.specs.declared.playing.ScheduleFault.{ScheduleFault}
+use Rattle.mas_top.specs.declared.playing.ScheduleFault.TheVariants as fault
 use Rattle.mas_top.specs.declared.playing.How as code
 use Rattle.mas_top.specs.declared.playing.How.TheVariants as code_variant
 
@@ -62,31 +67,27 @@ pub record HasGiven (u : Setup) (held : Option (List Filed)) (wanted : Wanted) (
 
 -- ---- what is refused of a schedule
 
--- at this place stands the first number that has no turn
-pub record IsIllegal (u : Setup) (source : Source) (bytes : List ℕ) (place : ℕ) : Type 0 where
+-- the bytes are a schedule whose numbers are no run of the source
+pub record IsStopped (u : Setup) (source : Source) (bytes : List ℕ) (why : PlayFault) : Type 0 where
   pub names : List ℕ
   pub is : IsSchedule bytes names
-  pub stuck : follow agent_kind (opening u source) 1 names ≡ Stuck place
+  pub stopped : Faulted agent_kind (opening u source) names why
 
--- all numbers have their turn, and this is the first agent that has not left then
-pub record IsUnended (u : Setup) (source : Source) (bytes : List ℕ) (agent : ℕ) : Type 0 where
-  pub names : List ℕ
-  pub is : IsSchedule bytes names
-  pub stays : Stays agent_kind (opening u source) names agent
+-- why the source is not run along the bytes; memory may lack anywhere
+abbrev pub IsUnfollowed : Setup → Source → List ℕ → ScheduleFault → Type 0
+IsUnfollowed u source bytes (fault.Line why) = IsFaultAt bytes why
+IsUnfollowed u source bytes (fault.Play why) = IsStopped u source bytes why
 
-abbrev pub ScheduleFault : Setup → Source → List ℕ → ℕ → Reason → Type 0
-ScheduleFault u source bytes line reason.Line = IsBadLine bytes line
-ScheduleFault u source bytes place reason.Illegal = IsIllegal u source bytes place
-ScheduleFault u source bytes agent reason.Unended = IsUnended u source bytes agent
-ScheduleFault u source bytes place other = ⊥
+abbrev pub schedule_status : List ℕ → ScheduleFault → Status
+schedule_status name (fault.Line line.Memory) = Memory
+schedule_status name (fault.Line (line.BadLine number)) = Refused name number reason.Line
+schedule_status name (fault.Play play.Memory) = Memory
+schedule_status name (fault.Play (play.Illegal place)) = Refused name place reason.Illegal
+schedule_status name (fault.Play (play.Unended agent)) = Refused name agent reason.Unended
 
 -- the reader of a schedule along which this source is run
 abbrev pub schedules : Setup → Source → Reader
-schedules u source = record {
-  most = most_bytes;
-  faulty = ScheduleFault u source;
-  large = λ bytes quantity count. ⊥;
-}
+schedules u source = record { most = most_bytes; Fault = ScheduleFault; faulty = IsUnfollowed u source; status_of = schedule_status }
 
 -- the source is described, and the file of the schedule is refused
 pub record ScheduleRefused (u : Setup) (held : Option (List Filed)) (wanted : Wanted) (before after : ℕ) (status : Status) : Type 0 where

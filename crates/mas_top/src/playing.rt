@@ -1,8 +1,7 @@
 //! What is asked for, from the files to the report.
 
-ghost use Rattle.std.specs.Prelude.{◌≡◌, ◌≤◌, IfOk, MatchResult};
+ghost use Rattle.std.specs.Prelude.{◌≡◌, ◌≤◌, IfErr, IfOk, MatchResult};
 ghost use Rattle.mas_report.specs.Limits.{IsFrom, IsWithin};
-ghost use Rattle.mas_schedule.specs.Reading.{IsSchedule};
 ghost use Rattle.mas_reading.specs.Files.{HasFile, IsRefusal};
 ghost use Rattle.mas_reading.specs.Known.{known};
 ghost use Rattle.mas_reading.specs.Sources.{AreRefused, HasSource};
@@ -10,12 +9,13 @@ ghost use Rattle.mas_top.specs.Caused.{ForFiles};
 ghost use Rattle.mas_opening.specs.Fits.{CanRun};
 ghost use Rattle.mas_top.specs.Headline.{IsRunReportOf};
 ghost use Rattle.mas_opening.specs.Opening.{objects_of, setup};
-ghost use Rattle.mas_top.specs.Playing as spec;
+ghost use Rattle.mas_top.specs.Playing.{ForSchedule};
+ghost use Rattle.mas_top.specs.Runs as spec;
 ghost use Rattle.mas_top.specs.Runs.{wanted, how_of, CanBe, GivenRefused, most_bytes, schedules};
 
 use crate::running::{Output, replay_source, run_source};
 use asl_term::copying::text_of;
-use asl_term::sequence::{Seq, Starved};
+use asl_term::sequence::Starved;
 use asl_term::syntax::Text;
 use mas_core::replay::PlayFault;
 use mas_going::gate::Gate;
@@ -42,6 +42,13 @@ pub enum How<'a> {
     Schedule(&'a [u8]),
 }
 
+/// Why bytes are no schedule along which a source is run to its end.
+#[derive(Clone, Copy, Debug, PartialEq, Eq, Drop)]
+pub enum ScheduleFault {
+    Line(LineFault),
+    Play(PlayFault),
+}
+
 fn refused(alloc: Global, name: &[u8], place: u64, why: Reason) -> Result<Status, Starved>
     ensures { IfOk result (λ s. s ≡ Status.Refused name.now place why) }
 {
@@ -49,49 +56,67 @@ fn refused(alloc: Global, name: &[u8], place: u64, why: Reason) -> Result<Status
     Ok(Status::Refused { file, place, why })
 }
 
-/// The status for the file of a schedule whose lines are none.
-fn line_status(alloc: Global, name: &[u8], why: LineFault) -> Result<Status, Starved>
-    ensures { IfOk result (λ s. s ≡ spec.line_status name.now why) }
+/// The status for the file of a schedule that is refused.
+fn schedule_status(alloc: Global, name: &[u8], why: ScheduleFault) -> Result<Status, Starved>
+    ensures { IfOk result (λ s. s ≡ spec.schedule_status name.now why) }
 {
     match why {
-        LineFault::Memory => Ok(Status::Memory),
-        LineFault::BadLine(number) => refused(alloc, name, number, Reason::Line),
+        ScheduleFault::Line(LineFault::Memory) => Ok(Status::Memory),
+        ScheduleFault::Line(LineFault::BadLine(number)) => refused(
+            alloc,
+            name,
+            number,
+            Reason::Line,
+        ),
+        ScheduleFault::Play(PlayFault::Memory) => Ok(Status::Memory),
+        ScheduleFault::Play(PlayFault::Illegal(place)) => refused(
+            alloc,
+            name,
+            place,
+            Reason::Illegal,
+        ),
+        ScheduleFault::Play(PlayFault::Unended(agent)) => refused(
+            alloc,
+            name,
+            agent as u64,
+            Reason::Unended,
+        ),
     }
 }
 
-/// The status for the file of a schedule that is no run.
-fn play_status(alloc: Global, name: &[u8], why: PlayFault) -> Result<Status, Starved>
-    ensures { IfOk result (λ s. s ≡ spec.play_status name.now why) }
+/// The report of the run of a source along the schedule in these bytes, or why there is none.
+#[tactic(auto, using(crate::proofs::Played::followed, crate::proofs::Played::stopped))]
+fn replay_bytes<A: Artifact>(
+    alloc: Global,
+    o: &Options,
+    source: Source,
+    artifacts: Vec<A>,
+    bytes: Text,
+) -> Result<Output, ScheduleFault>
+    requires within { IsWithin o.now }
+    requires can { CanRun (objects_of A.named A.table A.facts artifacts.items) source }
+    ensures ok { let u = setup o.now (objects_of A.named A.table A.facts artifacts.items) in
+        IfOk result (λ out. ForSchedule u source bytes out.spent out.text) }
+    ensures err { let u = setup o.now (objects_of A.named A.table A.facts artifacts.items) in
+        IfErr result (spec.IsUnfollowed u source bytes) }
 {
-    match why {
-        PlayFault::Memory => Ok(Status::Memory),
-        PlayFault::Illegal(place) => refused(alloc, name, place, Reason::Illegal),
-        PlayFault::Unended(agent) => refused(alloc, name, agent as u64, Reason::Unended),
-    }
-}
-
-/// The numbers of the schedule of the file of this name, or why its lines are none.
-#[tactic(auto, using(crate::proofs::Played::read_lines, crate::proofs::Played::bad_lines, crate::proofs::Played::no_lines))]
-fn schedule_of<S: Shelf>(alloc: Global, name: &[u8], shelf: &mut S) -> Result<Seq<u64>, Status>
-    ensures same { S.holds shelf.new ≡ S.holds shelf.old }
-    ensures later { S.faults shelf.old ≤ S.faults shelf.new }
-    ensures answer { let held = S.holds shelf.old in
-        MatchResult result
-        (λ names. HasFile most_bytes held name.now (λ bytes. IsSchedule bytes names))
-        (IsRefusal spec.lines name.now held (S.faults shelf.old) (S.faults shelf.new)) }
-{
-    let file = text_of(alloc, name)?;
-    match bytes_of(alloc, &file, MOST_BYTES, shelf) {
-        Err(status) => Err(status),
-        Ok(bytes) => match read_schedule(alloc, bytes.as_slice()) {
-            Ok(names) => Ok(names),
-            Err(why) => Err(line_status(alloc, name, why)?),
+    let read = read_schedule(alloc, bytes.as_slice());
+    drop(bytes);
+    match read {
+        Err(why) => {
+            drop(source);
+            drop(artifacts);
+            Err(ScheduleFault::Line(why))
+        }
+        Ok(names) => match replay_source(alloc, o, source, artifacts, &names) {
+            Ok(out) => Ok(out),
+            Err(why) => Err(ScheduleFault::Play(why)),
         },
     }
 }
 
 /// The report of the run of a source along the schedule of a file, or why the file is refused.
-#[tactic(auto, using(crate::proofs::Played::unread, crate::proofs::Played::followed, crate::proofs::Played::not_followed))]
+#[tactic(auto, using(crate::proofs::Played::unread, crate::proofs::Played::replayed_file, crate::proofs::Played::not_replayed))]
 fn replay_file<S: Shelf, A: Artifact>(
     alloc: Global,
     o: &Options,
@@ -107,18 +132,19 @@ fn replay_file<S: Shelf, A: Artifact>(
     ensures answer { let held = S.holds shelf.old in
         let u = setup o.now (objects_of A.named A.table A.facts artifacts.items) in
         MatchResult result
-        (λ out. spec.ForSchedule u held source name.now out.spent out.text)
+        (λ out. HasFile most_bytes held name.now (λ bytes. ForSchedule u source bytes out.spent out.text))
         (IsRefusal (schedules u source) name.now held (S.faults shelf.old) (S.faults shelf.new)) }
 {
-    match schedule_of(alloc, name, shelf) {
+    let file = text_of(alloc, name)?;
+    match bytes_of(alloc, &file, MOST_BYTES, shelf) {
         Err(status) => {
             drop(source);
             drop(artifacts);
             Err(status)
         }
-        Ok(names) => match replay_source(alloc, o, source, artifacts, &names) {
+        Ok(bytes) => match replay_bytes(alloc, o, source, artifacts, bytes) {
             Ok(out) => Ok(out),
-            Err(why) => Err(play_status(alloc, name, why)?),
+            Err(why) => Err(schedule_status(alloc, name, why)?),
         },
     }
 }

@@ -73,7 +73,7 @@ fn record_opened<R: Threads + Wait + Sync, M: Mind + Send, A: Artifact + Send, D
 }
 
 /// The report of the recorded run of a source.
-#[tactic(auto, using(mas_opening::proofs::Starts::starts, asl_cycle::proofs::Sends::agent_send))]
+#[tactic(auto, using(mas_opening::proofs::Starts::starts, asl_cycle::proofs::Sends::agent_send, mas_keeping::proofs::Kept::starved))]
 fn record_source<R: Threads + Wait + Sync, A: Artifact + Send, D: Disk + Send>(
     rt: &R,
     alloc: Global,

@@ -25,15 +25,17 @@ use Rattle.asl_intend.specs.declared.agenda.Error.TheVariants as error
 use Rattle.asl_intend.specs.declared.agenda.Agenda.{Agenda}
 use Rattle.asl_fail.specs.Fails.{fails, is_raised, raised, popped_one, dropped}
 use Rattle.asl_intend.specs.Stacks.{head, has_head, has_means, without_head, is_bounded, is_bounded_trigger}
-use Rattle.asl_exec.specs.declared.rows.Row.{Row}
-use Rattle.asl_exec.specs.declared.rows.Row.TheVariants as row
-use Rattle.asl_exec.specs.declared.went.Went.{Went}
-use Rattle.asl_exec.specs.declared.went.Went.TheVariants as went
+use Rattle.asl_state.specs.declared.rows.Row.{Row}
+use Rattle.asl_state.specs.declared.rows.Row.TheVariants as row
+use Rattle.asl_state.specs.declared.went.Went.{Went}
+use Rattle.asl_state.specs.declared.went.Went.TheVariants as went
 use Rattle.asl_exec.specs.Said.{print_text}
-use Rattle.asl_exec.specs.Parts.{Around, Parts, Made, made, failed}
+use Rattle.asl_state.specs.Parts.{Around, Parts, Made, made, failed}
 use Rattle.asl_exec.specs.Exec as spec
+use Rattle.asl_state.specs.Sought.{sought}
 use Rattle.asl_exec.specs.Clear as clearing
-use Rattle.asl_kqml.specs.declared.peers.Peers.{Peers}
+use Rattle.asl_state.specs.Emptied as emptying
+use Rattle.asl_state.specs.declared.peers.Peers.{Peers}
 use Rattle.asl_goals.specs.declared.acted.Acted.{Acted}
 use Rattle.asl_goals.specs.declared.acted.Acted.TheVariants as acted
 use Rattle.asl_goals.specs.Inside.{Did, act_inside}
@@ -162,7 +164,7 @@ module _ (k : Around) (p : Parts) (cur : List Means) where
 
   deeds : (c : CallOf Expr) → Named ≡ dropped_by_call c → Kept (deed_or c)
   deeds c is = either Kept (spec.is_deed c.name) (made p cur (went.Outer c)) (spec.searched k p cur c)
-      (record { sound = is; running = refl; held = none_held }) (answers (spec.sought k p (expr.Inner c)))
+      (record { sound = is; running = refl; held = none_held }) (answers (sought k p (expr.Inner c)))
 
   fails_or : (c : CallOf Expr) → Named ≡ dropped_by_call c → Kept (fails_first c)
   fails_or c is = either Kept (bytes_eq c.name (codes "fail")) (failed k row.IaFail error.IaFailed p cur) (deed_or c)
@@ -176,7 +178,7 @@ module _ (k : Around) (p : Parts) (cur : List Means) where
   formulas (formula.Act l) is = acts_by l (is_ground_literal l) refl
   formulas (formula.Achieve g) is = record { sound = tt; running = refl; held = none_held }
   formulas (formula.Spawn g) is = record { sound = tt; running = refl; held = none_held }
-  formulas (formula.Test g) is = tests g (spec.sought k p (expr.Holds g))
+  formulas (formula.Test g) is = tests g (sought k p (expr.Holds g))
   formulas (formula.Add b) is = adds (with_source b)
   formulas (formula.Del b) is = record { sound = tt; running = refl; held = none_held }
   formulas (formula.Replace b) is = replaces (with_source b)
@@ -218,34 +220,34 @@ module _ (k : Around) (p : Parts) (cur : List Means) where
   fell_back : (below : List Means) → Back (failed k row.ClrLimit error.TermLimit p below)
   fell_back below = stays (failed k row.ClrLimit error.TermLimit p below) tt (falls k p.number error.TermLimit p.agenda below)
 
-  pops : (below : List Means) (l : LiteralOf Term) → Back (clearing.popped k p l below)
-  pops below l = either Back (is_bounded (head below)) (clearing.done_below p l below) (failed k row.ClrLimit error.TermLimit p below)
-      (stays (clearing.done_below p l below) tt refl) (fell_back below)
+  pops : (below : List Means) (l : LiteralOf Term) → Back (emptying.popped k p l below)
+  pops below l = either Back (is_bounded (head below)) (emptying.done_below p l below) (failed k row.ClrLimit error.TermLimit p below)
+      (stays (emptying.done_below p l below) tt refl) (fell_back below)
 
-  empties : (c : List Means) → Back (clearing.emptied k p c)
-  empties [] = stays (clearing.emptied k p []) tt refl
-  empties (m ∷ []) = stays (clearing.emptied k p (m ∷ [])) tt refl
-  empties (m ∷ n ∷ below) = either Back (is_bounded_trigger m.trigger) (clearing.popped k p m.trigger.lit (n ∷ below))
+  empties : (c : List Means) → Back (emptying.emptied k p c)
+  empties [] = stays (emptying.emptied k p []) tt refl
+  empties (m ∷ []) = stays (emptying.emptied k p (m ∷ [])) tt refl
+  empties (m ∷ n ∷ below) = either Back (is_bounded_trigger m.trigger) (emptying.popped k p m.trigger.lit (n ∷ below))
       (failed k row.ClrLimit error.TermLimit p (n ∷ below)) (pops (n ∷ below) m.trigger.lit) (fell_back (n ∷ below))
 
   clear_keeps : Back (clearing.clear k p cur)
   unfolding clearing.clear
-  clear_keeps = either Back (has_head cur) (clearing.waits p cur) (clearing.emptied k p cur) (tt, (cur ∷ [], refl)) (empties cur)
+  clear_keeps = either Back (has_head cur) (clearing.waits p cur) (emptying.emptied k p cur) (tt, (cur ∷ [], refl)) (empties cur)
 
   -- Clr hands no action on
-  pops_held : (below : List Means) (l : LiteralOf Term) → IsHeld p (clearing.popped k p l below)
-  pops_held below l = either (IsHeld p) (is_bounded (head below)) (clearing.done_below p l below) (failed k row.ClrLimit error.TermLimit p below)
+  pops_held : (below : List Means) (l : LiteralOf Term) → IsHeld p (emptying.popped k p l below)
+  pops_held below l = either (IsHeld p) (is_bounded (head below)) (emptying.done_below p l below) (failed k row.ClrLimit error.TermLimit p below)
       none_held (fell_held row.ClrLimit error.TermLimit below)
 
-  empties_held : (c : List Means) → IsHeld p (clearing.emptied k p c)
+  empties_held : (c : List Means) → IsHeld p (emptying.emptied k p c)
   empties_held [] = none_held
   empties_held (m ∷ []) = none_held
-  empties_held (m ∷ n ∷ below) = either (IsHeld p) (is_bounded_trigger m.trigger) (clearing.popped k p m.trigger.lit (n ∷ below))
+  empties_held (m ∷ n ∷ below) = either (IsHeld p) (is_bounded_trigger m.trigger) (emptying.popped k p m.trigger.lit (n ∷ below))
       (failed k row.ClrLimit error.TermLimit p (n ∷ below)) (pops_held (n ∷ below) m.trigger.lit) (fell_held row.ClrLimit error.TermLimit (n ∷ below))
 
   pub clear_held : IsHeld p (clearing.clear k p cur)
   unfolding clearing.clear
-  clear_held = either (IsHeld p) (has_head cur) (clearing.waits p cur) (clearing.emptied k p cur) none_held (empties_held cur)
+  clear_held = either (IsHeld p) (has_head cur) (clearing.waits p cur) (emptying.emptied k p cur) none_held (empties_held cur)
 
   pub clear_ground : IsGround (clear_step k p cur).next.after
   clear_ground = leads Named (clearing.clear k p cur).went clear_keeps.0

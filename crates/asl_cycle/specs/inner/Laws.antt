@@ -9,8 +9,8 @@ use Rattle.asl_intend.specs.declared.entry.Means.{Means}
 use Rattle.asl_intend.specs.declared.agenda.Event.{Event}
 use Rattle.asl_intend.specs.declared.agenda.Acting.{Acting}
 use Rattle.asl_beliefs.specs.Changes.{updated}
-use Rattle.asl_exec.specs.declared.rows.Row.TheVariants as row
-use Rattle.asl_exec.specs.Parts.{Around, Parts, believing}
+use Rattle.asl_state.specs.declared.rows.Row.TheVariants as row
+use Rattle.asl_state.specs.Parts.{Around, Parts, believing}
 use Rattle.mas_mind.specs.declared.mind.Thought.{Thought}
 use Rattle.mas_mind.specs.declared.mind.Thought.TheVariants as thought
 use Rattle.mas_mind.specs.declared.mind.Feedback.{Feedback}
@@ -18,7 +18,7 @@ use Rattle.mas_mind.specs.declared.mind.Feedback.TheVariants as feedback
 use Rattle.mas_mind.specs.declared.mind.Input.{Input}
 use Rattle.mas_mind.specs.declared.mind.Message.{Message}
 use Rattle.mas_mind.specs.Minds.{Grows, AreLawful, IsAgent, IsFor, IsFrom, is_quiet, SendsNothing}
-use Rattle.asl_kqml.specs.declared.peers.Peers.{Peers}
+use Rattle.asl_state.specs.declared.peers.Peers.{Peers}
 use Rattle.asl_cycle.specs.declared.rows.Line.{Line}
 use Rattle.asl_cycle.specs.declared.rows.Line.TheVariants as line
 use Rattle.asl_cycle.specs.declared.rows.Sofar.{Sofar}

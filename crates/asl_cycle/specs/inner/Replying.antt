@@ -16,18 +16,19 @@ use Rattle.asl_resolve.specs.declared.answers.Answers.TheVariants as answers
 use Rattle.asl_intend.specs.declared.entry.Means.{Means}
 use Rattle.asl_intend.specs.declared.agenda.Ask.{Ask}
 use Rattle.asl_intend.specs.Agendas.{ask_of, without_ask}
-use Rattle.asl_exec.specs.declared.rows.Row.{Row}
-use Rattle.asl_exec.specs.declared.rows.Row.TheVariants as row
-use Rattle.asl_exec.specs.Parts.{Around, Parts, with_agenda, with_number}
-use Rattle.asl_exec.specs.Exec.{sought}
+use Rattle.asl_state.specs.declared.rows.Row.{Row}
+use Rattle.asl_state.specs.declared.rows.Row.TheVariants as row
+use Rattle.asl_state.specs.Parts.{Around, Parts, with_agenda, with_number}
+use Rattle.asl_state.specs.Sought.{sought}
 use Rattle.mas_mind.specs.declared.mind.Message.{Message}
 use Rattle.mas_mind.specs.declared.mind.Verb.{Verb}
 use Rattle.mas_mind.specs.declared.mind.Verb.TheVariants as verb
 use Rattle.mas_mind.specs.Minds.{IsAgent, IsFrom}
-use Rattle.asl_kqml.specs.declared.peers.Peers.{Peers}
+use Rattle.asl_state.specs.declared.peers.Peers.{Peers}
 use Rattle.asl_kqml.specs.declared.took.Took.{Took}
 use Rattle.asl_kqml.specs.declared.took.Took.TheVariants as took
-use Rattle.asl_kqml.specs.Contents.{agent_name, literal_of, literals_of, ground_literals, is_nothing}
+use Rattle.asl_state.specs.Contents.{agent_name, literal_of, literals_of, ground_literals}
+use Rattle.asl_kqml.specs.Contents.{is_nothing}
 use Rattle.asl_kqml.specs.Receive as spec
 use Rattle.asl_kqml.specs.Receive.{Received}
 

@@ -5,10 +5,10 @@ use Rattle.std.proofs.lemmas.List.Elements.{All-nil, All-cons, All-append}
 use Rattle.asl_term.specs.Exprs.{is_ground_literal}
 use Rattle.asl_intend.specs.declared.entry.Means.{Means}
 use Rattle.asl_intend.specs.declared.agenda.Event.{Event}
-use Rattle.asl_exec.specs.declared.rows.Row.TheVariants as row
-use Rattle.asl_exec.specs.declared.went.Went.{Went}
-use Rattle.asl_exec.specs.declared.went.Went.TheVariants as went
-use Rattle.asl_exec.specs.Parts.{Around, Parts, Made}
+use Rattle.asl_state.specs.declared.rows.Row.TheVariants as row
+use Rattle.asl_state.specs.declared.went.Went.{Went}
+use Rattle.asl_state.specs.declared.went.Went.TheVariants as went
+use Rattle.asl_state.specs.Parts.{Around, Parts, Made}
 use Rattle.asl_exec.specs.Exec.{exec}
 use Rattle.mas_mind.specs.declared.mind.Message.{Message}
 use Rattle.mas_mind.specs.declared.mind.Outs.{Outs}
@@ -16,7 +16,7 @@ use Rattle.mas_mind.specs.declared.mind.Thought.{Thought}
 use Rattle.mas_mind.specs.declared.mind.Thought.TheVariants as thought
 use Rattle.mas_mind.specs.declared.mind.Feedback.{Feedback}
 use Rattle.mas_mind.specs.Minds.{IsAgent, IsFrom, AreEmpty}
-use Rattle.asl_kqml.specs.declared.peers.Peers.{Peers}
+use Rattle.asl_state.specs.declared.peers.Peers.{Peers}
 use Rattle.asl_kqml.specs.declared.took.Took.{Took}
 use Rattle.asl_kqml.specs.declared.took.Took.TheVariants as took
 use Rattle.asl_kqml.specs.Receive.{receive}

@@ -1,8 +1,8 @@
 -- AskAll and AskSpent, by the list of the goal over all solutions.
 use Rattle.std.specs.Prelude.{ℕ}
 use Rattle.asl_unify.specs.Puts.{nil}
-use Rattle.asl_exec.specs.Parts.{Parts}
-use Rattle.asl_exec.specs.declared.rows.Row.TheVariants as row
+use Rattle.asl_state.specs.Parts.{Parts}
+use Rattle.asl_state.specs.declared.rows.Row.TheVariants as row
 use Rattle.asl_resolve.specs.declared.answers.Listed.{Listed}
 use Rattle.asl_resolve.specs.declared.answers.Listed.TheVariants as listed
 use Rattle.mas_mind.specs.declared.mind.Message.{Message}

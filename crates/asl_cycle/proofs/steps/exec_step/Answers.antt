@@ -1,13 +1,13 @@
-use Rattle.asl_exec.specs.Parts.{around, parts}
+use Rattle.asl_state.specs.Parts.{seen_around, seen}
 use Rattle.asl_cycle.proofs.Moving.{exec_ends}
 use Rattle.asl_cycle.proofs.steps.exec_step.Goals as goal
 
 pub returns-in_default-clause-made : goal.returns-in_default-clause-made
 returns-in_default-clause-made g c =
     let a = c.args in
-    let e = around a.k.now.lib.plans (g.B.BeliefBase.rules a.p.now.beliefs) (g.A.Actions.solve a.k.now.actions) a.k.now.budgets in
-    let old = parts (g.B.BeliefBase.beliefs a.p.now.beliefs) a.p.now.agenda a.p.now.number in
+    let e = seen_around g.A.Actions.solve a.k.now g.B.BeliefBase.rules a.p.now in
+    let old = seen g.B.BeliefBase.beliefs a.p.now in
     let q = c.exec.new.p in
-    let new = parts (g.B.BeliefBase.beliefs q.beliefs) q.agenda q.number in
+    let new = seen g.B.BeliefBase.beliefs q in
     exec_ends e a.peers.now old new a.sofar.now c.put_went.new.sofar a.cur.now c.exec.new.cur c.in_ok-other.other c.put_went.result
     c.in_ok-other.ensures.made c.in_default.not-Outer c.put_went.ensures.lines c.put_went.ensures.leads

@@ -3,7 +3,7 @@ use Rattle.std.proofs.lemmas.Iterator.Adapters.{YieldsList-from_vec}
 use Rattle.std.proofs.lemmas.Iterator.Consumers.{YieldsList-end}
 use Rattle.asl_term.specs.declared.syntax.Clause.{Clause}
 use Rattle.asl_intend.specs.declared.agenda.Ask.{Ask}
-use Rattle.asl_exec.specs.Parts.{Parts, around}
+use Rattle.asl_state.specs.Parts.{Parts, around}
 use Rattle.asl_goals.specs.Goals.{from_lowest, taken_out, with_asks}
 use Rattle.asl_goals.proofs.Folds.{goes_on_as, finished}
 use Rattle.asl_goals.proofs.sweep.sweep_asks.Goals as goal

@@ -3,7 +3,7 @@ use Rattle.std.proofs.lemmas.Iterator.Adapters.{YieldsList-from_vec}
 use Rattle.std.proofs.lemmas.Iterator.Consumers.{YieldsList-end}
 use Rattle.asl_term.specs.declared.syntax.Clause.{Clause}
 use Rattle.asl_intend.specs.declared.agenda.Event.{Event}
-use Rattle.asl_exec.specs.Parts.{Parts, around, parts}
+use Rattle.asl_state.specs.Parts.{Parts, around, seen}
 use Rattle.asl_goals.specs.Goals.{from_lowest, taken_out, with_events}
 use Rattle.asl_goals.proofs.Folds.{goes_on_as, finished}
 use Rattle.asl_goals.proofs.sweep.sweep_events.Goals as goal
@@ -31,6 +31,6 @@ returns-clause-made g c =
     let items = c.into_vec-event-items.ensures ∙ c.take_all-events.ensures.items in
     let e = YieldsList-end (YieldsList-from_vec all (i.0 ∙ items) (n ∙ ap length items)) l.yielded l.event-iterator l.yielded_by c.next.result c.next.new.self c.in-None.is c.next.ensures.steps in
     let s = finished _ _ _ _ _ _ _ _ l.invariant.sofar (sym (map-id l.yielded) ∙ e.0) in
-    let now = parts (g.B.BeliefBase.beliefs l.p.beliefs) l.p.agenda l.p.number in
+    let now = seen g.B.BeliefBase.beliefs l.p in
     let whole = c.from_seq.ensures ∙ c.in_ok-append_all.ensures.ok ∙ ap (λ z. l.left ++ z) c.take_all-posted.ensures.items in
     (ap (with_events now) whole ∙ (λ j. with_events (s.parts j) (s.left j ++ (s.parts j).agenda.events)), s.fell)

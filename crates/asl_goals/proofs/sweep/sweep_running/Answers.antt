@@ -3,7 +3,7 @@ use Rattle.std.proofs.lemmas.Iterator.Adapters.{YieldsList-from_vec}
 use Rattle.std.proofs.lemmas.Iterator.Consumers.{YieldsList-end}
 use Rattle.asl_term.specs.declared.syntax.Clause.{Clause}
 use Rattle.asl_intend.specs.declared.entry.Means.{Means}
-use Rattle.asl_exec.specs.Parts.{Parts, around}
+use Rattle.asl_state.specs.Parts.{Parts, around}
 use Rattle.asl_goals.specs.Goals.{from_lowest, in_place, with_running}
 use Rattle.asl_goals.proofs.Folds.{goes_on_as, finished}
 use Rattle.asl_goals.proofs.sweep.sweep_running.Goals as goal

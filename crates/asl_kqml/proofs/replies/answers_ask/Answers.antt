@@ -1,5 +1,5 @@
 use Rattle.std.proofs.Common.{◌∙◌, ap, sym}
-use Rattle.asl_exec.specs.Parts as parts
+use Rattle.asl_state.specs.Parts as parts
 use Rattle.asl_kqml.specs.Receive as spec
 use Rattle.asl_kqml.proofs.Unasked.{no_ask}
 use Rattle.asl_kqml.proofs.replies.answers_ask.Goals as goal
@@ -7,7 +7,7 @@ use Rattle.asl_kqml.proofs.replies.answers_ask.Goals as goal
 pub returns-in-None-clause-made : goal.returns-in-None-clause-made
 returns-in-None-clause-made g c =
     let a = c.args in
-    let k = parts.around a.k.now.lib.plans (g.B.BeliefBase.rules a.p.now.beliefs) (g.A.Actions.solve a.k.now.actions) a.k.now.budgets in
-    let p = parts.parts (g.B.BeliefBase.beliefs a.p.now.beliefs) a.p.now.agenda a.p.now.number in
+    let k = parts.seen_around g.A.Actions.solve a.k.now g.B.BeliefBase.rules a.p.now in
+    let p = parts.seen g.B.BeliefBase.beliefs a.p.now in
     no_ask k p a.number a.content.now c.take_ask.new.self c.in-None.ensures.value c.in-None.ensures.rest
     ∙ ap (spec.received (parts.with_agenda p c.take_ask.new.self)) (sym c.by.ensures)

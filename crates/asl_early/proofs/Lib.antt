@@ -1,0 +1,4 @@
+pub mod Refused
+pub mod Apart
+pub mod Arithmetic
+pub mod Stays

@@ -1,0 +1,3 @@
+pub mod Clashes
+pub mod Numbers
+pub mod Plain
