@@ -1,8 +1,7 @@
 -- Stacks that have a goal which a literal names: the first of them, and what becomes of each.
-use Rattle.std.specs.Prelude.{Bool, ◌&&◌, cond, List, [], ◌∷◌, ◌++◌, slice_get, Option, None, Some}
+use Rattle.std.specs.Prelude.{Bool, cond, List, [], ◌∷◌, ◌++◌, Option, None, Some}
 use Rattle.asl_term.specs.declared.syntax.LiteralOf.{LiteralOf}
 use Rattle.asl_term.specs.declared.syntax.Term.{Term}
-use Rattle.asl_term.specs.declared.syntax.Trigger.{Trigger}
 use Rattle.asl_unify.specs.declared.subst.Pair.{Pair}
 use Rattle.asl_intend.specs.declared.entry.Means.{Means}
 use Rattle.asl_intend.specs.declared.agenda.Event.{Event}

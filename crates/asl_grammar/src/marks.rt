@@ -14,6 +14,7 @@ use asl_term::sequence::Starved;
 use asl_term::syntax::{Kind, Text};
 use std::alloc::Global;
 
+/// Behind the `@` of a label. A plan may be without one.
 pub fn after_at(tokens: &[Lexeme]) -> Option<&[Lexeme]>
     ensures { view_rest result ≡ spec.after_at tokens.now }
 {
@@ -23,6 +24,7 @@ pub fn after_at(tokens: &[Lexeme]) -> Option<&[Lexeme]>
     }
 }
 
+/// Behind the `!` that begins the clause of an initial goal.
 pub fn after_bang(tokens: &[Lexeme]) -> Option<&[Lexeme]>
     ensures { view_rest result ≡ spec.after_bang tokens.now }
 {
@@ -32,6 +34,7 @@ pub fn after_bang(tokens: &[Lexeme]) -> Option<&[Lexeme]>
     }
 }
 
+/// Behind the `:-` of a rule. A clause without it is a belief.
 pub fn after_if(tokens: &[Lexeme]) -> Option<&[Lexeme]>
     ensures { view_rest result ≡ spec.after_if tokens.now }
 {
@@ -41,6 +44,7 @@ pub fn after_if(tokens: &[Lexeme]) -> Option<&[Lexeme]>
     }
 }
 
+/// Behind the `:` of a context, which is `true` where none is written.
 pub fn after_colon(tokens: &[Lexeme]) -> Option<&[Lexeme]>
     ensures { view_rest result ≡ spec.after_colon tokens.now }
 {
@@ -50,6 +54,7 @@ pub fn after_colon(tokens: &[Lexeme]) -> Option<&[Lexeme]>
     }
 }
 
+/// Behind the `<-` of a body, which is empty where none is written.
 pub fn after_arrow(tokens: &[Lexeme]) -> Option<&[Lexeme]>
     ensures { view_rest result ≡ spec.after_arrow tokens.now }
 {
@@ -59,6 +64,7 @@ pub fn after_arrow(tokens: &[Lexeme]) -> Option<&[Lexeme]>
     }
 }
 
+/// Behind the `;` of a body: one more item has to follow.
 pub fn after_semicolon(tokens: &[Lexeme]) -> Option<&[Lexeme]>
     ensures { view_rest result ≡ spec.after_semicolon tokens.now }
 {
@@ -68,6 +74,7 @@ pub fn after_semicolon(tokens: &[Lexeme]) -> Option<&[Lexeme]>
     }
 }
 
+/// Whether only the dot is left that ends the clause. If anything else is left, it is no clause.
 pub fn is_last(tokens: &[Lexeme]) -> bool
     ensures { result ≡ spec.is_last tokens.now }
 {
@@ -99,6 +106,7 @@ fn adds_of(token: &Lexeme) -> Option<bool>
     }
 }
 
+/// The sign of a trigger, true for `+`, and what is behind it. Each trigger begins with one.
 pub fn add_at(tokens: &[Lexeme]) -> Option<(bool, &[Lexeme])>
     ensures { view_front result ≡ spec.first_of grammar.adds_of tokens.now }
 {
@@ -111,6 +119,8 @@ pub fn add_at(tokens: &[Lexeme]) -> Option<(bool, &[Lexeme])>
     }
 }
 
+/// The kind of a trigger, and what is behind it: `!` is of a goal to achieve, `?` of a question,
+/// and without either it is of a belief.
 pub fn kind_at(tokens: &[Lexeme]) -> (Kind, &[Lexeme])
     ensures { spec.view_kind result ≡ spec.kind_at tokens.now }
 {
@@ -135,6 +145,8 @@ fn deed_of(token: &Lexeme) -> Option<Deed>
     }
 }
 
+/// The sign that an item of a body begins with, and what is behind it. Relations, actions, internal
+/// actions and `true` have none.
 pub fn deed_at(tokens: &[Lexeme]) -> Option<(Deed, &[Lexeme])>
     ensures { view_front result ≡ spec.first_of grammar.deed_of tokens.now }
 {

@@ -201,6 +201,7 @@ fn settle(s: Sentence) -> HeldSentence
     }
 }
 
+/// An initial goal. `Past` where its literal is past the limits of trees.
 pub fn goal_of(l: HeldLiteral) -> HeldSentence
     ensures { result ≡ spec.goal_of limited l }
 {
@@ -216,6 +217,8 @@ fn small_fact(alloc: Global, l: Literal) -> Result<HeldSentence, Starved>
     Ok(settle(fact(alloc, l)?))
 }
 
+/// A belief, or where it has a variable a rule with the body `true`; each annotation is kept once.
+/// `Starved` comes only when memory runs out.
 pub fn fact_of(alloc: Global, l: HeldLiteral) -> Result<HeldSentence, Starved>
     ensures { IfOk result (λ r. r ≡ spec.fact_of limited l) }
 {
@@ -225,6 +228,7 @@ pub fn fact_of(alloc: Global, l: HeldLiteral) -> Result<HeldSentence, Starved>
     }
 }
 
+/// A rule of its head and its body. Where one of them is past the limits of trees, neither is kept.
 pub fn rule_with(head: HeldLiteral, body: HeldExpr) -> HeldSentence
     ensures { result ≡ spec.rule_with limited head body }
 {
@@ -265,6 +269,7 @@ fn small_plan(
     }
 }
 
+/// A plan of its parts. Where one of them is past the limits of trees, none of them is kept.
 pub fn plan_with(
     label: Option<Text>,
     trigger: HeldTrigger,

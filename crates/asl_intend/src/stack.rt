@@ -105,6 +105,8 @@ fn any_names(alloc: Global, entries: &[Entry], log: &[Subst], g: &Literal) -> Re
 }
 
 impl Stack {
+    /// No means, as of an intention that has come to its end. It takes no memory before the first
+    /// are put on it.
     pub fn new(alloc: Global) -> Stack
         ensures { result ≡ [] }
     {

@@ -29,6 +29,8 @@ fn atom_word(text: &[u8]) -> Word
     Word::Atom
 }
 
+/// The word that a token is. `not`, `div`, `mod`, `true` and `false` are words of their own,
+/// and no atoms.
 pub fn word(t: &Tok) -> Word
     ensures { result ≡ spec.word t.now }
 {

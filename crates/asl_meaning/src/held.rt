@@ -20,6 +20,8 @@ use std::alloc::Global;
 
 // ---- outlines
 
+/// The outline of a term that is no literal: it stands only where a term is wanted. `plain` tells
+/// that it holds no arithmetic.
 pub fn term_outline(plain: bool) -> Outline
     ensures { result ≡ spec.term_outline plain }
 {
@@ -59,6 +61,8 @@ fn relation_outline() -> Outline
     }
 }
 
+/// The outline of a call of an internal action: an item of a body, and a formula too where the
+/// action is pure.
 pub fn call_outline(pure: bool) -> Outline
     ensures { result ≡ spec.call_outline pure }
 {
@@ -85,6 +89,8 @@ fn truth_outline(action: bool) -> Outline
     }
 }
 
+/// The outline of a literal, which may stand as a term and as a formula; as an item of a body
+/// without a sign only where it is an action.
 pub fn literal_outline(action: bool, plain: bool) -> Outline
     ensures { result ≡ spec.literal_outline action plain }
 {

@@ -43,6 +43,8 @@ pub enum Start {
     Other,
 }
 
+/// Behind a comma at the front: one more argument, annotation, item of a list, or effect
+/// has to follow.
 pub fn after_comma(tokens: &[Lexeme]) -> Option<&[Lexeme]>
     ensures { view_rest result ≡ spec.after_comma tokens.now }
 {
@@ -52,6 +54,7 @@ pub fn after_comma(tokens: &[Lexeme]) -> Option<&[Lexeme]>
     }
 }
 
+/// Behind the `|` before the tail of a list. Between formulas the same sign is an operator.
 pub fn after_bar(tokens: &[Lexeme]) -> Option<&[Lexeme]>
     ensures { view_rest result ≡ spec.after_bar tokens.now }
 {
@@ -61,6 +64,7 @@ pub fn after_bar(tokens: &[Lexeme]) -> Option<&[Lexeme]>
     }
 }
 
+/// Behind the `~` of a literal that is said to be false.
 pub fn after_tilde(tokens: &[Lexeme]) -> Option<&[Lexeme]>
     ensures { view_rest result ≡ spec.after_tilde tokens.now }
 {
@@ -70,6 +74,7 @@ pub fn after_tilde(tokens: &[Lexeme]) -> Option<&[Lexeme]>
     }
 }
 
+/// Behind an opening bracket of this shape. How many brackets may be open is not asked here.
 pub fn after_open(shape: Shape, tokens: &[Lexeme]) -> Option<&[Lexeme]>
     ensures { view_rest result ≡ spec.after_open shape tokens.now }
 {
@@ -80,6 +85,7 @@ pub fn after_open(shape: Shape, tokens: &[Lexeme]) -> Option<&[Lexeme]>
     }
 }
 
+/// Behind a closing bracket of this shape. One of the other shape does not close it.
 pub fn after_close(shape: Shape, tokens: &[Lexeme]) -> Option<&[Lexeme]>
     ensures { view_rest result ≡ spec.after_close shape tokens.now }
 {
@@ -90,6 +96,8 @@ pub fn after_close(shape: Shape, tokens: &[Lexeme]) -> Option<&[Lexeme]>
     }
 }
 
+/// The name of a literal, and what is behind it. `not`, `div`, `mod`, `true` and `false`
+/// are no names.
 pub fn name_at(tokens: &[Lexeme]) -> Option<(&Text, &[Lexeme])>
     ensures { view_text result ≡ spec.name_at tokens.now }
 {
@@ -99,6 +107,7 @@ pub fn name_at(tokens: &[Lexeme]) -> Option<(&Text, &[Lexeme])>
     }
 }
 
+/// The name of a variable, and what is behind it. Each `_` of a clause has a name of its own here.
 pub fn variable_at(tokens: &[Lexeme]) -> Option<(&Text, &[Lexeme])>
     ensures { view_text result ≡ spec.variable_at tokens.now }
 {
@@ -108,6 +117,8 @@ pub fn variable_at(tokens: &[Lexeme]) -> Option<(&Text, &[Lexeme])>
     }
 }
 
+/// The name of an internal action without its dot, and what is behind it. Whether there is such an
+/// action is asked with its arguments, by `called`.
 pub fn inner_at(tokens: &[Lexeme]) -> Option<(&Text, &[Lexeme])>
     ensures { view_text result ≡ spec.inner_at tokens.now }
 {
@@ -132,6 +143,8 @@ fn joint_of(level: Level, token: &Lexeme) -> Option<Joint>
     }
 }
 
+/// The operator of this level at the front, and what is behind it. None where the chain of operands
+/// of this level ends.
 pub fn joint_at(level: Level, tokens: &[Lexeme]) -> Option<(Joint, &[Lexeme])>
     ensures { view_front result ≡ spec.joint_at level tokens.now }
 {
@@ -159,6 +172,8 @@ fn relation_of(token: &Lexeme) -> Option<RelOp>
     }
 }
 
+/// The sign of a relation, and what is behind it. It stands between two sums, whose
+/// operators bind closer.
 pub fn relation_at(tokens: &[Lexeme]) -> Option<(RelOp, &[Lexeme])>
     ensures { view_front result ≡ spec.relation_at tokens.now }
 {
@@ -190,6 +205,8 @@ fn is_prefix(prefix: Prefix, token: &Lexeme, rest: &[Lexeme]) -> bool
     }
 }
 
+/// Behind a `not` or a minus at the front. A minus before a number is no prefix, but part
+/// of the number.
 pub fn after_prefix(prefix: Prefix, tokens: &[Lexeme]) -> Option<&[Lexeme]>
     ensures { view_rest result ≡ spec.after_prefix prefix tokens.now }
 {
@@ -205,6 +222,8 @@ pub fn after_prefix(prefix: Prefix, tokens: &[Lexeme]) -> Option<&[Lexeme]>
     }
 }
 
+/// How the primary at the front begins, by its first token. `Other` is a number, a string, a
+/// variable, `true` or `false`, and what begins none.
 pub fn start_of(tokens: &[Lexeme]) -> Start
     ensures { result ≡ spec.start_of tokens.now }
 {
@@ -256,6 +275,8 @@ fn negative_at(tokens: &[Lexeme]) -> Option<(Held, &[Lexeme])>
     }
 }
 
+/// A variable as it stands in a source, with the number 0. `Starved` comes only when
+/// memory runs out.
 pub fn variable(alloc: Global, name: &Text) -> Result<Term, Starved>
     ensures { IfOk result (λ t. t ≡ spec.variable name.now) }
 {

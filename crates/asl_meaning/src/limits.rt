@@ -12,18 +12,22 @@ use asl_term::expr_measure::{expr_depth, expr_size};
 use asl_term::measure::{depth, literal_depth, literal_size, size};
 use asl_term::syntax::{Arg, ArgOf, Call, Expr, Literal, Relation, Term};
 
+/// Whether a term has at most 10,000 nodes and at most 250 levels. What is past them is read,
+/// and not kept.
 pub fn within_term(t: &Term) -> bool
     ensures { result ≡ spec.within_term t.now }
 {
     size(t) <= 10_000 && depth(t) <= 250
 }
 
+/// Whether a literal is within the limits of a term. Its annotations count as its arguments do.
 pub fn within_literal(l: &Literal) -> bool
     ensures { result ≡ spec.within_literal l.now }
 {
     literal_size(l) <= 10_000 && literal_depth(l) <= 250
 }
 
+/// Whether a formula has at most 10,000 nodes and at most 250 levels, the trees in it included.
 pub fn within_expr(e: &Expr) -> bool
     ensures { result ≡ spec.within_expr e.now }
 {
@@ -72,6 +76,7 @@ fn call_depth(c: &Call) -> u64
     1u64.saturating_add(args_depth(c.args.as_slice()))
 }
 
+/// Whether a call of an internal action is within the limits of a formula, which it counts as.
 pub fn within_call(c: &Call) -> bool
     ensures { result ≡ spec.within_expr (expr.Inner c.now) }
 {
@@ -93,6 +98,7 @@ fn relation_depth(r: &Relation) -> u64
     1u64.saturating_add(depth(&r.left).max(depth(&r.right)))
 }
 
+/// Whether a relation is within the limits of a formula: its two sides count together.
 pub fn within_relation(r: &Relation) -> bool
     ensures { result ≡ spec.within_expr (expr.Rel r.now) }
 {

@@ -51,6 +51,8 @@ fn is_from(known: &[u8], n: u64, name: &Text, count: u64) -> bool
     name.as_slice() == known && n <= count
 }
 
+/// Whether there is a pure internal action of this name with so many arguments: one that may stand
+/// in contexts, rules and bodies.
 #[tactic(auto, unfolding(crate::specs::Meanings::is_pure))]
 pub fn is_pure(name: &Text, count: u64) -> bool
     ensures { result ≡ spec.is_pure name.now count }
@@ -85,6 +87,8 @@ fn is_on_goals(name: &Text, count: u64) -> bool
         || is_count(b"desire".as_slice(), 1, name, count)
 }
 
+/// Whether there is an internal action of this name with so many arguments that is an item
+/// of bodies alone.
 #[tactic(auto, unfolding(crate::specs::Meanings::is_deed))]
 pub fn is_deed(name: &Text, count: u64) -> bool
     ensures { result ≡ spec.is_deed name.now count }
@@ -99,6 +103,8 @@ pub fn is_deed(name: &Text, count: u64) -> bool
         || is_count(b"stopMAS".as_slice(), 0, name, count)
 }
 
+/// Whether an internal action takes a formula at this place of its arguments, counted from 0. Only
+/// `.findall` and `.count` do; all other arguments are terms.
 #[tactic(auto, unfolding(crate::specs::Meanings::wants_formula))]
 pub fn wants_formula(name: &Text, place: u64) -> bool
     ensures { result ≡ spec.wants_formula name.now place }
@@ -106,6 +112,7 @@ pub fn wants_formula(name: &Text, place: u64) -> bool
     is_count(b"findall".as_slice(), 1, name, place) || is_count(b"count".as_slice(), 0, name, place)
 }
 
+/// A positive literal that is a name alone. The name moves into it, and no memory is taken.
 pub fn atom(alloc: Global, name: Text) -> Literal
     ensures { result ≡ spec.atom name }
 {
@@ -117,6 +124,8 @@ pub fn atom(alloc: Global, name: Text) -> Literal
     }
 }
 
+/// The text of the word, for where it stands as an atom or as a label. `Starved` comes only when
+/// memory runs out.
 pub fn truth_name(alloc: Global, b: bool) -> Result<Text, Starved>
     ensures { IfOk result (λ r. r ≡ spec.truth_name b) }
 {

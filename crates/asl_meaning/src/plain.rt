@@ -26,6 +26,7 @@ pub fn is_plain(t: &Term) -> bool
     }
 }
 
+/// Whether none of them holds arithmetic, however deep.
 #[cycle(plain)]
 pub fn are_plain(ts: &[Term]) -> bool
     ensures { result ≡ tree.all (map spec.is_plain ts.now) }
@@ -38,12 +39,15 @@ pub fn are_plain(ts: &[Term]) -> bool
     true
 }
 
+/// Whether a literal holds no arithmetic. Beliefs, rule heads, initial goals and triggers have
+/// to be so.
 pub fn is_plain_literal(l: &Literal) -> bool
     ensures { result ≡ spec.is_plain_literal l.now }
 {
     are_plain(l.args.as_slice()) && are_plain(l.annots.as_slice())
 }
 
+/// Whether a list holds no arithmetic, neither in its items nor in its tail.
 pub fn is_plain_listing(l: &Listing) -> bool
     ensures { result ≡ spec.is_plain_listing l.now }
 {
@@ -54,6 +58,7 @@ pub fn is_plain_listing(l: &Listing) -> bool
         }
 }
 
+/// Whether there is none of them, as an action has no annotations.
 pub fn is_none(ts: &[Term]) -> bool
     ensures { result ≡ spec.is_none ts.now }
 {

@@ -71,6 +71,7 @@ impl Kinds {
 }
 
 impl Filed {
+    /// No place is filed. It takes no memory before the first is put in.
     pub fn new(alloc: Global) -> Filed
         ensures { (add : Bool) (kind : Kind) (neg : Bool) (functor : List ℕ) (count : ℕ) → filed (frames_of add kind result) neg functor count ≡ [] }
     {

@@ -26,6 +26,7 @@ impl<T> Model for Queue<T> {
 }
 
 impl<T> Queue<T> {
+    /// No items. It takes no memory before the first is put in.
     pub fn new(alloc: Global) -> Queue<T>
         ensures { result ≡ [] }
     {
@@ -34,6 +35,8 @@ impl<T> Queue<T> {
         }
     }
 
+    /// The items of a list, in its order, where they stand: nothing is copied, and no
+    /// memory is taken.
     pub fn from_seq(items: Seq<T>) -> Queue<T>
         ensures { result ≡ items }
     {
@@ -60,6 +63,7 @@ impl<T> Queue<T> {
 }
 
 impl<T: Drop> Queue<T> {
+    /// Puts an item last. `Starved` comes only when memory runs out; the item is then dropped.
     pub fn push(&mut self, x: T) -> Result<(), Starved>
         ensures ok { OnOk result (self.new ≡ self.old ++ x ∷ []) }
         ensures err { OnErr result (self.new ≡ self.old) }

@@ -375,6 +375,8 @@ fn unsigned(
     Ok(Some((literal_of(neg, functor, args, annots), rest)))
 }
 
+/// A literal at the front, with at most so many open brackets, and what follows it; none where the
+/// tokens begin with no literal. `Starved` comes only when memory runs out.
 #[cycle(reader)]
 #[tactic(auto, unfolding(crate::specs::Reading::literal_by))]
 pub fn literal(

@@ -62,6 +62,7 @@ impl SharedNames {
         }
     }
 
+    /// The names, to be read; those who share them see the same ones.
     pub fn get(&self) -> &Names
         ensures { result.now ≡ self.now }
     {

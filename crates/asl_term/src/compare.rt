@@ -7,6 +7,7 @@ ghost use Rattle.asl_term.specs.Trees as vars;
 
 use crate::syntax::{Op, Term, Text, Var};
 
+/// Whether two texts are the same, byte by byte.
 pub fn same_text(a: &Text, b: &Text) -> bool
     ensures same { IsTrue result ↔ (a.now ≡ b.now) }
     ensures value { result ≡ bytes_eq a.now b.now }
@@ -14,6 +15,8 @@ pub fn same_text(a: &Text, b: &Text) -> bool
     a.as_slice() == b.as_slice()
 }
 
+/// Whether two variables are the same one. The names alone do not say it: a renaming keeps them,
+/// and gives the variables another number.
 pub fn same_var(a: &Var, b: &Var) -> bool
     ensures same { IsTrue result ↔ (a.now ≡ b.now) }
     ensures value { result ≡ vars.same_var a.now b.now }

@@ -27,6 +27,7 @@ pub fn copy_text(alloc: Global, t: &Text) -> Result<Text, Starved>
     text_of(alloc, t.as_slice())
 }
 
+/// An equal variable, its number too. `Starved` comes only when memory runs out.
 pub fn copy_var(alloc: Global, v: &Var) -> Result<Var, Starved>
     ensures { IfOk result (λ r. r ≡ v.now) }
 {
@@ -81,6 +82,7 @@ pub fn copy(alloc: Global, t: &Term) -> Result<Term, Starved>
     }
 }
 
+/// Equal terms, in order: all of them, or `Starved` where memory runs out.
 #[cycle(copy)]
 pub fn copy_all(alloc: Global, ts: &[Term]) -> Result<Terms, Starved>
     ensures { IfOk result (λ r. r ≡ ts.now) }

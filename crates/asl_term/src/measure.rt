@@ -29,6 +29,7 @@ pub fn size(t: &Term) -> u64
     }
 }
 
+/// The number of nodes of some terms together, as of the arguments of a literal.
 #[cycle(size)]
 pub fn sizes(ts: &[Term]) -> u64
     ensures { result ≡ tree.capped (sum (map tree.size ts.now)) }

@@ -28,6 +28,7 @@ impl<T> Model for Roomy<T> {
 }
 
 impl<T> Roomy<T> {
+    /// No items. It takes no memory, and no free place is promised yet.
     pub fn new(alloc: Global) -> Roomy<T>
         ensures { result.list ≡ [] }
     {
@@ -36,6 +37,7 @@ impl<T> Roomy<T> {
         }
     }
 
+    /// How many items there are. Free places do not count.
     pub fn len(&self) -> u64
         ensures { result ≡ length self.now.list }
     {
@@ -49,18 +51,21 @@ impl<T> Roomy<T> {
         (self.items.capacity() - self.items.len()) as u64
     }
 
+    /// Its items, in order.
     pub fn as_slice(&self) -> &[T]
         ensures { result.now ≡ self.now.list }
     {
         self.items.as_slice()
     }
 
+    /// The item at a place, counted from 0; none where there are too few.
     pub fn at(&self, k: u64) -> Option<&T>
         ensures { option_copied result ≡ slice_get self.now.list k }
     {
         self.items.get(k as usize)
     }
 
+    /// The item at a place, counted from 0, to be changed where it stands.
     pub fn at_mut(&mut self, k: u64) -> &mut T
         requires { k < length self.old.list }
         ensures* writes_back { sem 𝓛 (Lends (the_row T.row) T.row self.entry result (with_item self.old k)) }
@@ -79,6 +84,8 @@ impl<T> Roomy<T> {
 }
 
 impl<T: Drop> Roomy<T> {
+    /// Puts an item last. Memory is needed only where no place is free; `Starved` comes only when
+    /// it runs out, and the item is then dropped.
     pub fn push(&mut self, x: T) -> Result<(), Starved>
         ensures ok { OnOk result (self.new.list ≡ self.old.list ++ x ∷ []) }
         ensures err { OnErr result (self.new.list ≡ self.old.list) }

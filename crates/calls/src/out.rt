@@ -18,6 +18,7 @@ pub struct Out {
 }
 
 impl Out {
+    /// An empty text, and no reason against an answer.
     pub fn new(alloc: Global) -> Out {
         Out {
             alloc,
@@ -40,11 +41,13 @@ impl Out {
         }
     }
 
+    /// Some bytes, as they are.
     pub fn put(&mut self, bytes: &[u8]) {
         let outcome = self.text.append(bytes);
         self.check(outcome);
     }
 
+    /// A number in decimal.
     pub fn number(&mut self, number: u64) {
         let outcome = write_number(self.alloc, number, &mut self.text);
         self.check(outcome);
@@ -64,6 +67,7 @@ impl Out {
         }
     }
 
+    /// The word `yes` where something holds, and `no` where it does not.
     pub fn yes(&mut self, holds: bool) {
         self.put(if holds { b"yes" } else { b"no" });
     }
@@ -76,26 +80,31 @@ impl Out {
         }
     }
 
+    /// A term, as it is printed.
     pub fn term(&mut self, term: &Term) {
         let outcome = print(term, &mut self.text);
         self.check(outcome);
     }
 
+    /// A literal, with its sign and its annotations.
     pub fn literal(&mut self, literal: &Literal) {
         let outcome = print_literal(literal, &mut self.text);
         self.check(outcome);
     }
 
+    /// A formula of a context or of the body of a rule.
     pub fn expr(&mut self, expr: &Expr) {
         let outcome = print_expr(expr, &mut self.text);
         self.check(outcome);
     }
 
+    /// An item of the body of a plan.
     pub fn formula(&mut self, formula: &Formula) {
         let outcome = print_formula(formula, &mut self.text);
         self.check(outcome);
     }
 
+    /// A variable, with its number where a renaming gave it one.
     pub fn var(&mut self, var: &Var) {
         match copy_var(self.alloc, var) {
             Ok(var) => {
@@ -142,6 +151,7 @@ impl Out {
         self.literal(&event.lit);
     }
 
+    /// Events of beliefs, in order, with a blank between two of them.
     pub fn events(&mut self, events: &[Trigger]) {
         for event in events {
             self.event(event);

@@ -47,6 +47,7 @@ pub struct Desk {
 }
 
 impl Desk {
+    /// A desk that has met no fault.
     pub fn new(alloc: Global) -> Desk {
         Desk { alloc, fault: None }
     }
@@ -65,6 +66,7 @@ impl Desk {
         }
     }
 
+    /// Some bytes, as they are. Where memory is short, that is a fault of no line.
     pub fn put(&mut self, bytes: &[u8], out: &mut Text) {
         self.check(out.append(bytes));
     }
@@ -77,6 +79,8 @@ impl Desk {
         }
     }
 
+    /// One more word for a call of the program. Where memory is short it is left out, which is a
+    /// fault of no line.
     pub fn put_word(&mut self, word: &str, words: &mut Vec<String>) {
         match word.to_string(self.alloc) {
             Ok(word) => {
@@ -146,6 +150,7 @@ pub struct Given {
 }
 
 impl Given {
+    /// What a case gives that gives nothing: no files, no words, no calls that fail.
     pub fn new(alloc: Global) -> Given {
         Given {
             files: Seq::new(alloc),
@@ -171,6 +176,7 @@ pub struct Wanted {
 }
 
 impl Wanted {
+    /// What a case wants that wants nothing: no fault line, no output, no files on the disk.
     pub fn new(alloc: Global) -> Wanted {
         Wanted {
             fault: Seq::new(alloc),

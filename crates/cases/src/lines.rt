@@ -37,12 +37,14 @@ const PLAIN_KEYS: [&str; 17] = [
 
 const REFUSED_KEYS: [&str; 2] = ["text", "message"];
 
+/// Whether a byte is a line feed, which ends a line.
 pub fn is_feed(byte: &u8) -> bool
     ensures { result ≡ (byte.now == 10) }
 {
     *byte == b'\n'
 }
 
+/// Whether a byte is a space. A tab is none.
 pub fn is_blank(byte: &u8) -> bool
     ensures { result ≡ (byte.now == 32) }
 {

@@ -156,6 +156,8 @@ fn length_of(files: &Files, name: &[u8]) -> u64 {
     0
 }
 
+/// Equal files, for a call that takes or changes them. Where memory is short a file is left out,
+/// which is a fault of no line.
 pub fn copy_files(files: &Files, desk: &mut Desk) -> Files {
     let mut all = Seq::new(desk.alloc);
     for file in files.as_slice() {

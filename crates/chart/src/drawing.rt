@@ -66,6 +66,7 @@ pub fn put_number(out: &mut Vec<u8>, x: u64, y: u64, number: u64) -> Result<(), 
     ))
 }
 
+/// The sign of this name, with its left lower corner at a place; nothing where the name is empty.
 pub fn put_sign(out: &mut Vec<u8>, x: u64, y: u64, sign: &str) -> Result<(), Fault> {
     if sign.is_empty() {
         return Ok(());
@@ -73,6 +74,7 @@ pub fn put_sign(out: &mut Vec<u8>, x: u64, y: u64, sign: &str) -> Result<(), Fau
     wrote(write!(out, "<use href=\"#{sign}\" x=\"{x}\" y=\"{y}\"/>\n"))
 }
 
+/// A box with round corners, by its left upper corner and its size. Its class tells how it looks.
 pub fn put_box(
     out: &mut Vec<u8>,
     x: u64,
@@ -87,6 +89,7 @@ pub fn put_box(
     ))
 }
 
+/// A straight line from one place to another. Its class tells how it looks.
 pub fn put_line(
     out: &mut Vec<u8>,
     from: (u64, u64),
@@ -117,6 +120,7 @@ pub fn put_curve(
     ))
 }
 
+/// A small circle around a place: the end of a message that no one takes in the picture.
 pub fn put_circle(out: &mut Vec<u8>, x: u64, y: u64) -> Result<(), Fault> {
     wrote(write!(
         out,

@@ -47,6 +47,7 @@ fn is_head(line: &[u8]) -> bool
     line == b"jasonrun 1".as_slice() || line == b"jasonrun 2".as_slice()
 }
 
+/// What a line is, by its beginning alone. Whether it may stand where it does is not asked here.
 pub fn kind_of(line: &[u8]) -> Kind
     ensures { result ≡ spec.kind_of line.now }
 {

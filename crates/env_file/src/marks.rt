@@ -83,6 +83,8 @@ pub fn has_annots(all: &[Lexeme]) -> bool
     false
 }
 
+/// Behind an atom of this text, as `by` and `drop` are: the words of world files are atoms
+/// to the lexer.
 pub fn after_word<'a>(text: &[u8], all: &'a [Lexeme]) -> Option<&'a [Lexeme]>
     ensures { view_rest result ≡ spec.after_word text.now all.now }
 {
@@ -98,6 +100,7 @@ pub fn after_word<'a>(text: &[u8], all: &'a [Lexeme]) -> Option<&'a [Lexeme]>
     }
 }
 
+/// Behind the `->` of an act. Its effects have to follow.
 pub fn after_right_arrow(all: &[Lexeme]) -> Option<&[Lexeme]>
     ensures { view_rest result ≡ spec.after_right_arrow all.now }
 {
@@ -107,6 +110,7 @@ pub fn after_right_arrow(all: &[Lexeme]) -> Option<&[Lexeme]>
     }
 }
 
+/// Behind the word `true` in the place of an effect, which changes nothing.
 pub fn after_true(all: &[Lexeme]) -> Option<&[Lexeme]>
     ensures { view_rest result ≡ spec.after_true all.now }
 {

@@ -98,6 +98,7 @@ fn settle(s: Statement) -> HeldStatement
     }
 }
 
+/// A fact of the world. `Past` where its literal is past the limits of trees.
 pub fn fact_of(l: HeldLiteral) -> HeldStatement
     ensures { result ≡ spec.fact_of limited l }
 {
@@ -131,6 +132,7 @@ fn small_act(head: Literal, by: Term, guard: HeldGuard, effects: HeldEffects) ->
     }
 }
 
+/// An act of its parts. Where one of them is past the limits of trees, none of them is kept.
 pub fn act_with(
     head: HeldLiteral,
     by: Term,

@@ -64,6 +64,7 @@ fn put_use(text: &mut WorldText, name: &Text) -> Result<(), Starved>
     put_name(&mut text.uses, name)
 }
 
+/// The refusal of a clause, counted from 1. It is told where the first token of the clause stands.
 pub fn clause_fault(number: u64, first: &Tok) -> WorldFault
     ensures { result ≡ Clause number first.now.line first.now.column }
 {

@@ -368,12 +368,14 @@ impl<A: Artifact> Board<A> {
         self.schedule.as_slice()
     }
 
+    /// The names of the agents. The place of a name, counted from 1, is the number of its agent.
     pub fn names(&self) -> &Names
         ensures { result.now ≡ self.now.state.names }
     {
         &self.names
     }
 
+    /// The world, as the turns so far have left it.
     pub fn world(&self) -> &World<A>
         ensures { result.now ≡ self.now.state.world }
     {

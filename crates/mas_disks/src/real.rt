@@ -25,6 +25,7 @@ pub struct FileDisk<'a, R: Files> {
 }
 
 impl<'a, R: Files> FileDisk<'a, R> {
+    /// The files of the machine, none of them picked. None is opened before one is.
     pub fn new(rt: &'a R) -> Self
         ensures faults { result.faults ≡ 0 }
         ensures name { result.name ≡ None }

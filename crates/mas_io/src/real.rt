@@ -21,6 +21,7 @@ pub struct FileShelf<'a, R> {
 }
 
 impl<'a, R: Files> FileShelf<'a, R> {
+    /// The files of the machine. None is opened before it is asked for.
     pub fn new(rt: &'a R) -> Self
         ensures { result.faults ≡ 0 }
     {
@@ -90,6 +91,7 @@ pub struct OutSink<'a, R> {
 }
 
 impl<'a, R: Print> OutSink<'a, R> {
+    /// The standard output of the program. Nothing is written yet.
     pub fn new(rt: &'a R) -> Self
         ensures { result.faults ≡ 0 }
     {

@@ -16,6 +16,7 @@ pub struct Marks {
 }
 
 impl Marks {
+    /// No sync and no cycle so far.
     pub fn new() -> Marks {
         Marks {
             syncs: AtomicU64::new(0),
