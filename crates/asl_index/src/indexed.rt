@@ -25,11 +25,21 @@ use std::marker::Model;
 
 /// Beliefs in the order in which they were added, and rules in that of the source, both found by sign, functor and
 /// number of arguments.
-#[derive(Drop)]
 pub struct Indexed {
     store: Store,
     rules: Clauses,
     frames: Frames,
+}
+
+/// By hand, so that a crate above that lets one go proves nothing of its parts.
+impl Drop for Indexed {
+    fn drop(self) {
+        let Indexed {
+            store: _,
+            rules: _,
+            frames: _,
+        } = self;
+    }
 }
 
 impl Model for Indexed {

@@ -53,12 +53,23 @@ pub type Stacks = Seq<Stack>;
 pub type Asks = Seq<Ask>;
 
 /// All stacks but the current one, and the events, the oldest first.
-#[derive(Drop)]
 pub struct Agenda {
     pub events: Events,
     pub running: Stacks,
     pub acting: Option<Acting>,
     pub asks: Asks,
+}
+
+/// By hand, so that a crate above that lets one go proves nothing of its parts.
+impl Drop for Agenda {
+    fn drop(self) {
+        let Agenda {
+            events: _,
+            running: _,
+            acting: _,
+            asks: _,
+        } = self;
+    }
 }
 
 impl Agenda {

@@ -25,9 +25,15 @@ pub struct Group {
 pub type Groups = Seq<Group>;
 
 /// Places in a list, by sign, functor and number of arguments.
-#[derive(Drop)]
 pub struct Frames {
     pub groups: HashMap<Text, Groups>,
+}
+
+/// By hand, so that a crate above that lets one go proves nothing of its parts.
+impl Drop for Frames {
+    fn drop(self) {
+        let Frames { groups: _ } = self;
+    }
 }
 
 /// Whether two signs are one.

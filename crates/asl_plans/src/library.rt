@@ -32,11 +32,21 @@ pub type Choices = Seq<Choice>;
 
 /// Plans in order, no two of them equal, each with those who it is from. They are found by the sign and the kind of their triggers,
 /// and by the sign, functor and number of arguments of these; an equal plan by a number that is made of its trigger.
-#[derive(Drop)]
 pub struct Library {
     entries: Entries,
     filed: Filed,
     keys: Keys,
+}
+
+/// By hand, so that a crate above that lets one go proves nothing of its parts.
+impl Drop for Library {
+    fn drop(self) {
+        let Library {
+            entries: _,
+            filed: _,
+            keys: _,
+        } = self;
+    }
 }
 
 impl Model for Library {

@@ -202,6 +202,7 @@ pub fn long_round<'a>(
     ensures fault { IfErr result (λ e. FailsFrom (asked work.old.items []) (old.now ++ fresh_pairs fresh.old.items) count.old e) }
 {
     let start = fresh.len();
+    // Reading the count tells that it fits, which the first turn of the loop needs.
     let _fits = *count;
     let mut begun: Vec<Begun<'a>> = Vec::new(alloc);
     let mut known: Vec<Known<'a>> = Vec::new(alloc);

@@ -2,14 +2,11 @@
 
 use crate::comparing::held;
 use crate::form::{Desk, Given};
-use crate::running::{Done, copy_files, is_again, left, make};
-use asl_term::copying::text_of;
-use asl_term::room::Roomy;
+use crate::running::{Done, code_of, copy_files, is_again, left, make, sink_of};
 use asl_term::sequence::{Seq, Starved};
 use asl_term::syntax::{Files, Text};
 use mas_disks::memory::{MemoryDisk, memory_disk};
-use mas_io::memory::{memory_shelf, memory_sink};
-use mas_reading::status::code;
+use mas_io::memory::memory_shelf;
 use std::sync::Wait;
 use std::thread::Threads;
 
@@ -32,17 +29,19 @@ fn call<R: Threads + Wait + Sync>(
 ) -> Result<Came, Starved> {
     let mut numbers = Seq::new(desk.alloc);
     if fails > 0 {
-        numbers.push(fails)?;
+        desk.check(numbers.push(fails));
     }
     let mut disk = Some(memory_disk(desk.alloc, disk, numbers)?);
     let mut shelf = memory_shelf(copy_files(files, desk), Seq::new(desk.alloc));
-    let mut room = Roomy::new(desk.alloc);
-    room.reserve(1_000_000)?;
-    let mut sink = memory_sink(room, 1_000_000, Seq::new(desk.alloc));
-    let status = make(rt, desk.alloc, words, &mut shelf, &mut sink, &mut disk)?;
-    let written = text_of(desk.alloc, sink.written())?;
+    let mut sink = sink_of(1_000_000, desk);
+    let made = make(rt, desk.alloc, words, &mut shelf, &mut sink, &mut disk);
+    drop(shelf);
+    let status = code_of(made, desk);
+    let mut written = Seq::new(desk.alloc);
+    desk.put(sink.written(), &mut written);
+    drop(sink);
     Ok(Came {
-        status: code(&status),
+        status,
         written,
         disk,
     })
@@ -62,6 +61,29 @@ fn with_command(words: &[String], command: &str, desk: &mut Desk) -> Vec<String>
     all
 }
 
+/// Whether the schedule of this run is legal, and what goes on from where it ended writes the same.
+fn repeats<R: Threads + Wait + Sync>(
+    rt: &R,
+    words: &[String],
+    files: &Files,
+    came: &Came,
+    reason: &mut Text,
+    desk: &mut Desk,
+) -> Result<bool, Starved> {
+    let done = Done {
+        status: came.status,
+        written: came.written.as_slice(),
+    };
+    if !is_again(rt, words, files, &done, reason, desk)? {
+        return Ok(false);
+    }
+    let kept = left(desk.alloc, &came.disk, 0)?;
+    let again = call(rt, words, files, kept, 0, desk)?;
+    let same = again.status == came.status && again.written.as_slice() == came.written.as_slice();
+    drop(again);
+    Ok(same)
+}
+
 /// Whether a run that goes on from these files of a disk comes to its end, its schedule is legal, and its file tells it whole: what
 /// goes on from there writes the same. Where the file has no whole header, the run is refused.
 fn goes_on<R: Threads + Wait + Sync>(
@@ -78,19 +100,63 @@ fn goes_on<R: Threads + Wait + Sync>(
     };
     let begun = held(&disk, name).unwrap_or(&[]).starts_with(b"JASREC1\n");
     let came = call(rt, words, files, disk, 0, desk)?;
-    if !is_whole(&came) {
-        return Ok(!begun && (came.status == 3 || came.status == 6));
-    }
-    let done = Done {
-        status: came.status,
-        written: came.written.as_slice(),
+    let on = if is_whole(&came) {
+        repeats(rt, words, files, &came, reason, desk)
+    } else {
+        Ok(!begun && (came.status == 3 || came.status == 6))
     };
-    if !is_again(rt, words, files, &done, reason, desk)? {
-        return Ok(false);
+    drop(came);
+    on
+}
+
+/// Whether a run, a call of whose disk failed, goes on from each of the files that a crash may then leave.
+fn outlives<R: Threads + Wait + Sync>(
+    rt: &R,
+    given: &Given,
+    resume: &[String],
+    came: &Came,
+    fails: u64,
+    reason: &mut Text,
+    desk: &mut Desk,
+) -> Result<bool, Starved> {
+    for kept in 0..given.crashes {
+        let disk = left(desk.alloc, &came.disk, kept)?;
+        reason.truncate(0);
+        if !goes_on(rt, resume, &given.files, disk, reason, desk)? {
+            desk.put_named(" call ", fails, reason);
+            desk.put_named(" of the disk fails, changes kept: ", kept, reason);
+            return Ok(false);
+        }
     }
-    let kept = left(desk.alloc, &came.disk, 0)?;
-    let again = call(rt, words, files, kept, 0, desk)?;
-    Ok(again.status == came.status && again.written.as_slice() == came.written.as_slice())
+    Ok(true)
+}
+
+/// The same of each call of the disk, one run for each, until none is left that could fail.
+fn outlives_all<R: Threads + Wait + Sync>(
+    rt: &R,
+    given: &Given,
+    resume: &[String],
+    reason: &mut Text,
+    desk: &mut Desk,
+) -> Result<bool, Starved> {
+    for fails in 1..1_000_000u64 {
+        let disk = Seq::new(desk.alloc);
+        let came = call(rt, given.words.as_slice(), &given.files, disk, fails, desk)?;
+        let is_last = is_whole(&came);
+        let on = if is_last {
+            Ok(true)
+        } else {
+            outlives(rt, given, resume, &came, fails, reason, desk)
+        };
+        drop(came);
+        if !on? {
+            return Ok(false);
+        }
+        if is_last {
+            return Ok(true);
+        }
+    }
+    Ok(false)
 }
 
 /// Whether the recorded run of a case outlives a fault of each call of its disk: it goes on from what a crash leaves, whatever of the
@@ -104,22 +170,8 @@ pub fn survives<R: Threads + Wait + Sync>(
     if given.crashes == 0 {
         return Ok(true);
     }
-    let record = given.words.as_slice();
-    let resume = with_command(record, "resume", desk);
-    for fails in 1..1_000_000u64 {
-        let came = call(rt, record, &given.files, Seq::new(desk.alloc), fails, desk)?;
-        if is_whole(&came) {
-            return Ok(true);
-        }
-        for kept in 0..given.crashes {
-            let disk = left(desk.alloc, &came.disk, kept)?;
-            reason.truncate(0);
-            if !goes_on(rt, resume.as_slice(), &given.files, disk, reason, desk)? {
-                desk.put_named(" call ", fails, reason);
-                desk.put_named(" of the disk fails, changes kept: ", kept, reason);
-                return Ok(false);
-            }
-        }
-    }
-    Ok(false)
+    let resume = with_command(given.words.as_slice(), "resume", desk);
+    let on = outlives_all(rt, given, resume.as_slice(), reason, desk);
+    drop(resume);
+    on
 }

@@ -41,9 +41,17 @@ fn room_of(alloc: Global, places: u64) -> Result<Roomy<u8>, Starved>
     ensures { IfOk result (λ r. r.spare ≡ places) }
 {
     let mut room = Roomy::new(alloc);
-    room.reserve(places)?;
-    fill(&mut room, places)?;
-    Ok(room)
+    if let Err(starved) = room.reserve(places) {
+        drop(room);
+        return Err(starved);
+    }
+    match fill(&mut room, places) {
+        Ok(()) => Ok(room),
+        Err(starved) => {
+            drop(room);
+            Err(starved)
+        }
+    }
 }
 
 /// The name of the file of the schedule that a report prints.
@@ -70,11 +78,44 @@ pub fn make<R: Threads + Wait + Sync, D: Disk + Send>(
     Ok(run_words(rt, alloc, words, shelf, sink, &OpenGate, all, disk))
 }
 
+/// The code with which a call ended. Where memory is short, that is a fault of no line.
+pub fn code_of(made: Result<Status, Starved>, desk: &mut Desk) -> u8 {
+    match made {
+        Ok(status) => {
+            let ended = code(&status);
+            drop(status);
+            ended
+        }
+        Err(starved) => {
+            desk.check(Err(starved));
+            u8::MAX
+        }
+    }
+}
+
+/// A sink with room for so many bytes.
+pub fn sink_of(places: u64, desk: &mut Desk) -> MemorySink {
+    let mut room = Roomy::new(desk.alloc);
+    desk.check(room.reserve(places));
+    memory_sink(room, 1_000_000, Seq::new(desk.alloc))
+}
+
 /// The files of a disk after a crash that keeps so many of the changes since the last sync.
 pub fn left(alloc: Global, disk: &Option<MemoryDisk>, kept: u64) -> Result<Files, Starved> {
     match disk {
         Some(disk) => disk.crash(alloc, kept),
         None => Ok(Seq::new(alloc)),
+    }
+}
+
+/// The files of a disk after a crash that keeps all changes. Where memory is short there are none, which is a fault of no line.
+fn all_left(disk: &Option<MemoryDisk>, desk: &mut Desk) -> Files {
+    match left(desk.alloc, disk, u64::MAX) {
+        Ok(files) => files,
+        Err(starved) => {
+            desk.check(Err(starved));
+            Seq::new(desk.alloc)
+        }
     }
 }
 
@@ -260,17 +301,19 @@ fn writes<R: Threads + Wait + Sync>(
     wanted: &Done<'_>,
     desk: &mut Desk,
 ) -> Result<bool, Starved> {
+    let mut disk = Some(memory_disk(desk.alloc, Seq::new(desk.alloc), Seq::new(desk.alloc))?);
     let mut files = copy_files(files, desk);
     let mut bytes = Seq::new(desk.alloc);
     desk.put(extra.bytes, &mut bytes);
     desk.put_file(extra.name.as_bytes(), bytes, &mut files);
     let mut shelf = memory_shelf(files, Seq::new(desk.alloc));
-    let mut room = Roomy::new(desk.alloc);
-    room.reserve(wanted.written.len() as u64)?;
-    let mut sink = memory_sink(room, 1_000_000, Seq::new(desk.alloc));
-    let mut disk = Some(memory_disk(desk.alloc, Seq::new(desk.alloc), Seq::new(desk.alloc))?);
-    let status = make(rt, desk.alloc, words, &mut shelf, &mut sink, &mut disk)?;
-    Ok(code(&status) == wanted.status && sink.written() == wanted.written)
+    let mut sink = sink_of(wanted.written.len() as u64, desk);
+    let made = make(rt, desk.alloc, words, &mut shelf, &mut sink, &mut disk);
+    drop(shelf);
+    drop(disk);
+    let same = code_of(made, desk) == wanted.status && sink.written() == wanted.written;
+    drop(sink);
+    Ok(same)
 }
 
 /// Whether a run along the schedule that the report prints writes the report again, and ends as the run did; if not, why, in `reason`.
@@ -292,7 +335,9 @@ pub fn is_again<R: Threads + Wait + Sync>(
         name: PRINTED,
         bytes: schedule_of(done.written),
     };
-    let again = writes(rt, words.as_slice(), files, printed, done, desk)?;
+    let again = writes(rt, words.as_slice(), files, printed, done, desk);
+    drop(words);
+    let again = again?;
     if !again {
         desk.put(b"its replay differs", reason);
     }
@@ -355,11 +400,64 @@ fn is_renewed<R: Threads + Wait + Sync>(
         status: 0,
         written: report,
     };
-    let renewed = writes(rt, words.as_slice(), files, extra, &wanted, desk)?;
+    let renewed = writes(rt, words.as_slice(), files, extra, &wanted, desk);
+    drop(words);
+    drop(old);
+    let renewed = renewed?;
     if !renewed {
         desk.put(b"its report of version 1 is not renewed to it", reason);
     }
     Ok(renewed)
+}
+
+/// A call of a case, and how it ended: its status, what it wrote, and the files of its disk after a crash that keeps all.
+#[derive(Clone, Copy)]
+struct Ended<'a> {
+    words: &'a [String],
+    files: &'a Files,
+    status: &'a Status,
+    written: &'a [u8],
+    kept: &'a Files,
+}
+
+/// Whether a call ended as the case wants, and so do the replay of its schedule and the renewal of its report of version 1.
+fn is_wanted<R: Threads + Wait + Sync>(
+    rt: &R,
+    plain: &Plain,
+    given: &Given,
+    wanted: &Wanted,
+    ended: &Ended<'_>,
+    reason: &mut Text,
+    desk: &mut Desk,
+) -> Result<bool, Starved> {
+    if !judge(
+        plain,
+        wanted,
+        ended.status,
+        ended.written,
+        ended.kept,
+        reason,
+        desk,
+    ) {
+        return Ok(false);
+    }
+    let done = Done {
+        status: code(ended.status),
+        written: ended.written,
+    };
+    if !is_again(rt, ended.words, ended.files, &done, reason, desk)? {
+        return Ok(false);
+    }
+    let old = given.old.as_slice();
+    is_renewed(
+        rt,
+        ended.words,
+        ended.files,
+        old,
+        ended.written,
+        reason,
+        desk,
+    )
 }
 
 /// Whether the call of these words does what the case wants, and so do the replay of its schedule and the renewal of its report
@@ -376,34 +474,41 @@ fn run_once<R: Threads + Wait + Sync>(
 ) -> Result<bool, Starved> {
     let room = room_of(desk.alloc, plain.room)?;
     let blanks = room.len() as usize;
+    let held = copy_files(&given.disk, desk);
+    let fails = copy_numbers(&given.disk_fails, desk);
+    let disk = match memory_disk(desk.alloc, held, fails) {
+        Ok(disk) => disk,
+        Err(starved) => {
+            drop(room);
+            return Err(starved);
+        }
+    };
+    let mut disk = Some(disk);
     let shelved = copy_files(files, desk);
     let mut shelf = memory_shelf(shelved, copy_numbers(&given.shelf_fails, desk));
     let mut sink = memory_sink(room, plain.short, copy_numbers(&given.sink_fails, desk));
-    let held = copy_files(&given.disk, desk);
-    let fails = copy_numbers(&given.disk_fails, desk);
-    let mut disk = Some(memory_disk(desk.alloc, held, fails)?);
-    let status = make(rt, desk.alloc, words, &mut shelf, &mut sink, &mut disk)?;
-    let written = sink.written().get(blanks..).unwrap_or(&[]);
-    let after = left(desk.alloc, &disk, u64::MAX)?;
-    if !judge(plain, wanted, &status, written, &after, reason, desk) {
-        return Ok(false);
-    }
-    let done = Done {
-        status: code(&status),
-        written,
+    let made = make(rt, desk.alloc, words, &mut shelf, &mut sink, &mut disk);
+    drop(shelf);
+    let kept = all_left(&disk, desk);
+    drop(disk);
+    let passed = match made {
+        Ok(status) => {
+            let ended = Ended {
+                words,
+                files,
+                status: &status,
+                written: sink.written().get(blanks..).unwrap_or(&[]),
+                kept: &kept,
+            };
+            let passed = is_wanted(rt, plain, given, wanted, &ended, reason, desk);
+            drop(status);
+            passed
+        }
+        Err(starved) => Err(starved),
     };
-    if !is_again(rt, words, files, &done, reason, desk)? {
-        return Ok(false);
-    }
-    is_renewed(
-        rt,
-        words,
-        files,
-        given.old.as_slice(),
-        written,
-        reason,
-        desk,
-    )
+    drop(sink);
+    drop(kept);
+    passed
 }
 
 /// Calls the words once, or once for each proper prefix of the file that is cut.
@@ -451,8 +556,19 @@ fn run<R: Threads + Wait + Sync>(
         desk.put_named("workers ", *workers, reason);
         desk.put(b": ", reason);
         let words = with_workers(words, *workers, desk);
-        let words = words.as_slice();
-        if !run_once(rt, plain, given, &given.files, words, wanted, reason, desk)? {
+        let files = &given.files;
+        let passed = run_once(
+            rt,
+            plain,
+            given,
+            files,
+            words.as_slice(),
+            wanted,
+            reason,
+            desk,
+        );
+        drop(words);
+        if !passed? {
             return Ok(false);
         }
     }

@@ -21,10 +21,16 @@ use std::alloc::Global;
 use std::marker::Model;
 
 /// Its name, and what stands on it, the first to be taken first.
-#[derive(Drop)]
 pub struct Belt {
     name: Text,
     items: Terms,
+}
+
+/// By hand, so that a crate above that lets one go proves nothing of its parts.
+impl Drop for Belt {
+    fn drop(self) {
+        let Belt { name: _, items: _ } = self;
+    }
 }
 
 impl Model for Belt {

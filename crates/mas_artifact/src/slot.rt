@@ -15,10 +15,16 @@ use std::alloc::Global;
 use std::marker::Model;
 
 /// Its name, and the agent that holds it, if one does.
-#[derive(Drop)]
 pub struct Slot {
     name: Text,
     holder: Option<Text>,
+}
+
+/// By hand, so that a crate above that lets one go proves nothing of its parts.
+impl Drop for Slot {
+    fn drop(self) {
+        let Slot { name: _, holder: _ } = self;
+    }
 }
 
 impl Model for Slot {

@@ -21,10 +21,16 @@ use std::alloc::Global;
 use std::marker::Model;
 
 /// Its name, and the number, which is not negative.
-#[derive(Drop)]
 pub struct Tally {
     name: Text,
     count: i64,
+}
+
+/// By hand, so that a crate above that lets one go proves nothing of its parts.
+impl Drop for Tally {
+    fn drop(self) {
+        let Tally { name: _, count: _ } = self;
+    }
 }
 
 impl Model for Tally {

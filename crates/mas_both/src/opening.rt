@@ -19,7 +19,7 @@ use asl_term::sequence::{Seq, Starved};
 use mas_board::board::{Board, open_board};
 use mas_mind::thinking::Mind;
 use mas_opening::minds::open_minds;
-use mas_reading::sources::Role;
+use mas_reading::sources::{Parts, Role};
 use mas_report::options::Options;
 use mas_rounds::runs::Site;
 use mas_stand::opening::stand;
@@ -129,6 +129,20 @@ fn board_with<A: Artifact>(
     open_board(alloc, world, names, o.cycles, o.lead)
 }
 
+/// The lines of the agents of two projects.
+fn all_roles(first: Seq<Role>, second: Seq<Role>) -> Result<Seq<Role>, Starved>
+    ensures { IfOk result (λ r. r ≡ first ++ second) }
+{
+    let mut all = first;
+    match all.append_all(second) {
+        Ok(()) => Ok(all),
+        Err(starved) => {
+            drop(all);
+            Err(starved)
+        }
+    }
+}
+
 /// The minds of the agents of these lines, each at its site, and stands in their places at the other one.
 #[tactic(auto, using(crate::proofs::Starting::as_many, crate::proofs::Starting::few_together))]
 fn seats_of(
@@ -148,8 +162,12 @@ fn seats_of(
         IfOk result (λ s. s.two ≡ spec.seats (spec.at_two (length one.now)) names (minds_from o.now names 1 (texts_of roles.now))) }
 {
     let names = all_names(alloc, one, two)?;
-    let minds = open_minds(alloc, o, &names, roles)?;
-    seat_all(alloc, &names, one.len(), minds)
+    let seats = match open_minds(alloc, o, &names, roles) {
+        Ok(minds) => seat_all(alloc, &names, one.len(), minds),
+        Err(starved) => Err(starved),
+    };
+    drop(names);
+    seats
 }
 
 /// The sites of what two projects bring.
@@ -175,20 +193,57 @@ pub fn open_both<A: Artifact>(
         source: second,
         used: used_two,
     } = two;
-    let mut roles = first.roles;
-    roles.append_all(second.roles)?;
-    let (one, two) = (first.names, second.names);
-    let seats = seats_of(alloc, o, &one, &two, roles.as_slice())?;
-    let board_one = board_with(alloc, o, &one, &two, first.world, used_one)?;
-    let board_two = board_with(alloc, o, &one, &two, second.world, used_two)?;
-    Ok(Both {
-        one: Site {
-            board: board_one,
-            minds: seats.one,
+    let Parts {
+        names: one,
+        roles: first,
+        world: world_one,
+    } = first.into_parts();
+    let Parts {
+        names: two,
+        roles: second,
+        world: world_two,
+    } = second.into_parts();
+    let seats = match all_roles(first, second) {
+        Ok(roles) => {
+            let seats = seats_of(alloc, o, &one, &two, roles.as_slice());
+            drop(roles);
+            seats
+        }
+        Err(starved) => Err(starved),
+    };
+    let board_one = board_with(alloc, o, &one, &two, world_one, used_one);
+    let board_two = board_with(alloc, o, &one, &two, world_two, used_two);
+    drop(one);
+    drop(two);
+    match seats {
+        Err(starved) => {
+            drop(board_one);
+            drop(board_two);
+            Err(starved)
+        }
+        Ok(seats) => match board_one {
+            Err(starved) => {
+                drop(seats);
+                drop(board_two);
+                Err(starved)
+            }
+            Ok(board_one) => match board_two {
+                Err(starved) => {
+                    drop(seats);
+                    drop(board_one);
+                    Err(starved)
+                }
+                Ok(board_two) => Ok(Both {
+                    one: Site {
+                        board: board_one,
+                        minds: seats.one,
+                    },
+                    two: Site {
+                        board: board_two,
+                        minds: seats.two,
+                    },
+                }),
+            },
         },
-        two: Site {
-            board: board_two,
-            minds: seats.two,
-        },
-    })
+    }
 }

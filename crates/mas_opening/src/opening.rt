@@ -11,7 +11,7 @@ use asl_term::names::Names;
 use asl_term::sequence::{Seq, Starved};
 use mas_board::board::{Board, open_board};
 use mas_mind::thinking::Mind;
-use mas_reading::sources::Source;
+use mas_reading::sources::{Parts, Source};
 use mas_report::options::Options;
 use mas_world::acts::WorldText;
 use mas_world::artifact::Artifact;
@@ -67,13 +67,31 @@ pub fn open_source<A: Artifact>(
         IfOk result (λ p. p.board ≡ record { state = opening_board u source; schedule = []; halted = false }) }
     ensures minds { IfOk result (λ p. p.minds ≡ opening_minds o.now source) }
 {
-    let Source {
+    let Parts {
         names,
         roles,
         world,
-    } = source;
-    let minds = open_minds(alloc, o, &names, roles.as_slice())?;
-    let world = world_at_start(alloc, world, artifacts)?;
-    let board = open_board(alloc, world, names, o.cycles, o.lead)?;
-    Ok(Opened { board, minds })
+    } = source.into_parts();
+    let minds = open_minds(alloc, o, &names, roles.as_slice());
+    drop(roles);
+    let board = match world_at_start(alloc, world, artifacts) {
+        Ok(world) => open_board(alloc, world, names, o.cycles, o.lead),
+        Err(starved) => {
+            drop(names);
+            Err(starved)
+        }
+    };
+    match minds {
+        Err(starved) => {
+            drop(board);
+            Err(starved)
+        }
+        Ok(minds) => match board {
+            Ok(board) => Ok(Opened { board, minds }),
+            Err(starved) => {
+                drop(minds);
+                Err(starved)
+            }
+        },
+    }
 }

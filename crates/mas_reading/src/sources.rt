@@ -30,11 +30,49 @@ pub struct Role {
 }
 
 /// What is run: the names of the agents, the source of each line, in order, and the world of a file, where there is one.
-#[derive(Drop)]
 pub struct Source {
     pub names: Names,
     pub roles: Seq<Role>,
     pub world: Option<WorldText>,
+}
+
+/// By hand, so that a crate above that lets one go proves nothing of its parts.
+impl Drop for Source {
+    fn drop(self) {
+        let Source {
+            names: _,
+            roles: _,
+            world: _,
+        } = self;
+    }
+}
+
+/// A source that is taken apart.
+#[derive(Drop)]
+pub struct Parts {
+    pub names: Names,
+    pub roles: Seq<Role>,
+    pub world: Option<WorldText>,
+}
+
+impl Source {
+    /// Its parts.
+    pub fn into_parts(self) -> Parts
+        ensures names { result.names ≡ self.names }
+        ensures roles { result.roles ≡ self.roles }
+        ensures world { result.world ≡ self.world }
+    {
+        let Source {
+            names,
+            roles,
+            world,
+        } = self;
+        Parts {
+            names,
+            roles,
+            world,
+        }
+    }
 }
 
 /// How many agents a line counts.

@@ -49,7 +49,7 @@ pub enum What {
     Cycles,
 }
 
-/// How a call of the program ended. `No` is the answer that a report is not that of a run.
+/// How a call of the program ended. `No` is the answer that a report is not that of a run, or that what `lint` looks for is there.
 /// The place of `Refused` is that of a byte, from 0, for the first four reasons, and for
 /// the others the number, from 1, of the clause, of the piece of a project, of the agent, of the line of a schedule or of the turn.
 /// The count of `Limit` is the allowed bytes of a file, the number of the clause, of the agents, or of their cycles together.

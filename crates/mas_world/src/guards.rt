@@ -36,8 +36,9 @@ pub fn ready(alloc: Global, l: &Literal, s: &Subst) -> Result<Option<Literal>, S
 {
     match l.apply(alloc, s) {
         Ok(applied) => {
-            let r = settled(alloc, &applied)?;
-            Ok(r)
+            let r = settled(alloc, &applied);
+            drop(applied);
+            r
         }
         Err(TermFault::Memory) => Err(Starved),
         Err(TermFault::TermLimit) => Ok(None),
@@ -63,7 +64,11 @@ fn is_refuted(alloc: Global, facts: &[Literal], e: &Expr, s: &Subst) -> Result<b
     match e {
         Expr::Holds(l) => match ready(alloc, l, s)? {
             None => Ok(false),
-            Some(g) => none_matches(alloc, facts, &g, s),
+            Some(g) => {
+                let none = none_matches(alloc, facts, &g, s);
+                drop(g);
+                none
+            }
         },
         Expr::True => Ok(false),
         Expr::False => Ok(false),
@@ -104,7 +109,11 @@ pub fn first(
     match part {
         Expr::Holds(l) => match ready(alloc, l, s)? {
             None => Ok(None),
-            Some(g) => first_held(alloc, facts, &g, rest, s),
+            Some(g) => {
+                let found = first_held(alloc, facts, &g, rest, s);
+                drop(g);
+                found
+            }
         },
         Expr::Not(e) => {
             if is_refuted(alloc, facts, e.get(), s)? {
@@ -114,7 +123,11 @@ pub fn first(
         }
         Expr::Rel(r) => match related(alloc, r, s)? {
             None => Ok(None),
-            Some(t) => first(alloc, facts, rest, &t),
+            Some(t) => {
+                let found = first(alloc, facts, rest, &t);
+                drop(t);
+                found
+            }
         },
         Expr::True => Ok(None),
         Expr::False => Ok(None),

@@ -80,9 +80,20 @@ pub fn open_world<A: Artifact>(
         uses,
         acts,
     } = text;
-    let all = keep_all(alloc, artifacts)?;
-    let used = take_used(alloc, &uses, all)?;
-    Ok(World::of(Segment::new(acts, facts), hidden, used))
+    let used = match keep_all(alloc, artifacts) {
+        Ok(all) => take_used(alloc, &uses, all),
+        Err(starved) => Err(starved),
+    };
+    drop(uses);
+    match used {
+        Ok(used) => Ok(World::of(Segment::new(acts, facts), hidden, used)),
+        Err(starved) => {
+            drop(acts);
+            drop(facts);
+            drop(hidden);
+            Err(starved)
+        }
+    }
 }
 
 /// So many empty boxes.

@@ -13,9 +13,15 @@ use std::marker::Model;
 
 /// A box for each agent, by the agents' numbers from 1 on. Contracts see for each box its messages, the oldest first,
 /// and its free places.
-#[derive(Drop)]
 pub struct Post {
     boxes: Seq<Roomy<Message>>,
+}
+
+/// By hand, so that a crate above that lets one go proves nothing of its parts.
+impl Drop for Post {
+    fn drop(self) {
+        let Post { boxes: _ } = self;
+    }
 }
 
 impl Model for Post {

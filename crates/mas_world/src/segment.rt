@@ -18,10 +18,16 @@ use std::alloc::Global;
 use std::marker::Model;
 
 /// A table of acts, and the facts as they are: without variables and operations, no two of them the same.
-#[derive(Drop)]
 pub struct Segment {
     acts: Acts,
     facts: Literals,
+}
+
+/// By hand, so that a crate above that lets one go proves nothing of its parts.
+impl Drop for Segment {
+    fn drop(self) {
+        let Segment { acts: _, facts: _ } = self;
+    }
 }
 
 impl Model for Segment {
@@ -139,9 +145,15 @@ fn drop_nothing(acts: &[Act]) -> bool
 }
 
 /// The segment of an artifact: no act of its table drops an artifact.
-#[derive(Drop)]
 pub struct OwnSegment {
     segment: Segment,
+}
+
+/// By hand, so that a crate above that lets one go proves nothing of its parts.
+impl Drop for OwnSegment {
+    fn drop(self) {
+        let OwnSegment { segment: _ } = self;
+    }
 }
 
 impl Model for OwnSegment {

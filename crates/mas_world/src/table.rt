@@ -35,8 +35,10 @@ fn atom(alloc: Global, name: &Text) -> Result<Term, Starved>
 fn answered(alloc: Global, a: &Act, action: &Literal) -> Result<Option<Subst>, Starved>
     ensures { IfOk result (λ r. r ≡ first_of (matches a.now.head action.now [])) }
 {
-    let r = first_match(alloc, &a.head, action, &no_subst(alloc))?;
-    Ok(r)
+    let none = no_subst(alloc);
+    let r = first_match(alloc, &a.head, action, &none);
+    drop(none);
+    r
 }
 
 /// The substitution under which the act answers to the action of this agent.
@@ -46,9 +48,17 @@ fn entered(alloc: Global, a: &Act, agent: &Text, action: &Literal) -> Result<Opt
     let Some(s) = answered(alloc, a, action)? else {
         return Ok(None);
     };
-    let name = atom(alloc, agent)?;
-    let r = attempt(alloc, Work::Two(View::Whole(&a.by), View::Whole(&name)), &s)?;
-    Ok(r)
+    let name = match atom(alloc, agent) {
+        Ok(name) => name,
+        Err(starved) => {
+            drop(s);
+            return Err(starved);
+        }
+    };
+    let r = attempt(alloc, Work::Two(View::Whole(&a.by), View::Whole(&name)), &s);
+    drop(name);
+    drop(s);
+    r
 }
 
 /// An effect under the substitution, if it settles and no variable is left in it.
@@ -61,6 +71,7 @@ fn effect(alloc: Global, l: &Literal, s: &Subst) -> Result<Option<Literal>, Star
             if ground_literal(&x) {
                 Ok(Some(x))
             } else {
+                drop(x);
                 Ok(None)
             }
         }
@@ -123,11 +134,17 @@ pub fn tried(
     let Some(s) = entered(alloc, a, agent, action)? else {
         return Ok(None);
     };
-    let Some(t) = first(alloc, facts, a.guard.as_slice(), &s)? else {
-        return Ok(None);
-    };
-    let r = deed(alloc, a, &t)?;
-    Ok(r)
+    let found = first(alloc, facts, a.guard.as_slice(), &s);
+    drop(s);
+    match found {
+        Err(starved) => Err(starved),
+        Ok(None) => Ok(None),
+        Ok(Some(t)) => {
+            let r = deed(alloc, a, &t);
+            drop(t);
+            r
+        }
+    }
 }
 
 /// What the first act that acts does.

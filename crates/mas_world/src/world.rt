@@ -21,9 +21,15 @@ use std::alloc::Global;
 use std::marker::Model;
 
 /// The artifacts that a world uses, in their order.
-#[derive(Drop)]
 pub struct Artifacts<A: Artifact> {
     kept: Vec<Kept<A>>,
+}
+
+/// By hand, so that a crate above that lets one go proves nothing of its parts.
+impl<A: Artifact> Drop for Artifacts<A> {
+    fn drop(self) {
+        let Artifacts { kept: _ } = self;
+    }
 }
 
 impl<A: Artifact> Model for Artifacts<A> {
@@ -139,11 +145,21 @@ impl<A: Artifact> Artifacts<A> {
 }
 
 /// The file's segment, the hidden functors, and the artifacts.
-#[derive(Drop)]
 pub struct World<A: Artifact> {
     file: Segment,
     hidden: Names,
     used: Artifacts<A>,
+}
+
+/// By hand, so that a crate above that lets one go proves nothing of its parts.
+impl<A: Artifact> Drop for World<A> {
+    fn drop(self) {
+        let World {
+            file: _,
+            hidden: _,
+            used: _,
+        } = self;
+    }
 }
 
 impl<A: Artifact> Model for World<A> {
