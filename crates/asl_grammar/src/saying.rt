@@ -20,6 +20,7 @@ use asl_term::syntax::{
     Clause, Expr, Formula, Formulas, Kind, Literal, LiteralOf, Plan, Term, Terms, Text, Trigger,
 };
 use std::alloc::Global;
+use std::mem;
 
 fn contains(all: &[Term], t: &Term) -> bool
     ensures { result ≡ list_any (same_tree t.now) all.now }
@@ -68,12 +69,9 @@ fn fact(alloc: Global, l: Literal) -> Result<Sentence, Starved>
     ensures { IfOk result (λ s. s ≡ grammar.fact l) }
 {
     let annots = once(alloc, l.annots.as_slice())?;
-    Ok(belief_or_rule(LiteralOf {
-        neg: l.neg,
-        functor: l.functor,
-        args: l.args,
-        annots,
-    }))
+    let mut kept = l;
+    drop(mem::replace(&mut kept.annots, annots));
+    Ok(belief_or_rule(kept))
 }
 
 fn done(deed: Deed, l: Literal) -> Formula
@@ -110,7 +108,7 @@ fn small_item(m: Meaning) -> Option<Option<HeldItem>>
             drop(t);
             None
         }
-        Meaning::Relation(r) => Some(Some(Bounded::Within(Formula::Rel(r)))),
+        Meaning::Relation(r) => Some(Some(Bounded::Within(Formula::Rel(r.into_inner())))),
         Meaning::Call(c) => Some(Some(Bounded::Within(Formula::Inner(c)))),
         Meaning::Formula(e) => {
             drop(e);

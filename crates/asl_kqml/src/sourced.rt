@@ -6,8 +6,9 @@ ghost use Rattle.asl_kqml.specs.Receive as spec;
 
 use asl_beliefs::sources::{is_source, source};
 use asl_term::sequence::{Seq, Starved};
-use asl_term::syntax::{Literal, LiteralOf, Literals, Terms, Text};
+use asl_term::syntax::{Literal, Literals, Terms, Text};
 use std::alloc::Global;
+use std::mem;
 
 /// The annotations that are no sources.
 fn others(alloc: Global, annots: Terms) -> Result<Terms, Starved>
@@ -28,41 +29,23 @@ fn others(alloc: Global, annots: Terms) -> Result<Terms, Starved>
 pub fn sourced(alloc: Global, name: &Text, l: Literal) -> Result<Literal, Starved>
     ensures { IfOk result (λ r. r ≡ spec.sourced name.now l) }
 {
-    let LiteralOf {
-        neg,
-        functor,
-        args,
-        annots,
-    } = l;
+    let mut told = l;
+    let annots = mem::replace(&mut told.annots, Seq::new(alloc));
     let mut kept = others(alloc, annots)?;
     kept.push(source(alloc, name.as_slice())?)?;
-    Ok(LiteralOf {
-        neg,
-        functor,
-        args,
-        annots: kept,
-    })
+    drop(mem::replace(&mut told.annots, kept));
+    Ok(told)
 }
 
 /// The literal with no annotation but this source.
 fn only_from(alloc: Global, name: &Text, l: Literal) -> Result<Literal, Starved>
     ensures { IfOk result (λ r. r ≡ spec.only_from name.now l) }
 {
-    let LiteralOf {
-        neg,
-        functor,
-        args,
-        annots: others,
-    } = l;
-    drop(others);
     let mut annots = Seq::new(alloc);
     annots.push(source(alloc, name.as_slice())?)?;
-    Ok(LiteralOf {
-        neg,
-        functor,
-        args,
-        annots,
-    })
+    let mut told = l;
+    drop(mem::replace(&mut told.annots, annots));
+    Ok(told)
 }
 
 /// Each without its sources, and with this one as the last.

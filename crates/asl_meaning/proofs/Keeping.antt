@@ -1,8 +1,6 @@
 -- What is kept of a whole is what the operations make of what is kept of its parts.
-use Rattle.std.proofs.Common.{◌≡◌, ℕ, ℤ, zero, suc, pos, map, Bool, true, false, cond, ◌&&◌, ◌||◌, leb, ◌⊎◌, inl, inr, List, [], ◌∷◌, ◌++◌, length, Option, Some, None, refl, sym, ap, ◌∙◌, append_assoc, arith}
+use Rattle.std.proofs.Common.{◌≡◌, ℕ, ℤ, pos, Bool, true, false, cond, ◌&&◌, leb, ◌⊎◌, inl, inr, List, length, Option, Some, None, refl, sym, ap, ◌∙◌}
 use Rattle.std.specs.Option.{option_map, is_some}
-use Rattle.std.specs.List.{list_all}
-use Rattle.std.proofs.lemmas.List.{append-nil}
 use Rattle.asl_term.specs.declared.syntax.Op.{Op}
 use Rattle.asl_term.specs.declared.syntax.Op.TheVariants.{Sub}
 use Rattle.asl_term.specs.declared.syntax.Var.{Var}
@@ -11,8 +9,6 @@ use Rattle.asl_term.specs.declared.syntax.LiteralOf.{LiteralOf}
 use Rattle.asl_term.specs.declared.syntax.ListingOf.{ListingOf}
 use Rattle.asl_term.specs.declared.syntax.Relation.{Relation}
 use Rattle.asl_term.specs.declared.syntax.CallOf.{CallOf}
-use Rattle.asl_term.specs.declared.syntax.ArgOf.{ArgOf}
-use Rattle.asl_term.specs.declared.syntax.ArgOf.TheVariants.{Plain, Logic}
 use Rattle.asl_term.specs.declared.syntax.Term.{Term}
 use Rattle.asl_term.specs.declared.syntax.Term.TheVariants as term
 use Rattle.asl_term.specs.declared.syntax.Expr.{Expr}
@@ -36,8 +32,8 @@ use Rattle.asl_meaning.specs.Meanings as meanings
 use Rattle.asl_meaning.specs.Leaves.{variable}
 use Rattle.asl_meaning.specs.Limits.{within_term, within_literal, within_expr}
 use Rattle.asl_meaning.specs.Conjuncts.{Parts, no_parts, parts_step, parts, is_literal, has_parts}
-use Rattle.asl_meaning.specs.Plain.{plain_step, is_plain, are_plain, is_plain_literal, is_plain_listing, is_none, is_action}
-use Rattle.asl_meaning.specs.Holding.{Bounds, limited, unlimited, bounded, fits_term, fits_literal, fits_expr, Kept, KeptTerms, KeptExpr, outline, formula_outline, relation_outline, term_outline, call_outline, truth_outline, literal_outline, keep_if, is_small, hold, hold_if, hold_term, hold_formula, hold_terms, hold_listing, has_small_parts, hold_literal, is_small_arg, hold_arg, hold_args, as_term, as_formula, past_if, large_joint, joined, compared, large_prefix, prefixed, put_term, terms_behind, as_terms, listed, literal_of, literal_held, listing_held, term_arg, formula_arg, as_arg, put_arg, args_behind, as_args, call_of, called}
+use Rattle.asl_meaning.specs.Plain.{plain_step, is_plain, is_plain_literal, is_plain_listing, is_action}
+use Rattle.asl_meaning.specs.Holding.{Bounds, limited, unlimited, bounded, fits_term, fits_literal, fits_expr, Kept, KeptExpr, outline, formula_outline, relation_outline, term_outline, call_outline, literal_outline, keep_if, is_small, hold, hold_if, hold_term, hold_formula, as_term, as_formula, past_if, large_joint, joined, compared, large_prefix, prefixed}
 use Rattle.asl_meaning.proofs.Options.{some_is}
 use Rattle.asl_meaning.proofs.Past.{falls, op_left, op_right, rel_left, rel_right, not_part, or_first, or_second, and_first, and_second}
 

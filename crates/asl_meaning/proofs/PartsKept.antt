@@ -1,5 +1,5 @@
 -- What is kept of lists, literals and calls is what is made of what is kept of their parts.
-use Rattle.std.proofs.Common.{◌≡◌, ℕ, zero, suc, ◌+◌, map, Bool, true, false, cond, ◌&&◌, ◌||◌, List, [], ◌∷◌, ◌++◌, length, Option, Some, None, refl, sym, ap, ◌∙◌, append_assoc, arith}
+use Rattle.std.proofs.Common.{◌≡◌, ℕ, suc, map, Bool, true, false, cond, ◌&&◌, ◌||◌, List, [], ◌∷◌, ◌++◌, length, Option, Some, None, refl, sym, ap, ◌∙◌, append_assoc}
 use Rattle.std.specs.Option.{option_map}
 use Rattle.std.specs.List.{list_all}
 use Rattle.std.proofs.lemmas.List.{append-nil, length-map}
@@ -11,18 +11,16 @@ use Rattle.asl_term.specs.declared.syntax.ArgOf.TheVariants.{Plain, Logic}
 use Rattle.asl_term.specs.declared.syntax.Term.{Term}
 use Rattle.asl_term.specs.declared.syntax.Term.TheVariants as term
 use Rattle.asl_term.specs.declared.syntax.Expr.{Expr}
-use Rattle.asl_term.specs.declared.syntax.Expr.TheVariants as expr
-use Rattle.asl_term.specs.Trees.{all, or_true}
+use Rattle.asl_term.specs.Trees.{or_true}
 use Rattle.asl_meaning.specs.declared.meaning.Meaning.{Meaning}
 use Rattle.asl_meaning.specs.declared.meaning.Meaning.TheVariants as meaning
-use Rattle.asl_meaning.specs.declared.bounded.Bounded.TheVariants.{Within, Past}
+use Rattle.asl_meaning.specs.declared.bounded.Bounded.TheVariants.{Past}
 use Rattle.asl_meaning.specs.Meanings.{◌>>=◌, is_pure, is_deed, wants_formula}
 use Rattle.asl_meaning.specs.Meanings.{called as true_called, as_terms as true_terms, as_args as true_args}
 use Rattle.asl_meaning.specs.Meanings as meanings
-use Rattle.asl_meaning.specs.Limits.{within_term, within_literal, within_expr}
 use Rattle.asl_meaning.specs.Conjuncts.{has_parts}
 use Rattle.asl_meaning.specs.Plain.{is_plain, are_plain, is_plain_literal, is_plain_listing, is_none, is_action}
-use Rattle.asl_meaning.specs.Holding.{Bounds, fits_term, fits_literal, fits_expr, Kept, KeptTerm, KeptTerms, KeptExpr, KeptArg, KeptArgs, outline, term_outline, call_outline, literal_outline, keep_if, hold, hold_if, hold_term, hold_formula, hold_terms, hold_listing, has_small_parts, hold_literal, is_small_arg, hold_arg, hold_args, as_term, as_formula, put_term, terms_behind, as_terms, listed, terms_none, literal_of, literal_held, listing_held, term_arg, formula_arg, as_arg, put_arg, args_behind, as_args, call_of, called}
+use Rattle.asl_meaning.specs.Holding.{Bounds, fits_term, fits_expr, Kept, KeptTerm, KeptTerms, KeptExpr, KeptArg, KeptArgs, term_outline, call_outline, literal_outline, keep_if, hold, hold_if, hold_term, hold_formula, hold_terms, hold_listing, has_small_parts, hold_literal, is_small_arg, hold_arg, hold_args, put_term, terms_behind, as_terms, listed, literal_of, literal_held, listing_held, term_arg, formula_arg, as_arg, put_arg, args_behind, as_args, call_of, called}
 use Rattle.asl_meaning.proofs.Options.{some_is}
 use Rattle.asl_meaning.proofs.Past.{literal_past, listing_past, call_past}
 use Rattle.asl_meaning.proofs.Keeping.{listing_plain, term_held, formula_held}

@@ -1,6 +1,7 @@
 pub mod Lexemes
 pub mod Meanings
 pub mod Limits
+pub mod Making
 pub mod Plain
 pub mod Conjuncts
 pub mod Holding

@@ -1,12 +1,11 @@
 -- What expressions mean, as terms and as formulas.
-use Rattle.std.specs.Prelude.{ℕ, suc, ◌+◌, ℤ, pos, Bool, true, false, ◌&&◌, ◌||◌, ◌==◌, nat_le, List, [], ◌∷◌, length, Option, Some, None, codes, if◌then◌else◌}
+use Rattle.std.specs.Prelude.{ℕ, suc, pos, Bool, true, false, ◌&&◌, ◌||◌, ◌==◌, nat_le, List, [], ◌∷◌, length, Option, Some, None, codes, if◌then◌else◌}
 use Rattle.std.specs.Option.{option_map}
 use Rattle.std.specs.Str.{bytes_eq}
 use Rattle.asl_term.specs.declared.syntax.Op.{Op}
 use Rattle.asl_term.specs.declared.syntax.Op.TheVariants.{Sub}
 use Rattle.asl_term.specs.declared.syntax.RelOp.{RelOp}
 use Rattle.asl_term.specs.declared.syntax.LiteralOf.{LiteralOf}
-use Rattle.asl_term.specs.declared.syntax.CallOf.{CallOf}
 use Rattle.asl_term.specs.declared.syntax.ArgOf.{ArgOf}
 use Rattle.asl_term.specs.declared.syntax.ArgOf.TheVariants.{Plain, Logic}
 use Rattle.asl_term.specs.declared.syntax.Term.{Term}

@@ -113,7 +113,7 @@ fn outline(m: &Meaning) -> Outline
         Meaning::Term(t) => term_outline(is_plain(t)),
         Meaning::Relation(_) => relation_outline(),
         Meaning::Call(c) => call_outline(is_pure(&c.name, c.args.len())),
-        Meaning::Formula(e) => formula_outline(is_literal(e), has_parts(e)),
+        Meaning::Formula(e) => formula_outline(is_literal(e.get()), has_parts(e.get())),
     }
 }
 
@@ -135,9 +135,9 @@ fn is_small(m: &Meaning) -> bool
         Meaning::Truth(_, _) => true,
         Meaning::Literal(l) => within_literal(l),
         Meaning::Term(t) => within_term(t),
-        Meaning::Relation(r) => within_relation(r),
+        Meaning::Relation(r) => within_relation(r.get()),
         Meaning::Call(c) => within_call(c),
-        Meaning::Formula(e) => within_expr(e),
+        Meaning::Formula(e) => within_expr(e.get()),
     }
 }
 
@@ -310,30 +310,38 @@ fn large_relation(left: Outline, right: Outline) -> Option<Held>
 }
 
 #[tactic(auto, unfolding(crate::specs::Holding::compared))]
-fn compared_within(op: RelOp, left: Meaning, right: Held) -> Option<Held>
-    ensures { result ≡ spec.compared limited op (Bounded.Within left) right }
+fn compared_within(
+    alloc: Global,
+    op: RelOp,
+    left: Meaning,
+    right: Held,
+) -> Result<Option<Held>, Starved>
+    ensures { IfOk result (λ r. r ≡ spec.compared limited op (Bounded.Within left) right) }
 {
     match right {
-        Bounded::Within(right) => held_if(meaning::compared(op, left, right)),
+        Bounded::Within(right) => match meaning::compared(alloc, op, left, right) {
+            Ok(m) => Ok(held_if(m)),
+            Err(starved) => Err(starved),
+        },
         Bounded::Past(o) => {
             let other = outline(&left);
             drop(left);
-            large_relation(other, o)
+            Ok(large_relation(other, o))
         }
     }
 }
 
 /// Two terms and a relation between them.
 #[tactic(auto, unfolding(crate::specs::Holding::compared))]
-pub fn compared(op: RelOp, left: Held, right: Held) -> Option<Held>
-    ensures { result ≡ spec.compared limited op left right }
+pub fn compared(alloc: Global, op: RelOp, left: Held, right: Held) -> Result<Option<Held>, Starved>
+    ensures { IfOk result (λ r. r ≡ spec.compared limited op left right) }
 {
     match left {
-        Bounded::Within(left) => compared_within(op, left, right),
+        Bounded::Within(left) => compared_within(alloc, op, left, right),
         Bounded::Past(o) => {
             let other = outline_of(&right);
             drop(right);
-            large_relation(o, other)
+            Ok(large_relation(o, other))
         }
     }
 }

@@ -7,6 +7,7 @@ pub mod held;
 pub mod leaves;
 pub mod lexeme;
 pub mod limits;
+pub mod making;
 pub mod meaning;
 pub mod parts;
 pub mod plain;

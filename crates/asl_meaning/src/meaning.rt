@@ -1,6 +1,7 @@
 //! What expressions mean as they are read, before it is known whether a term or a formula is wanted.
 
 ghost use Rattle.std.specs.Prelude.{◌≡◌, IfOk};
+ghost use Rattle.asl_meaning.specs.declared.meaning.Meaning.TheVariants as variant;
 ghost use Rattle.asl_meaning.specs.Meanings as spec;
 
 use asl_term::boxed::Boxed;
@@ -9,7 +10,7 @@ use asl_term::sequence::{Seq, Starved};
 use asl_term::syntax::{ArithOf, Call, Expr, Literal, LiteralOf, Op, RelOp, Relation, Term, Text};
 use std::alloc::Global;
 
-/// What an expression means.
+/// What an expression means. The large ones are boxed, since the reader's frames hold many of them at each level of brackets.
 #[derive(Drop)]
 pub enum Meaning {
     /// The word `true` or `false`: a constant where a formula is wanted, and this atom where a term is.
@@ -18,10 +19,10 @@ pub enum Meaning {
     Literal(Literal),
     /// Another term.
     Term(Term),
-    Relation(Relation),
+    Relation(Boxed<Relation>),
     Call(Call),
     /// A formula with `not`, `&` or `|`.
-    Formula(Expr),
+    Formula(Boxed<Expr>),
 }
 
 /// What stands between two operands of one level.
@@ -184,7 +185,7 @@ pub fn as_formula(m: Meaning) -> Option<Expr>
             drop(t);
             None
         }
-        Meaning::Relation(r) => Some(Expr::Rel(r)),
+        Meaning::Relation(r) => Some(Expr::Rel(r.into_inner())),
         Meaning::Call(c) => {
             if is_pure(&c.name, c.args.len()) {
                 Some(Expr::Inner(c))
@@ -193,7 +194,7 @@ pub fn as_formula(m: Meaning) -> Option<Expr>
                 None
             }
         }
-        Meaning::Formula(e) => Some(e),
+        Meaning::Formula(e) => Some(e.into_inner()),
     }
 }
 
@@ -267,6 +268,12 @@ fn both_of(alloc: Global, left: Expr, right: Expr) -> Result<Expr, Starved>
     Ok(Expr::And(left, right))
 }
 
+fn formula(alloc: Global, e: Expr) -> Result<Meaning, Starved>
+    ensures { IfOk result (λ m. m ≡ variant.Formula e) }
+{
+    Ok(Meaning::Formula(Boxed::new(alloc, e)?))
+}
+
 /// Two operands and what stands between them.
 #[tactic(auto, unfolding(crate::specs::Meanings::joined))]
 pub fn joined(
@@ -279,11 +286,11 @@ pub fn joined(
 {
     match joint {
         Joint::Or => match both_formulas(left, right) {
-            Some((left, right)) => Ok(Some(Meaning::Formula(either_of(alloc, left, right)?))),
+            Some((left, right)) => Ok(Some(formula(alloc, either_of(alloc, left, right)?)?)),
             None => Ok(None),
         },
         Joint::And => match both_formulas(left, right) {
-            Some((left, right)) => Ok(Some(Meaning::Formula(both_of(alloc, left, right)?))),
+            Some((left, right)) => Ok(Some(formula(alloc, both_of(alloc, left, right)?)?)),
             None => Ok(None),
         },
         Joint::Arith(op) => match both_terms(left, right) {
@@ -295,11 +302,21 @@ pub fn joined(
 
 /// Two terms and a relation between them.
 #[tactic(auto, unfolding(crate::specs::Meanings::compared))]
-pub fn compared(op: RelOp, left: Meaning, right: Meaning) -> Option<Meaning>
-    ensures { result ≡ spec.compared op left right }
+pub fn compared(
+    alloc: Global,
+    op: RelOp,
+    left: Meaning,
+    right: Meaning,
+) -> Result<Option<Meaning>, Starved>
+    ensures { IfOk result (λ r. r ≡ spec.compared op left right) }
 {
-    let (left, right) = both_terms(left, right)?;
-    Some(Meaning::Relation(Relation { op, left, right }))
+    match both_terms(left, right) {
+        Some((left, right)) => {
+            let related = Boxed::new(alloc, Relation { op, left, right })?;
+            Ok(Some(Meaning::Relation(related)))
+        }
+        None => Ok(None),
+    }
 }
 
 /// An operand and what stands before it.
@@ -312,7 +329,7 @@ pub fn prefixed(alloc: Global, prefix: Prefix, m: Meaning) -> Result<Option<Mean
             let Some(e) = as_formula(m) else {
                 return Ok(None);
             };
-            Ok(Some(Meaning::Formula(Expr::Not(Boxed::new(alloc, e)?))))
+            Ok(Some(formula(alloc, Expr::Not(Boxed::new(alloc, e)?))?))
         }
         Prefix::Minus => {
             let Some(t) = as_term(m) else {

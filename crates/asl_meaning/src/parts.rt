@@ -12,10 +12,9 @@ use crate::meaning::{Meaning, is_deed, is_pure, wants_formula};
 use crate::plain::{are_plain, is_none, is_plain, is_plain_listing, is_plain_literal};
 use asl_term::copying::copy_text;
 use asl_term::sequence::{Seq, Starved};
-use asl_term::syntax::{
-    Arg, ArgOf, Args, CallOf, Listing, ListingOf, LiteralOf, Term, Terms, Text,
-};
+use asl_term::syntax::{Arg, ArgOf, Args, CallOf, Listing, LiteralOf, Term, Terms, Text};
 use std::alloc::Global;
+use std::mem;
 
 fn term_plain(t: &HeldTerm) -> bool
     ensures { result ≡ spec.term_plain t.now }
@@ -95,12 +94,10 @@ pub fn as_terms(alloc: Global, all: Vec<Held>) -> Result<Option<HeldTerms>, Star
 fn joined_listing(items: Terms, l: Listing) -> Result<HeldListing, Starved>
     ensures { IfOk result (λ r. r ≡ Bounded.Within (record { items = items ++ l.items; tail = l.tail })) }
 {
-    let mut all = items;
-    all.append_all(l.items)?;
-    Ok(Bounded::Within(ListingOf {
-        items: all,
-        tail: l.tail,
-    }))
+    let mut whole = l;
+    let behind = mem::replace(&mut whole.items, items);
+    whole.items.append_all(behind)?;
+    Ok(Bounded::Within(whole))
 }
 
 /// The items of a list before what is behind them.

@@ -18,7 +18,7 @@ use Rattle.asl_meaning.specs.Meanings.{truth, joined as true_joined, compared as
 use Rattle.asl_meaning.specs.Leaves.{positive, negative, starts_number, variable, string_of, variable_of}
 use Rattle.asl_reading.specs.Grammar.{listing, Rule, disjunction, conjunction, negation, relation, sum, product, signed, primary, Joins, Relates, operand}
 use Rattle.asl_reading.specs.Grammar as grammar
-use Rattle.asl_meaning.specs.Holding.{Bounds, Kept, KeptTerms, KeptListing, KeptLiteral, hold, hold_if, hold_terms, hold_listing, hold_literal, joined, compared, prefixed, as_terms, listed, literal_of, literal_held, listing_held, called}
+use Rattle.asl_meaning.specs.Holding.{Bounds, Kept, KeptTerms, KeptListing, KeptLiteral, hold, hold_terms, hold_listing, hold_literal, joined, compared, prefixed, as_terms, listed, literal_of, literal_held, listing_held, called}
 use Rattle.asl_reading.specs.Reading.{no_items, open_tail}
 use Rattle.asl_meaning.proofs.Options.{some_is}
 use Rattle.asl_meaning.proofs.Keeping.{joined_held, compared_held, prefixed_held, number_held, string_held, variable_held}

@@ -1,7 +1,6 @@
 -- What is in the grammar is read.
-use Rattle.std.proofs.Common.{◌≡◌, ℕ, ℤ, zero, suc, map, ◌<◌, ◌≤◌, Bool, true, false, cond, List, [], ◌∷◌, ◌++◌, length, Option, Some, None, refl, sym, ap, subst, ◌∙◌, arith}
+use Rattle.std.proofs.Common.{◌≡◌, ℕ, ℤ, zero, suc, map, ◌<◌, ◌≤◌, Bool, true, false, cond, List, [], ◌∷◌, length, Option, Some, None, refl, sym, ap, subst, ◌∙◌, arith}
 use Rattle.std.specs.Option.{option_map, option_map_or}
-use Rattle.asl_lexer.specs.declared.token.Sign.{Sign as AnySign}
 use Rattle.asl_lexer.specs.declared.token.Sign.TheVariants as sign
 use Rattle.asl_term.specs.declared.syntax.RelOp.{RelOp}
 use Rattle.asl_term.specs.declared.syntax.LiteralOf.{LiteralOf}
@@ -10,7 +9,6 @@ use Rattle.asl_term.specs.declared.syntax.Term.{Term}
 use Rattle.asl_term.specs.declared.syntax.Term.TheVariants as term
 use Rattle.asl_meaning.specs.declared.lexeme.Lexeme.{Lexeme}
 use Rattle.asl_meaning.specs.declared.lexeme.Lexeme.TheVariants.{Num, Str, Var, Inner, Atom, Truth, Not, Sign}
-use Rattle.asl_meaning.specs.declared.lexeme.Lexeme.TheVariants as lexeme
 use Rattle.asl_meaning.specs.declared.meaning.Meaning.{Meaning}
 use Rattle.asl_meaning.specs.declared.meaning.Meaning.TheVariants as meaning
 use Rattle.asl_meaning.specs.declared.meaning.Joint.{Joint}
@@ -25,11 +23,10 @@ use Rattle.asl_meaning.specs.declared.leaves.Start.TheVariants as start
 use Rattle.asl_meaning.specs.declared.bounded.Bounded.TheVariants.{Within}
 use Rattle.asl_meaning.specs.Meanings.{◌>>=◌, truth, as_terms as true_terms, joined as true_joined, compared as true_compared, prefixed as true_prefixed, called as true_called}
 use Rattle.asl_meaning.specs.Holding.{Bounds, Kept, KeptTerms, KeptListing, KeptLiteral, hold, hold_if, hold_terms, hold_listing, hold_literal, joined, compared, prefixed, as_terms, listed, literal_of, literal_held, listing_held, called}
-use Rattle.asl_meaning.specs.Leaves.{positive, negative, starts_number, variable, Front, Read, after_comma, after_bar, after_tilde, after_open, after_close, name_at, variable_at, inner_at, joint_of, joint_at, relation_of, relation_at, is_prefix, start_of, number_by, negative_by, plain_by, truth_at, string_at, string_of, variable_of, token_by}
-use Rattle.asl_reading.specs.Grammar.{listing, Rule, disjunction, conjunction, negation, relation, sum, product, signed, primary, or, and, plus, minus, times, over, modulo, less, less_same, more, more_same, same, differ, unify, operand}
-use Rattle.asl_reading.specs.Grammar.{Reads, just_or, just_and, just_negation, just_relation, just_sum, just_product, just_signed, chained, related, negated, subtracted, a_number, a_negative, a_string, a_variable, a_truth, a_literal, a_list, in_brackets, a_call, ReadsItems, last_item, next_item, ReadsParts, no_parts, round_parts, square_parts, ReadsAtom, an_atom, ReadsLiteral, is_held, is_denied, ReadsList, empty_list, some_list, ReadsTail, no_tail, variable_tail, list_tail}
-use Rattle.asl_reading.specs.Reading.{step_by, more_by, chain_by, wrap, prefix_by, items_by, Inside, bracketed_by, filled_by, parts_by, terms_by, atom_by, literal_by, list_by, call_by, as_literal, as_list, primary_from, primary_by, signed_by, product_by, sum_by, compared_by, relation_by, negation_by, and_by, or_by, operand_by, level_by, no_items, open_tail, tail_after, tail_by, some_by, body_by, inside}
-use Rattle.asl_meaning.proofs.Options.{some_is}
+use Rattle.asl_meaning.specs.Leaves.{positive, negative, starts_number, Front, Read, after_comma, after_bar, after_open, after_close, variable_at, joint_of, joint_at, relation_of, relation_at, start_of, number_by, string_of, variable_of, token_by}
+use Rattle.asl_reading.specs.Grammar.{Rule, disjunction, conjunction, negation, relation, sum, product, signed, primary, or, and, plus, minus, times, over, modulo, less, less_same, more, more_same, same, differ, unify, operand}
+use Rattle.asl_reading.specs.Grammar.{Reads, just_or, just_and, just_negation, just_relation, just_sum, just_product, just_signed, chained, related, negated, subtracted, a_number, a_negative, a_string, a_variable, a_truth, a_literal, a_list, in_brackets, a_call, ReadsItems, last_item, next_item, ReadsParts, no_parts, round_parts, square_parts, an_atom, ReadsLiteral, is_held, is_denied, ReadsList, empty_list, some_list, ReadsTail, no_tail, variable_tail, list_tail}
+use Rattle.asl_reading.specs.Reading.{step_by, more_by, chain_by, wrap, prefix_by, items_by, bracketed_by, filled_by, parts_by, terms_by, atom_by, literal_by, list_by, call_by, as_literal, as_list, primary_from, primary_by, signed_by, product_by, sum_by, compared_by, relation_by, negation_by, and_by, or_by, operand_by, level_by, no_items, open_tail, tail_after, tail_by, some_by, body_by, inside}
 use Rattle.asl_reading.proofs.Items.{item_step}
 use Rattle.asl_reading.proofs.Shorter.{shorter}
 use Rattle.asl_reading.proofs.Sound.{rule_of}

@@ -1,5 +1,5 @@
 -- What stands in brackets, one bracket deeper.
-use Rattle.std.proofs.Common.{◌≡◌, ℕ, zero, suc, List, [], ◌∷◌, length, Option, Some, None, refl, sym, ap, subst, ◌∙◌}
+use Rattle.std.proofs.Common.{◌≡◌, ℕ, zero, suc, List, length, Some, None, refl, ap, ◌∙◌}
 use Rattle.asl_meaning.specs.declared.lexeme.Lexeme.{Lexeme}
 use Rattle.asl_meaning.specs.Holding.{Bounds, Kept}
 use Rattle.asl_meaning.specs.declared.leaves.Level.{Level}
@@ -7,7 +7,7 @@ use Rattle.asl_meaning.specs.declared.leaves.Level.TheVariants as levels
 use Rattle.asl_meaning.specs.declared.leaves.Shape.{Shape}
 use Rattle.asl_meaning.specs.declared.leaves.Shape.TheVariants as shape
 use Rattle.asl_meaning.specs.Meanings.{◌>>=◌}
-use Rattle.asl_meaning.specs.Leaves.{Front, Read, after_open, after_close}
+use Rattle.asl_meaning.specs.Leaves.{Front, after_open, after_close}
 use Rattle.asl_reading.specs.Reading.{items_by, bracketed_by, filled_by, level_by, inside}
 
 module _ (bs : Bounds) where

@@ -1,5 +1,5 @@
 -- Fronts of tokens that are expressions.
-use Rattle.std.proofs.Common.{◌≡◌, ℕ, zero, suc, ◌+◌, ◌-◌, ◌<◌, ◌≤◌, Bool, true, false, leb, List, [], ◌∷◌, length, take, cond, Option, Some, None, Result, Ok, Err, refl, sym, ap, subst, ◌∙◌, arith}
+use Rattle.std.proofs.Common.{◌≡◌, ℕ, zero, suc, ◌+◌, ◌≤◌, Bool, true, false, leb, List, [], ◌∷◌, length, take, cond, Option, Some, None, Result, Ok, Err, refl, sym, ap, subst, ◌∙◌, arith}
 use Rattle.std.proofs.lemmas.Bool.{leb-true, leb-false}
 use Rattle.asl_meaning.specs.declared.lexeme.Lexeme.{Lexeme}
 use Rattle.asl_meaning.specs.declared.meaning.Meaning.{Meaning}
@@ -11,9 +11,8 @@ use Rattle.asl_meaning.specs.declared.leaves.Level.TheVariants as levels
 use Rattle.asl_meaning.specs.Limits.{too_deep}
 use Rattle.asl_meaning.specs.Holding.{Kept, limited, hold, is_small, keep_if, outline}
 use Rattle.asl_reading.specs.Grammar.{Reads, disjunction}
-use Rattle.asl_meaning.specs.Leaves.{Front, Read}
 use Rattle.asl_reading.specs.Reading.{level_by, inside}
-use Rattle.asl_reading.specs.Places.{IsFront, NoLonger, NoFront, IsLongest, IsFound, IsWhole, IsKeptWhole, IsKeptLongest, raw_of, within_raw, found_of, found_of_kept, IsAnswer, Passes, by_tree, FindsIn}
+use Rattle.asl_reading.specs.Places.{IsFront, NoLonger, IsLongest, IsFound, IsWhole, raw_of, within_raw, found_of, found_of_kept, by_tree, FindsIn}
 use Rattle.asl_meaning.proofs.Options.{some_is}
 use Rattle.asl_reading.proofs.Shorter.{shorter}
 use Rattle.asl_reading.proofs.Sound.{sound}

@@ -1,9 +1,9 @@
 -- One meaning.
-use Rattle.std.proofs.Common.{◌≡◌, ℕ, List, [], refl, sym, ap, ◌∙◌}
+use Rattle.std.proofs.Common.{◌≡◌, List, [], refl, sym, ap, ◌∙◌}
 use Rattle.asl_meaning.specs.declared.lexeme.Lexeme.{Lexeme}
 use Rattle.asl_meaning.specs.declared.meaning.Meaning.{Meaning}
 use Rattle.asl_meaning.specs.declared.meaning.Meaning.TheVariants as meaning
-use Rattle.asl_meaning.specs.declared.bounded.Bounded.TheVariants.{Within, Past}
+use Rattle.asl_meaning.specs.declared.bounded.Bounded.TheVariants.{Within}
 use Rattle.asl_meaning.specs.Holding.{Kept, unlimited, hold}
 use Rattle.asl_reading.specs.Grammar.{disjunction}
 use Rattle.asl_reading.specs.Laws.{OneMeaning}

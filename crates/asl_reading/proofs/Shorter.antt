@@ -1,6 +1,5 @@
 -- A reading takes at least one token.
-use Rattle.std.proofs.Common.{◌≡◌, ℕ, ◌<◌, ◌≤◌, Bool, List, ◌∷◌, length, arith}
-use Rattle.asl_lexer.specs.declared.token.Sign.TheVariants as sign
+use Rattle.std.proofs.Common.{ℕ, ◌<◌, ◌≤◌, Bool, List, length, arith}
 use Rattle.asl_term.specs.declared.syntax.LiteralOf.{LiteralOf}
 use Rattle.asl_term.specs.declared.syntax.ListingOf.{ListingOf}
 use Rattle.asl_term.specs.declared.syntax.Term.{Term}

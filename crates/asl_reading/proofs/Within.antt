@@ -1,5 +1,5 @@
 -- A clause whose brackets are within the limit is read within it.
-use Rattle.std.proofs.Common.{◌≡◌, ℕ, zero, suc, ◌+◌, ◌-◌, ◌<◌, Bool, true, false, cond, ltb, List, [], ◌∷◌, ◌++◌, Option, Some, None, refl, sym, ap, subst, ◌∙◌, add-one, arith}
+use Rattle.std.proofs.Common.{◌≡◌, ℕ, zero, suc, ◌+◌, ◌-◌, ◌<◌, Bool, true, false, cond, ltb, List, [], ◌∷◌, ◌++◌, None, refl, subst, add-one, arith}
 use Rattle.std.proofs.lemmas.Bool.{ltb-true}
 use Rattle.asl_lexer.specs.declared.token.Sign.TheVariants as sign
 use Rattle.asl_term.specs.declared.syntax.RelOp.{RelOp}
@@ -7,8 +7,7 @@ use Rattle.asl_term.specs.declared.syntax.LiteralOf.{LiteralOf}
 use Rattle.asl_term.specs.declared.syntax.ListingOf.{ListingOf}
 use Rattle.asl_term.specs.declared.syntax.Term.{Term}
 use Rattle.asl_meaning.specs.declared.lexeme.Lexeme.{Lexeme}
-use Rattle.asl_meaning.specs.declared.lexeme.Lexeme.TheVariants.{Atom, Truth, Not, Sign}
-use Rattle.asl_meaning.specs.declared.lexeme.Lexeme.TheVariants as lexeme
+use Rattle.asl_meaning.specs.declared.lexeme.Lexeme.TheVariants.{Sign}
 use Rattle.asl_meaning.specs.declared.meaning.Meaning.{Meaning}
 use Rattle.asl_meaning.specs.declared.meaning.Joint.{Joint}
 use Rattle.asl_meaning.specs.declared.leaves.Shape.{Shape}

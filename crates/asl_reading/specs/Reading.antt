@@ -16,6 +16,8 @@ use Rattle.asl_meaning.specs.declared.bounded.Bounded.TheVariants.{Within}
 use Rattle.asl_meaning.specs.Meanings.{◌>>=◌}
 use Rattle.asl_meaning.specs.Holding.{Bounds, Kept, KeptTerms, KeptListing, KeptLiteral, joined, compared, prefixed, as_terms, listed, literal_of}
 use Rattle.asl_meaning.specs.Holding.{literal_held, listing_held, called}
+use Rattle.asl_meaning.specs.declared.making.Making.{Making}
+use Rattle.asl_meaning.specs.Making.{made}
 use Rattle.asl_meaning.specs.Leaves.{Front, Read, after_bar, after_close, after_comma, after_open, after_tilde}
 use Rattle.asl_meaning.specs.Leaves.{inner_at, is_prefix, joint_at, name_at, relation_at, start_of, token_by, variable, variable_at}
 use Rattle.asl_reading.specs.Grammar.{listing}
@@ -69,6 +71,10 @@ tail_by inner ts = option_map_or (tail_after inner) (after_bar ts) (Some (no_ite
 -- ---- the levels, with or without the limits of trees
 
 module _ (b : Bounds) where
+  -- what is made of what was read, before what follows it
+  abbrev pub whole : Making → List Lexeme → Read
+  whole parts rest = made b parts >>= λ m. Some (m, rest)
+
   -- the left operand, joined to the right one where there is one
   abbrev pub join_to : Kept → Joint → Read → Read
   join_to left o right = right >>= λ r. joined b o left r.0 >>= λ m. Some (m, r.1)

@@ -33,9 +33,9 @@ pub fn raw_of(m: Meaning) -> Raw
         Meaning::Truth(_, l) => Raw::Plain(Term::Lit(l)),
         Meaning::Literal(l) => Raw::Plain(Term::Lit(l)),
         Meaning::Term(t) => Raw::Plain(t),
-        Meaning::Relation(r) => Raw::Logic(Expr::Rel(r)),
+        Meaning::Relation(r) => Raw::Logic(Expr::Rel(r.into_inner())),
         Meaning::Call(c) => Raw::Logic(Expr::Inner(c)),
-        Meaning::Formula(e) => Raw::Logic(e),
+        Meaning::Formula(e) => Raw::Logic(e.into_inner()),
     }
 }
 

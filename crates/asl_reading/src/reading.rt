@@ -8,14 +8,14 @@ ghost use Rattle.asl_reading.specs.Reading.{inside};
 ghost use Rattle.asl_meaning.specs.declared.leaves.Level.TheVariants as levels;
 
 use asl_meaning::bounded::{Bounded, Held, HeldListing, HeldLiteral, HeldTerms};
-use asl_meaning::held::{compared, joined, prefixed};
 use asl_meaning::leaves::{
     Level, Shape, Start, after_bar, after_close, after_comma, after_open, after_prefix,
     after_tilde, inner_at, joint_at, name_at, relation_at, start_of, token, variable, variable_at,
 };
 use asl_meaning::lexeme::Lexeme;
+use asl_meaning::making::{Making, made};
 use asl_meaning::meaning::{Joint, Prefix};
-use asl_meaning::parts::{as_terms, called, listed, listing_held, literal_held, literal_of};
+use asl_meaning::parts::{as_terms, listed, literal_of};
 use asl_term::boxed::Boxed;
 use asl_term::copying::copy_text;
 use asl_term::sequence::{Seq, Starved};
@@ -28,6 +28,20 @@ fn keep(all: &mut Vec<Held>, m: Held) -> Result<(), Starved>
     match all.push(m) {
         Ok(()) => Ok(()),
         Err(_) => Err(Starved),
+    }
+}
+
+// What is made of what was read, with what follows it.
+fn whole<'a>(
+    alloc: Global,
+    making: Making<'_>,
+    rest: &'a [Lexeme],
+) -> Result<Option<(Held, &'a [Lexeme])>, Starved>
+    ensures { Gives (λ x. (x.0, x.1.now)) result (spec.whole limited making.entry rest.now) }
+{
+    match made(alloc, making)? {
+        Some(m) => Ok(Some((m, rest))),
+        None => Ok(None),
     }
 }
 
@@ -59,10 +73,7 @@ fn join_to<'a>(
 {
     match right {
         None => Ok(None),
-        Some((m, rest)) => match joined(alloc, joint, left, m)? {
-            Some(m) => Ok(Some((m, rest))),
-            None => Ok(None),
-        },
+        Some((m, rest)) => whole(alloc, Making::Joined(joint, left, m), rest),
     }
 }
 
@@ -136,7 +147,7 @@ fn wraps<'a>(
 {
     let mut whole = m;
     'wraps: for _ in 0..count {
-        let Some(more) = prefixed(alloc, before, whole)? else {
+        let Some(more) = made(alloc, Making::Prefixed(before, whole))? else {
             return Ok(None);
         };
         whole = more;
@@ -168,15 +179,17 @@ fn prefix(
 
 // The left side, related to the right one where there is one.
 fn relate_to<'a>(
+    alloc: Global,
     left: Held,
     op: RelOp,
     right: Option<(Held, &'a [Lexeme])>,
-) -> Option<(Held, &'a [Lexeme])>
-    ensures { view_front result ≡ spec.relate_to limited left op (view_front right.entry) }
+) -> Result<Option<(Held, &'a [Lexeme])>, Starved>
+    ensures { Gives (λ x. (x.0, x.1.now)) result (spec.relate_to limited left op (view_front right.entry)) }
 {
-    let (m, rest) = right?;
-    let m = compared(op, left, m)?;
-    Some((m, rest))
+    match right {
+        None => Ok(None),
+        Some((m, rest)) => whole(alloc, Making::Compared(op, left, m), rest),
+    }
 }
 
 // A relation and its right side.
@@ -192,7 +205,7 @@ fn side<'a>(
     ensures { Gives (λ x. (x.0, x.1.now)) result (spec.compared_by limited (spec.sum_by limited (inside limited depth)) left (op, tokens.now)) }
 {
     match chain(alloc, Level::Sum, tokens, depth) {
-        Ok(right) => Ok(relate_to(left, op, right)),
+        Ok(right) => relate_to(alloc, left, op, right),
         Err(e) => Err(e),
     }
 }
@@ -230,13 +243,13 @@ fn primary(
             let Some((l, rest)) = list(alloc, tokens, depth)? else {
                 return Ok(None);
             };
-            Ok(Some((listing_held(l), rest)))
+            whole(alloc, Making::Listing(l), rest)
         }
         Start::Name => {
             let Some((l, rest)) = literal(alloc, tokens, depth)? else {
                 return Ok(None);
             };
-            Ok(Some((literal_held(l), rest)))
+            whole(alloc, Making::Literal(l), rest)
         }
         Start::Dotted => call(alloc, tokens, depth),
         Start::Other => token(alloc, tokens),
@@ -403,10 +416,7 @@ fn call(alloc: Global, tokens: &[Lexeme], depth: u32) -> Result<Option<(Held, &[
     let Some((all, rest)) = parts(alloc, Level::Or, Shape::Round, rest, depth)? else {
         return Ok(None);
     };
-    let Some(m) = called(alloc, name, all)? else {
-        return Ok(None);
-    };
-    Ok(Some((m, rest)))
+    whole(alloc, Making::Called(name, all), rest)
 }
 
 #[cycle(reader)]

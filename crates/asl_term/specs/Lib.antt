@@ -6,4 +6,5 @@ pub mod Same
 pub mod Texts
 pub mod Names
 pub mod Exprs
+pub mod Halves
 pub mod Variables

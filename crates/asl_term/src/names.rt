@@ -44,9 +44,15 @@ impl Hash for Seq<u8> {
 }
 
 /// A list of distinct names, fewer than 2^32. Contracts see them in their order.
-#[derive(Drop)]
 pub struct Names {
     texts: IndexSet<Text>,
+}
+
+/// By hand, so that a crate above that lets one go proves nothing of its parts.
+impl Drop for Names {
+    fn drop(self) {
+        let Names { texts: _ } = self;
+    }
 }
 
 impl Model for Names {

@@ -11,9 +11,15 @@ use std::alloc::Global;
 use std::marker::Model;
 
 /// A list with room for more. Contracts see its items and the number of free places.
-#[derive(Drop)]
 pub struct Roomy<T> {
     items: Vec<T>,
+}
+
+/// By hand, so that a crate above that lets one go proves nothing of its parts.
+impl<T: Drop> Drop for Roomy<T> {
+    fn drop(self) {
+        let Roomy { items: _ } = self;
+    }
 }
 
 impl<T> Model for Roomy<T> {

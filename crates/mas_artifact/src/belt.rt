@@ -19,6 +19,7 @@ use mas_world::artifact::Artifact;
 use mas_world::guards::ready;
 use std::alloc::Global;
 use std::marker::Model;
+use std::mem;
 
 /// Its name, and what stands on it, the first to be taken first.
 pub struct Belt {
@@ -75,8 +76,9 @@ fn belt_literal(alloc: Global, items: Terms) -> Result<Literal, Starved>
 fn items_of(alloc: Global, t: Term) -> Terms
     ensures { result ≡ states.items_of (list_of t) }
 {
-    match t {
-        Term::List(l) => l.items,
+    let mut t = t;
+    match &mut t {
+        Term::List(l) => mem::replace(&mut l.items, Seq::new(alloc)),
         _ => Seq::new(alloc),
     }
 }
@@ -99,7 +101,11 @@ fn row(alloc: Global, items: Terms) -> Result<Option<Terms>, Starved>
     let l = belt_literal(alloc, items)?;
     match ready(alloc, &l, &no_subst(alloc))? {
         None => Ok(None),
-        Some(l) => Ok(Some(items_in(alloc, l.args))),
+        Some(mut l) => {
+            let args = mem::replace(&mut l.args, Seq::new(alloc));
+            drop(l);
+            Ok(Some(items_in(alloc, args)))
+        }
     }
 }
 

@@ -1,4 +1,4 @@
-use Rattle.std.proofs.Common.{◌≡◌, ◌≤◌, ◌+◌, ◌++◌, ◌^◌, length}
+use Rattle.std.proofs.Common.{◌≡◌, ◌≤◌, ◌+◌, ◌++◌, length}
 use Rattle.asl_meaning.specs.Lexemes.{lexemes_from, lexemes}
 use Rattle.asl_meaning.proofs.lexeme.lexemes.Given as goal
 

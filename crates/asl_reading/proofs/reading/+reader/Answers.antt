@@ -1,4 +1,4 @@
-use Rattle.std.proofs.Common.{◌≡◌, ◌∙◌, ◌<◌, ◌-◌, suc, length, Some, None, rules, arith}
+use Rattle.std.proofs.Common.{◌≡◌, ◌<◌, ◌-◌, suc, length, Some, None, rules, arith}
 use Rattle.asl_meaning.specs.declared.leaves.Level.TheVariants as levels
 use Rattle.asl_meaning.specs.declared.leaves.Shape.TheVariants as shape
 use Rattle.asl_meaning.specs.Holding.{limited}

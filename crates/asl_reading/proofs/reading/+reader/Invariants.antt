@@ -1,4 +1,4 @@
-use Rattle.std.proofs.Common.{◌≡◌, length, ◌+◌, ◌*◌}
+use Rattle.std.proofs.Common.{length, ◌+◌, ◌*◌}
 use Rattle.asl_meaning.specs.Holding.{limited}
 use Rattle.asl_reading.specs.Reading.{level_by, operand_by, base_by, items_by, inside}
 use Rattle.asl_reading.proofs.Loop.{rank, prefix_rank, Continues, Passed}

@@ -11,6 +11,6 @@ returns-clause-answer g c =
     let a = c.args in
     let found = λ (fs : List Fact) (s : List Pair).
     decide a.k.now.budgets.tries (marks (base fs (g.A.Actions.solve a.k.now.actions)) a.k.now.budgets.depth a.e.now s a.p.now.number) in
-    IfOk-weaker c.first-2.result _ _ (λ r h. (
+    IfOk-weaker c.first.result _ _ (λ r h. (
     h ∙ ap (found (g.B.Facts.clauses a.p.now.beliefs)) c.no_subst.ensures ∙ ap (λ fs. found fs []) (g.met.B.BeliefBase.parts a.p.now.beliefs)
-    )) c.first-2.ensures.decided
+    )) c.first.ensures.decided
