@@ -16,13 +16,13 @@ use Rattle.asl_intend.specs.declared.agenda.Agenda.{Agenda}
 use Rattle.asl_intend.specs.declared.agenda.Error.TheVariants as error
 use Rattle.asl_intend.specs.Stacks.{has_goal, names_goal, is_bounded, is_bounded_trigger, head}
 use Rattle.asl_intend.specs.Agendas.{without, without_intentions, without_desires}
-use Rattle.asl_state.specs.declared.rows.Fall.{Fall}
-use Rattle.asl_state.specs.declared.rows.Row.TheVariants as row
-use Rattle.asl_state.specs.Parts.{Around, Parts, Made, failed}
-use Rattle.asl_state.specs.Emptied.{emptied, popped, done_below}
+use Rattle.asl_exec_circumstance.specs.declared.rows.Fall.{Fall}
+use Rattle.asl_exec_circumstance.specs.declared.rows.Row.TheVariants as row
+use Rattle.asl_exec_circumstance.specs.Circumstance.{Surroundings, Circumstance, Made, failed}
+use Rattle.asl_exec_circumstance.specs.Emptied.{emptied, popped, done_below}
 use Rattle.mas_mind.specs.declared.mind.Message.{Message}
-use Rattle.asl_state.specs.declared.peers.Peers.{Peers}
-use Rattle.asl_state.specs.Contents.{literal_of}
+use Rattle.asl_exec_circumstance.specs.declared.peers.Peers.{Peers}
+use Rattle.asl_exec_circumstance.specs.Contents.{literal_of}
 use Rattle.asl_goals.specs.declared.acted.Why.{Why}
 use Rattle.asl_goals.specs.declared.acted.Why.TheVariants as why
 use Rattle.asl_goals.specs.declared.letter.Letter.{Letter}
@@ -62,114 +62,114 @@ pick P true h g = h
 pick P false h g = g
 
 -- the stacks that run stay
-abbrev Runs : Parts → Made → Type 0
+abbrev Runs : Circumstance → Made → Type 0
 Runs p x = x.parts.agenda.running ≡ p.agenda.running
 
-module _ (k : Around) where
-  popped_runs : (p : Parts) (l : LiteralOf Term) (below : List Means) → Runs p (popped k p l below)
+module _ (k : Surroundings) where
+  popped_runs : (p : Circumstance) (l : LiteralOf Term) (below : List Means) → Runs p (popped k p l below)
   popped_runs p l below = either (Runs p) (is_bounded (head below)) (done_below p l below) (failed k row.ClrLimit error.TermLimit p below)
       refl (falls k p.number error.TermLimit p.agenda below)
 
-  emptied_runs : (p : Parts) (stack : List Means) → Runs p (emptied k p stack)
+  emptied_runs : (p : Circumstance) (stack : List Means) → Runs p (emptied k p stack)
   emptied_runs p [] = refl
   emptied_runs p (m ∷ []) = refl
   emptied_runs p (m ∷ n ∷ below) =
       either (Runs p) (is_bounded_trigger m.trigger) (popped k p m.trigger.lit (n ∷ below)) (failed k row.ClrLimit error.TermLimit p (n ∷ below))
       (popped_runs p m.trigger.lit (n ∷ below)) (falls k p.number error.TermLimit p.agenda (n ∷ below))
 
-  treated_runs : (w : Way) (p : Parts) (stack : List Means) → Runs p (goals.treated k w p stack)
+  treated_runs : (w : Way) (p : Circumstance) (stack : List Means) → Runs p (goals.treated k w p stack)
   treated_runs way.Succeed p stack = emptied_runs p stack
   treated_runs way.Fail p stack = falls k p.number error.IaFailed p.agenda stack
 
 -- the one that waits for its action stays
-abbrev Waits : Parts → Made → Type 0
+abbrev Waits : Circumstance → Made → Type 0
 Waits p x = x.parts.agenda.acting ≡ p.agenda.acting
 
-module _ (k : Around) where
-  popped_waits : (p : Parts) (l : LiteralOf Term) (below : List Means) → Waits p (popped k p l below)
+module _ (k : Surroundings) where
+  popped_waits : (p : Circumstance) (l : LiteralOf Term) (below : List Means) → Waits p (popped k p l below)
   popped_waits p l below = either (Waits p) (is_bounded (head below)) (done_below p l below) (failed k row.ClrLimit error.TermLimit p below)
       refl (falls_acting k.plans p.number error.TermLimit p.agenda below)
 
-  emptied_waits : (p : Parts) (stack : List Means) → Waits p (emptied k p stack)
+  emptied_waits : (p : Circumstance) (stack : List Means) → Waits p (emptied k p stack)
   emptied_waits p [] = refl
   emptied_waits p (m ∷ []) = refl
   emptied_waits p (m ∷ n ∷ below) =
       either (Waits p) (is_bounded_trigger m.trigger) (popped k p m.trigger.lit (n ∷ below)) (failed k row.ClrLimit error.TermLimit p (n ∷ below))
       (popped_waits p m.trigger.lit (n ∷ below)) (falls_acting k.plans p.number error.TermLimit p.agenda (n ∷ below))
 
-  treated_waits : (w : Way) (p : Parts) (stack : List Means) → Waits p (goals.treated k w p stack)
+  treated_waits : (w : Way) (p : Circumstance) (stack : List Means) → Waits p (goals.treated k w p stack)
   treated_waits way.Succeed p stack = emptied_waits p stack
   treated_waits way.Fail p stack = falls_acting k.plans p.number error.IaFailed p.agenda stack
 
 -- ---- the fold
 
-sweep_waits : {S : Type 0} (one : Parts → S → Swept S) → ((p : Parts) (x : S) → (one p x).parts.agenda.acting ≡ p.agenda.acting)
-    → (p : Parts) (xs : List S) → (goals.sweep one p xs).parts.agenda.acting ≡ p.agenda.acting
+sweep_waits : {S : Type 0} (one : Circumstance → S → Swept S) → ((p : Circumstance) (x : S) → (one p x).parts.agenda.acting ≡ p.agenda.acting)
+    → (p : Circumstance) (xs : List S) → (goals.sweep one p xs).parts.agenda.acting ≡ p.agenda.acting
 sweep_waits one h p [] = refl
 sweep_waits one h p (x ∷ more) = let a = one p x in sweep_waits one h a.parts more ∙ h p x
 
 -- some go behind them
-abbrev Back : Parts → Parts → Type 0
+abbrev Back : Circumstance → Circumstance → Type 0
 Back p q = (back : Stacks) × (q.agenda.running ≡ p.agenda.running ++ back)
 
-none_back : (p q : Parts) → q.agenda.running ≡ p.agenda.running → Back p q
+none_back : (p q : Circumstance) → q.agenda.running ≡ p.agenda.running → Back p q
 none_back p q e = ([], e ∙ sym (append-nil p.agenda.running))
 
-back_then : (p q r : Parts) → Back p q → Back q r → Back p r
+back_then : (p q r : Circumstance) → Back p q → Back q r → Back p r
 back_then p q r h g = (h.0 ++ g.0, g.1 ∙ (ap (λ xs. xs ++ g.0) h.1 ∙ append_assoc p.agenda.running h.0 g.0))
 
-sweep_back : {S : Type 0} (one : Parts → S → Swept S) → ((p : Parts) (x : S) → Back p (one p x).parts)
-    → (p : Parts) (xs : List S) → Back p (goals.sweep one p xs).parts
+sweep_back : {S : Type 0} (one : Circumstance → S → Swept S) → ((p : Circumstance) (x : S) → Back p (one p x).parts)
+    → (p : Circumstance) (xs : List S) → Back p (goals.sweep one p xs).parts
 sweep_back one h p [] = none_back p p refl
 sweep_back one h p (x ∷ more) =
     let a = one p x in
     back_then p a.parts (goals.sweep one a.parts more).parts (h p x) (sweep_back one h a.parts more)
 
-module _ (k : Around) (w : Way) (g : LiteralOf Term) where
+module _ (k : Surroundings) (w : Way) (g : LiteralOf Term) where
   lost_or_changed : (s t : List Means) (before after : Stacks) → has_goal g s ≡ true → Left (Some g) before after
       → Left (Some g) (s ∷ before) (goals.what_is_left t ++ after)
   lost_or_changed s [] before after e h = Left.Lost g s before after refl e h
   lost_or_changed s (m ∷ below) before after e h = Left.Changed g s (m ∷ below) before after refl e h
 
-  in_place_left : (p : Parts) (s : List Means) (before after : Stacks) (o : Option (List Means)) → goals.from_lowest g s ≡ o → Left (Some g) before after
+  in_place_left : (p : Circumstance) (s : List Means) (before after : Stacks) (o : Option (List Means)) → goals.from_lowest g s ≡ o → Left (Some g) before after
       → Left (Some g) (s ∷ before) ((goals.in_place k w g p s o).left ++ after)
   in_place_left p s before after None e h = Left.Same s before after h
   in_place_left p s before after (Some cut) e h = lost_or_changed s (goals.treated k w p cut).cur before after (named g s cut e) h
 
-  abbrev one_running : Parts → List Means → Swept (List Means)
+  abbrev one_running : Circumstance → List Means → Swept (List Means)
   one_running q stack = goals.in_place k w g q stack (goals.from_lowest g stack)
 
-  running_left : (p : Parts) (xs : Stacks) → Left (Some g) xs (goals.sweep one_running p xs).left
+  running_left : (p : Circumstance) (xs : Stacks) → Left (Some g) xs (goals.sweep one_running p xs).left
   running_left p [] = Left.Empty
   running_left p (s ∷ more) =
       let a = one_running p s in
       in_place_left p s more (goals.sweep one_running a.parts more).left (goals.from_lowest g s) refl (running_left a.parts more)
 
-  taken_out_back : {S : Type 0} (p : Parts) (x : S) (o : Option (List Means)) → Back p (goals.taken_out k w g p x o).parts
+  taken_out_back : {S : Type 0} (p : Circumstance) (x : S) (o : Option (List Means)) → Back p (goals.taken_out k w g p x o).parts
   taken_out_back p x None = none_back p p refl
   taken_out_back p x (Some cut) =
       let y = goals.treated k w p cut in
       (goals.what_is_left y.cur, ap (λ xs. xs ++ goals.what_is_left y.cur) (treated_runs k w p cut))
 
-  events_back : (p : Parts) → Back p (goals.events_swept k w g p)
+  events_back : (p : Circumstance) → Back p (goals.events_swept k w g p)
   events_back p =
       sweep_back (λ q (e : Event). goals.taken_out k w g q e (goals.from_lowest g e.stack))
       (λ q e. taken_out_back q e (goals.from_lowest g e.stack)) (goals.with_events p []) p.agenda.events
 
-  asks_back : (p : Parts) → Back p (goals.asks_swept k w g p)
+  asks_back : (p : Circumstance) → Back p (goals.asks_swept k w g p)
   asks_back p =
       sweep_back (λ q (a : Ask). goals.taken_out k w g q a (goals.from_lowest g a.stack))
       (λ q a. taken_out_back q a (goals.from_lowest g a.stack)) (goals.with_asks p []) p.agenda.asks
 
-  in_place_waits : (p : Parts) (s : List Means) (o : Option (List Means)) → (goals.in_place k w g p s o).parts.agenda.acting ≡ p.agenda.acting
+  in_place_waits : (p : Circumstance) (s : List Means) (o : Option (List Means)) → (goals.in_place k w g p s o).parts.agenda.acting ≡ p.agenda.acting
   in_place_waits p s None = refl
   in_place_waits p s (Some cut) = treated_waits k w p cut
 
-  taken_out_waits : {S : Type 0} (p : Parts) (x : S) (o : Option (List Means)) → (goals.taken_out k w g p x o).parts.agenda.acting ≡ p.agenda.acting
+  taken_out_waits : {S : Type 0} (p : Circumstance) (x : S) (o : Option (List Means)) → (goals.taken_out k w g p x o).parts.agenda.acting ≡ p.agenda.acting
   taken_out_waits p x None = refl
   taken_out_waits p x (Some cut) = treated_waits k w p cut
 
-  swept_waits : (p : Parts) → (goals.all_swept k w g p).agenda.acting ≡ p.agenda.acting
+  swept_waits : (p : Circumstance) → (goals.all_swept k w g p).agenda.acting ≡ p.agenda.acting
   swept_waits p =
       let a = goals.running_swept k w g p in
       let b = goals.events_swept k w g a in
@@ -180,7 +180,7 @@ module _ (k : Around) (w : Way) (g : LiteralOf Term) where
       (λ q x. taken_out_waits q x (goals.from_lowest g x.stack)) (goals.with_asks b []) b.agenda.asks in
       asks ∙ (events ∙ running)
 
-  swept_leaves : (p : Parts) → Leaves (Some g) p.agenda.running (goals.all_swept k w g p).agenda.running
+  swept_leaves : (p : Circumstance) → Leaves (Some g) p.agenda.running (goals.all_swept k w g p).agenda.running
   swept_leaves p =
       let a = goals.running_swept k w g p in
       let b = goals.events_swept k w g a in
@@ -191,11 +191,11 @@ module _ (k : Around) (w : Way) (g : LiteralOf Term) where
 
 -- ---- the actions
 
-record Acts (named : Option (LiteralOf Term)) (p : Parts) (d : Did) : Type 0 where
+record Acts (named : Option (LiteralOf Term)) (p : Circumstance) (d : Did) : Type 0 where
   leaves : Leaves named p.agenda.running d.parts.agenda.running
   waits : d.parts.agenda.acting ≡ p.agenda.acting
 
-module _ (named : Option (LiteralOf Term)) (k : Around) (asks : ℕ) (p : Parts) (cur : List Means) where
+module _ (named : Option (LiteralOf Term)) (k : Surroundings) (asks : ℕ) (p : Circumstance) (cur : List Means) where
   stays : (d : Did) → d.parts.agenda.running ≡ p.agenda.running → d.parts.agenda.acting ≡ p.agenda.acting → Acts named p d
   stays d e h = record { leaves = leaves_all named p.agenda.running d.parts.agenda.running e; waits = h }
 
@@ -210,12 +210,12 @@ module _ (named : Option (LiteralOf Term)) (k : Around) (asks : ℕ) (p : Parts)
   looks None = refuses why.NoMatch
   looks (Some s) = stays (spec.matched k asks p cur (Some s)) refl refl
 
-  current_left : (q : Parts) (stack : List Means) (fs : List Fall) → Leaves named p.agenda.running q.agenda.running
+  current_left : (q : Circumstance) (stack : List Means) (fs : List Fall) → Leaves named p.agenda.running q.agenda.running
       → q.agenda.acting ≡ p.agenda.acting → Acts named p (spec.current_left k asks p cur q stack fs)
   current_left q [] fs h e = record { leaves = h; waits = e }
   current_left q (m ∷ below) fs h e = record { leaves = h; waits = e }
 
-  current : (w : Way) (q : Parts) (fs : List Fall) (o : Option (List Means)) → Leaves named p.agenda.running q.agenda.running
+  current : (w : Way) (q : Circumstance) (fs : List Fall) (o : Option (List Means)) → Leaves named p.agenda.running q.agenda.running
       → q.agenda.acting ≡ p.agenda.acting → Acts named p (spec.current k asks p cur w q fs o)
   current w q fs None h e = record { leaves = h; waits = e }
   current w q fs (Some cut) h e =
@@ -286,12 +286,12 @@ module _ (named : Option (LiteralOf Term)) (k : Around) (asks : ℕ) (p : Parts)
       (pick (Acts named p) (bytes_eq c.name (codes "stopMAS")) (stays (spec.stop k asks p cur) refl refl)
       (about_term c.name (term_at c.args 0) is)))
 
-pub deed_waits : (k : Around) (peers : Peers) (asks : ℕ) (p : Parts) (cur : List Means) (c : CallOf Expr)
+pub deed_waits : (k : Surroundings) (peers : Peers) (asks : ℕ) (p : Circumstance) (cur : List Means) (c : CallOf Expr)
     → (spec.act_inside k peers asks p cur c).parts.agenda.acting ≡ p.agenda.acting
 unfolding spec.act_inside
 deed_waits k peers asks p cur c = (acts (dropped_by_call c) k asks p cur peers c refl).waits
 
-pub deed_leaves : (k : Around) (peers : Peers) (asks : ℕ) (p : Parts) (cur : List Means) (c : CallOf Expr)
+pub deed_leaves : (k : Surroundings) (peers : Peers) (asks : ℕ) (p : Circumstance) (cur : List Means) (c : CallOf Expr)
     → Leaves (dropped_by_call c) p.agenda.running (spec.act_inside k peers asks p cur c).parts.agenda.running
 unfolding spec.act_inside
 deed_leaves k peers asks p cur c = (acts (dropped_by_call c) k asks p cur peers c refl).leaves

@@ -8,7 +8,7 @@ use Rattle.asl_term.specs.declared.syntax.Expr.{Expr}
 use Rattle.asl_term.specs.declared.syntax.ArgOf.{ArgOf}
 use Rattle.asl_term.specs.declared.syntax.ArgOf.TheVariants as arg
 use Rattle.asl_term.specs.declared.syntax.CallOf.{CallOf}
-use Rattle.asl_plans.specs.declared.entry.Entry.{Entry}
+use Rattle.asl_plans.specs.declared.entry.OwnedPlan.{OwnedPlan}
 use Rattle.asl_unify.specs.declared.subst.Pair.{Pair}
 use Rattle.asl_beliefs.specs.Changes.{Changed, abolished}
 use Rattle.asl_intend.specs.declared.entry.Means.{Means}
@@ -21,15 +21,15 @@ use Rattle.asl_intend.specs.Agendas.{without, without_intentions, without_desire
 use Rattle.asl_intend.specs.Means.{applied_means}
 use Rattle.asl_intend.specs.Stacks.{bound, has_goal, has_means, head, is_bounded, is_bounded_trigger, names_goal, without_first, without_head}
 use Rattle.asl_fail.specs.Fails.{fails, is_raised, raised, popped_one, dropped, posted}
-use Rattle.asl_state.specs.declared.rows.Fall.{Fall}
-use Rattle.asl_state.specs.declared.rows.Row.TheVariants as row
-use Rattle.asl_state.specs.declared.went.Went.{Went}
-use Rattle.asl_state.specs.declared.went.Went.TheVariants as went
-use Rattle.asl_state.specs.Emptied.{answer, bound_by, done_below}
-use Rattle.asl_state.specs.Parts.{Around, Parts, Made, made, failed, told}
+use Rattle.asl_exec_circumstance.specs.declared.rows.Fall.{Fall}
+use Rattle.asl_exec_circumstance.specs.declared.rows.Row.TheVariants as row
+use Rattle.asl_exec_circumstance.specs.declared.went.Went.{Went}
+use Rattle.asl_exec_circumstance.specs.declared.went.Went.TheVariants as went
+use Rattle.asl_exec_circumstance.specs.Emptied.{answer, bound_by, done_below}
+use Rattle.asl_exec_circumstance.specs.Circumstance.{Surroundings, Circumstance, Made, made, failed, told}
 use Rattle.mas_mind.specs.declared.mind.Message.{Message}
-use Rattle.asl_state.specs.declared.peers.Peers.{Peers}
-use Rattle.asl_state.specs.Contents.{literal_of}
+use Rattle.asl_exec_circumstance.specs.declared.peers.Peers.{Peers}
+use Rattle.asl_exec_circumstance.specs.Contents.{literal_of}
 use Rattle.asl_goals.specs.declared.acted.Acted.{Acted}
 use Rattle.asl_goals.specs.declared.acted.Acted.TheVariants as acted
 use Rattle.asl_goals.specs.declared.acted.Why.{Why}
@@ -50,17 +50,17 @@ use Rattle.asl_cycle.proofs.Executing.{Onward}
 
 -- ---- intentions that end, one after another
 
-pub end_as : {plans : List Entry} {named : Option (LiteralOf Term)} (a b c d : Heap) → ((f : Intention → ℕ) → c f ≡ a f) → ((f : Intention → ℕ) → d f ≡ b f)
+pub end_as : {plans : List OwnedPlan} {named : Option (LiteralOf Term)} (a b c d : Heap) → ((f : Intention → ℕ) → c f ≡ a f) → ((f : Intention → ℕ) → d f ≡ b f)
     → End plans named a b → End plans named c d
 end_as _ _ c d e g (End.Same a b h) = End.Same c d (λ f. let i = e f in let j = g f in let l = h f in omega arith)
 end_as _ _ c d e g (End.One a rest next b x y h fate i t) =
     End.One c rest next d x y (λ f. let j = e f in let l = h f in omega arith) fate i (end_as next b next d (λ f. refl) g t)
 
-pub end_then : {plans : List Entry} {named : Option (LiteralOf Term)} (a b c : Heap) → End plans named a b → End plans named b c → End plans named a c
+pub end_then : {plans : List OwnedPlan} {named : Option (LiteralOf Term)} (a b c : Heap) → End plans named a b → End plans named b c → End plans named a c
 end_then _ _ c (End.Same a b h) t = end_as b c a c (λ f. sym (h f)) (λ f. refl) t
 end_then _ _ c (End.One a rest next b x y h fate i s) t = End.One a rest next c x y h fate i (end_then next b c s t)
 
-module _ (plans : List Entry) (named : Option (LiteralOf Term)) where
+module _ (plans : List OwnedPlan) (named : Option (LiteralOf Term)) where
   -- ---- those that pass a test
 
   module _ {S : Type 0} (i : S → Intention) (test : S → Bool) (ends : (x : S) → test x ≡ true → Ended plans named (i x) None) where
@@ -114,7 +114,7 @@ module _ (plans : List Entry) (named : Option (LiteralOf Term)) where
 
 -- what a failure leaves alone
 falls_keep : {A : Type 0} (get : Agenda → A) → ((a : Agenda) (v : Event) → get (posted a v) ≡ get a)
-    → (plans : List Entry) (n : ℕ) (e : Error) (a : Agenda) (s : List Means) → get (fails plans n e a s).agenda ≡ get a
+    → (plans : List OwnedPlan) (n : ℕ) (e : Error) (a : Agenda) (s : List Means) → get (fails plans n e a s).agenda ≡ get a
 falls_keep get keeps plans n e a [] = refl
 falls_keep get keeps plans n e a (m ∷ below) = by (is_raised plans n e m.trigger) (has_means below) (falls_keep get keeps plans n e a below) where
   by : (raises more : Bool) → get (fails plans n e a below).agenda ≡ get a
@@ -127,9 +127,9 @@ pick : {A : Type 0} (P : A → Type 0) (b : Bool) {x y : A} → P x → P y → 
 pick P true h g = h
 pick P false h g = g
 
-module _ (k : Around) where
+module _ (k : Surroundings) where
   treated_keeps : {A : Type 0} (get : Agenda → A) → ((a : Agenda) (v : Event) → get (posted a v) ≡ get a)
-      → (w : Way) (q : Parts) (cut : List Means) → get (goals.treated k w q cut).parts.agenda ≡ get q.agenda
+      → (w : Way) (q : Circumstance) (cut : List Means) → get (goals.treated k w q cut).parts.agenda ≡ get q.agenda
   treated_keeps get keeps way.Fail q cut = falls_keep get keeps k.plans q.number error.IaFailed q.agenda cut
   treated_keeps get keeps way.Succeed q [] = refl
   treated_keeps get keeps way.Succeed q (m ∷ []) = refl
@@ -138,17 +138,17 @@ module _ (k : Around) where
       let limit = falls_keep get keeps k.plans q.number error.TermLimit q.agenda (c ∷ below) in
       pick P (is_bounded_trigger m.trigger) (pick P (is_bounded (head (c ∷ below))) refl limit) limit
 
-module _ (k : Around) (named : Option (LiteralOf Term)) (g : LiteralOf Term) (is : named ≡ Some g) where
+module _ (k : Surroundings) (named : Option (LiteralOf Term)) (g : LiteralOf Term) (is : named ≡ Some g) where
   -- it ends there, or goes on from there
-  abbrev EndsBy : (Made → Type 0) → Parts → List Means → Type 0
+  abbrev EndsBy : (Made → Type 0) → Circumstance → List Means → Type 0
   EndsBy P q s =
-      (r : Parts) (w : Went) (x : Option Intention) → Cut k.plans named s (Outcome.Ends x)
+      (r : Circumstance) (w : Went) (x : Option Intention) → Cut k.plans named s (Outcome.Ends x)
       → ((f : Intention → ℕ) → held r.agenda f ≡ held q.agenda f + one_or_none f x) → P (made r [] w)
 
-  abbrev GoesBy : (Made → Type 0) → Parts → List Means → Type 0
+  abbrev GoesBy : (Made → Type 0) → Circumstance → List Means → Type 0
   GoesBy P q s = (m : Means) (t : List Means) (w : Went) → Cut k.plans named s (Outcome.Goes (m ∷ t)) → P (made q (m ∷ t) w)
 
-  goes_by : (P : Made → Type 0) (q : Parts) (s : List Means) (m c : Means) (below : List Means) (b : Option (List Pair)) (w : Went)
+  goes_by : (P : Made → Type 0) (q : Circumstance) (s : List Means) (m c : Means) (below : List Means) (b : Option (List Pair)) (w : Went)
       → from_lowest g s ≡ Some (m ∷ c ∷ below) → GoesBy P q s → P (made q (without_head (bound_by b (c ∷ below))) w)
   goes_by P q s m c below None w from goes =
       goes (without_first c) below w (Cut.Succeeds g (m ∷ c ∷ below) (without_head (c ∷ below)) is from (GoesOn.Pops m c below None))
@@ -156,7 +156,7 @@ module _ (k : Around) (named : Option (LiteralOf Term)) (g : LiteralOf Term) (is
       goes (without_first (applied_means b c)) (bound b below) w
       (Cut.Succeeds g (m ∷ c ∷ below) (without_head (bound b (c ∷ below))) is from (GoesOn.Pops m c below (Some b)))
 
-  treat : (P : Made → Type 0) (w : Way) (q : Parts) (s cut : List Means) → from_lowest g s ≡ Some cut → EndsBy P q s → GoesBy P q s
+  treat : (P : Made → Type 0) (w : Way) (q : Circumstance) (s cut : List Means) → from_lowest g s ≡ Some cut → EndsBy P q s → GoesBy P q s
       → P (goals.treated k w q cut)
   treat P way.Fail q s cut from ends goes =
       let h = fell k.plans q.number error.IaFailed q.agenda cut in
@@ -176,22 +176,22 @@ module _ (k : Around) (named : Option (LiteralOf Term)) (g : LiteralOf Term) (is
 
   -- ---- the fold over the others
 
-  abbrev Sweeps : {S : Type 0} → (S → Intention) → Parts → S → Swept S → Type 0
+  abbrev Sweeps : {S : Type 0} → (S → Intention) → Circumstance → S → Swept S → Type 0
   Sweeps i q x a =
       (r : Heap) → End k.plans named (λ f. r f + (held q.agenda f + f (i x))) (λ f. r f + (held a.parts.agenda f + total (λ y. f (i y)) a.left))
 
-  stays_there : {S : Type 0} (i : S → Intention) (q : Parts) (x : S) → Sweeps i q x (goals.untouched q x)
+  stays_there : {S : Type 0} (i : S → Intention) (q : Circumstance) (x : S) → Sweeps i q x (goals.untouched q x)
   stays_there i q x r = End.Same (λ f. r f + (held q.agenda f + f (i x))) (λ f. r f + (held q.agenda f + (f (i x) + 0))) (λ f. omega arith)
 
   -- one is taken out, and what became of it is there
-  replaced : (q : Parts) (x : Intention) (y : Option Intention) (r after : Heap) → Ended k.plans named x y
+  replaced : (q : Circumstance) (x : Intention) (y : Option Intention) (r after : Heap) → Ended k.plans named x y
       → ((f : Intention → ℕ) → after f ≡ r f + (held q.agenda f + one_or_none f y))
       → End k.plans named (λ f. r f + (held q.agenda f + f x)) after
   replaced q x y r after h e =
       End.One (λ f. r f + (held q.agenda f + f x)) (λ f. r f + held q.agenda f) (λ f. (r f + held q.agenda f) + one_or_none f y) after x y
       (λ f. omega arith) h (λ f. refl) (End.Same (λ f. (r f + held q.agenda f) + one_or_none f y) after (λ f. let i = e f in omega arith))
 
-  in_place : (w : Way) (q : Parts) (s : List Means) (o : Option (List Means)) → from_lowest g s ≡ o
+  in_place : (w : Way) (q : Circumstance) (s : List Means) (o : Option (List Means)) → from_lowest g s ≡ o
       → Sweeps (λ t. Intention.Runs t) q s (goals.in_place k w g q s o)
   in_place w q s None from = stays_there (λ t. Intention.Runs t) q s
   in_place w q s (Some cut) from =
@@ -200,7 +200,7 @@ module _ (k : Around) (named : Option (LiteralOf Term)) (g : LiteralOf Term) (is
       (λ m t v c r. replaced q (Intention.Runs s) (Some (Intention.Runs (m ∷ t))) r (λ f. r f + (held q.agenda f + (f (Intention.Runs (m ∷ t)) + 0)))
       (Ended.Runs (Intention.Runs s) (m ∷ t) c) (λ f. omega arith))
 
-  taken_out : {S : Type 0} (i : S → Intention) (w : Way) (q : Parts) (x : S) (o : Option (List Means)) → from_lowest g (searched (i x)) ≡ o
+  taken_out : {S : Type 0} (i : S → Intention) (w : Way) (q : Circumstance) (x : S) (o : Option (List Means)) → from_lowest g (searched (i x)) ≡ o
       → Sweeps i q x (goals.taken_out k w g q x o)
   taken_out i w q x None from = stays_there i q x
   taken_out i w q x (Some cut) from =
@@ -211,8 +211,8 @@ module _ (k : Around) (named : Option (LiteralOf Term)) (g : LiteralOf Term) (is
       (Ended.Runs (i x) (m ∷ t) c) (λ f. let l = ready_held f q.agenda ((m ∷ t) ∷ []) in omega arith))
 
   -- all of them
-  sweeps : {S : Type 0} (i : S → Intention) (one : Parts → S → Swept S) → ((q : Parts) (x : S) → Sweeps i q x (one q x))
-      → (q : Parts) (xs : List S) (r : Heap)
+  sweeps : {S : Type 0} (i : S → Intention) (one : Circumstance → S → Swept S) → ((q : Circumstance) (x : S) → Sweeps i q x (one q x))
+      → (q : Circumstance) (xs : List S) (r : Heap)
       → End k.plans named (λ f. r f + (held q.agenda f + total (λ x. f (i x)) xs))
       (λ f. r f + (held (goals.sweep one q xs).parts.agenda f + total (λ x. f (i x)) (goals.sweep one q xs).left))
   sweeps i one h q [] r = End.Same (λ f. r f + (held q.agenda f + 0)) (λ f. r f + (held q.agenda f + 0)) (λ f. refl)
@@ -231,26 +231,26 @@ module _ (k : Around) (named : Option (LiteralOf Term)) (g : LiteralOf Term) (is
       (λ f. let e = total_append (λ x. f (i x)) a.left b.left in omega arith) others)
 
   -- the three lists, one after another
-  module _ (w : Way) (p : Parts) where
-    abbrev one_running : Parts → List Means → Swept (List Means)
+  module _ (w : Way) (p : Circumstance) where
+    abbrev one_running : Circumstance → List Means → Swept (List Means)
     one_running q s = goals.in_place k w g q s (from_lowest g s)
 
-    abbrev one_event : Parts → Event → Swept Event
+    abbrev one_event : Circumstance → Event → Swept Event
     one_event q e = goals.taken_out k w g q e (from_lowest g e.stack)
 
-    abbrev one_ask : Parts → Ask → Swept Ask
+    abbrev one_ask : Circumstance → Ask → Swept Ask
     one_ask q a = goals.taken_out k w g q a (from_lowest g a.stack)
 
-    sweep_keeps : {A S : Type 0} (get : Agenda → A) (one : Parts → S → Swept S) → ((q : Parts) (x : S) → get (one q x).parts.agenda ≡ get q.agenda)
-        → (q : Parts) (xs : List S) → get (goals.sweep one q xs).parts.agenda ≡ get q.agenda
+    sweep_keeps : {A S : Type 0} (get : Agenda → A) (one : Circumstance → S → Swept S) → ((q : Circumstance) (x : S) → get (one q x).parts.agenda ≡ get q.agenda)
+        → (q : Circumstance) (xs : List S) → get (goals.sweep one q xs).parts.agenda ≡ get q.agenda
     sweep_keeps get one h q [] = refl
     sweep_keeps get one h q (x ∷ more) = let a = one q x in sweep_keeps get one h a.parts more ∙ h q x
 
-    in_place_keeps : (q : Parts) (s : List Means) (o : Option (List Means)) → (goals.in_place k w g q s o).parts.agenda.running ≡ q.agenda.running
+    in_place_keeps : (q : Circumstance) (s : List Means) (o : Option (List Means)) → (goals.in_place k w g q s o).parts.agenda.running ≡ q.agenda.running
     in_place_keeps q s None = refl
     in_place_keeps q s (Some cut) = treated_keeps k (λ a. a.running) (λ a v. refl) w q cut
 
-    taken_out_keeps : (q : Parts) (x : Ask) (o : Option (List Means)) → (goals.taken_out k w g q x o).parts.agenda.asks ≡ q.agenda.asks
+    taken_out_keeps : (q : Circumstance) (x : Ask) (o : Option (List Means)) → (goals.taken_out k w g q x o).parts.agenda.asks ≡ q.agenda.asks
     taken_out_keeps q x None = refl
     taken_out_keeps q x (Some cut) = treated_keeps k (λ a. a.asks) (λ a v. refl) w q cut
 
@@ -282,7 +282,7 @@ module _ (k : Around) (named : Option (LiteralOf Term)) (g : LiteralOf Term) (is
         (λ f. let e = ap (total (λ x. f (Intention.Asks x))) none in omega arith)
         (sweeps (λ a. Intention.Asks a) one_ask (λ r x. taken_out (λ a. Intention.Asks a) w r x (from_lowest g x.stack) refl) q p.agenda.asks (λ f. 0))
 
-  all_swept : (w : Way) (p : Parts) → End k.plans named (held p.agenda) (held (goals.all_swept k w g p).agenda)
+  all_swept : (w : Way) (p : Circumstance) → End k.plans named (held p.agenda) (held (goals.all_swept k w g p).agenda)
   all_swept w p =
       let a = goals.running_swept k w g p in
       let b = goals.events_swept k w g a in
@@ -293,7 +293,7 @@ module _ (k : Around) (named : Option (LiteralOf Term)) (g : LiteralOf Term) (is
 -- ---- the actions
 
 -- what the action did to the current stack s, where some of the others have ended and these are left
-abbrev pub Does : Around → List Means → Heap → Did → Acted → Type 0
+abbrev pub Does : Surroundings → List Means → Heap → Did → Acted → Type 0
 Does k s left d (acted.Failed e) = ((f : Intention → ℕ) → held d.parts.agenda f ≡ left f) × (d.cur ≡ s)
 Does k s left d (acted.Asked m) = Becomes (Executed k.plans s) left (held d.parts.agenda)
 Does k s left d (acted.Gone fs) = Becomes (Executed k.plans s) left (held d.parts.agenda)
@@ -301,12 +301,12 @@ Does k s left d (acted.Ok fs) = Onward k s d.cur left (held d.parts.agenda)
 Does k s left d (acted.Sent ms) = Onward k s d.cur left (held d.parts.agenda)
 Does k s left d acted.Stop = Onward k s d.cur left (held d.parts.agenda)
 
-pub record Deeds (k : Around) (s : List Means) (p : Parts) (d : Did) : Type 0 where
+pub record Deeds (k : Surroundings) (s : List Means) (p : Circumstance) (d : Did) : Type 0 where
   pub left : Heap
   pub ended : End k.plans (dropped_by_head (head s)) (held p.agenda) left
   pub does : Does k s left d d.acted
 
-module _ (k : Around) (asks : ℕ) (p : Parts) (s : List Means) where
+module _ (k : Surroundings) (asks : ℕ) (p : Circumstance) (s : List Means) where
   abbrev Named : Option (LiteralOf Term)
   Named = dropped_by_head (head s)
 
@@ -340,7 +340,7 @@ module _ (k : Around) (asks : ℕ) (p : Parts) (s : List Means) where
   looks None = refuses why.NoMatch
   looks (Some b) = alone (spec.matched k asks p s (Some b)) (on (Some b) [] (held p.agenda) (held p.agenda) (just (held p.agenda)))
 
-  current : (w : Way) (g : LiteralOf Term) (q : Parts) (fs : List Fall) (o : Option (List Means)) → from_lowest g s ≡ o → Named ≡ Some g
+  current : (w : Way) (g : LiteralOf Term) (q : Circumstance) (fs : List Fall) (o : Option (List Means)) → from_lowest g s ≡ o → Named ≡ Some g
       → End k.plans Named (held p.agenda) (held q.agenda) → Did_it (spec.current k asks p s w q fs o)
   current w g q fs None from is h = record { left = held q.agenda; ended = h; does = on None [] (held q.agenda) (held q.agenda) (just (held q.agenda)) }
   current w g q fs (Some cut) from is h =
@@ -423,7 +423,7 @@ module _ (k : Around) (asks : ℕ) (p : Parts) (s : List Means) where
       (pick Did_it (bytes_eq c.name (codes "stopMAS")) stops
       (about_term c.name (term_at c.args 0) is)))
 
-pub deeds : (k : Around) (peers : Peers) (asks : ℕ) (p : Parts) (s : List Means) (c : CallOf Expr) → dropped_by_head (head s) ≡ dropped_by_call c
+pub deeds : (k : Surroundings) (peers : Peers) (asks : ℕ) (p : Circumstance) (s : List Means) (c : CallOf Expr) → dropped_by_head (head s) ≡ dropped_by_call c
     → Deeds k s p (spec.act_inside k peers asks p s c)
 unfolding spec.act_inside
 deeds k peers asks p s c is = acts k asks p s peers c is

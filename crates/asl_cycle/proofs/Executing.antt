@@ -26,14 +26,14 @@ use Rattle.asl_intend.specs.declared.agenda.Error.{Error}
 use Rattle.asl_intend.specs.declared.agenda.Error.TheVariants as error
 use Rattle.asl_intend.specs.Stacks.{head, without_head, with_head}
 use Rattle.asl_fail.specs.Fails.{posted}
-use Rattle.asl_state.specs.declared.rows.Row.{Row}
-use Rattle.asl_state.specs.declared.rows.Row.TheVariants as row
-use Rattle.asl_state.specs.declared.went.Went.{Went}
-use Rattle.asl_state.specs.declared.went.Went.TheVariants as went
-use Rattle.asl_state.specs.Emptied.{bound_by}
-use Rattle.asl_state.specs.Parts.{Around, Parts, Made, made, failed, goal_event, told}
+use Rattle.asl_exec_circumstance.specs.declared.rows.Row.{Row}
+use Rattle.asl_exec_circumstance.specs.declared.rows.Row.TheVariants as row
+use Rattle.asl_exec_circumstance.specs.declared.went.Went.{Went}
+use Rattle.asl_exec_circumstance.specs.declared.went.Went.TheVariants as went
+use Rattle.asl_exec_circumstance.specs.Emptied.{bound_by}
+use Rattle.asl_exec_circumstance.specs.Circumstance.{Surroundings, Circumstance, Made, made, failed, goal_event, told}
 use Rattle.asl_exec.specs.Exec as spec
-use Rattle.asl_state.specs.Sought.{sought}
+use Rattle.asl_exec_circumstance.specs.Sought.{sought}
 use Rattle.asl_cycle.specs.declared.config.After.{After}
 use Rattle.asl_cycle.specs.declared.config.After.TheVariants as after
 use Rattle.asl_cycle.specs.Steps.{after_of}
@@ -43,25 +43,25 @@ use Rattle.asl_cycle.proofs.Sums.{posted_held, told_held, becomes}
 use Rattle.asl_cycle.proofs.Failing.{fell_as}
 
 -- with this current stack a row of s goes on to Clr: only external events have begun, and what becomes of it is what becomes of s
-pub record Onward (k : Around) (s t : List Means) (before after : Heap) : Type 0 where
+pub record Onward (k : Surroundings) (s t : List Means) (before after : Heap) : Type 0 where
   pub begun : List Trigger
   pub sums : (f : Intention → ℕ) → after f ≡ before f + begin f begun
   pub fate : (n : ℕ) (x : Option Intention) → Clears k.plans n t x → Executed k.plans s x
 
 -- it leads there, or what becomes of s is there
-abbrev pub Leads : Around → (s t : List Means) → Heap → Heap → After → Type 0
+abbrev pub Leads : Surroundings → (s t : List Means) → Heap → Heap → After → Type 0
 Leads k s t from to after.Clears = Onward k s t from to
 Leads k s t from to after.Ends = Becomes (Executed k.plans s) from to
 Leads k s t from to (after.Acts l) = Becomes (Executed k.plans s) from to
 Leads k s t from to after.Spends = Unit {0}
 
 -- an internal action on goals or others is still to be made
-pub record Unchanged (s : List Means) (c : CallOf Expr) (p : Parts) (x : Made) : Type 0 where
+pub record Unchanged (s : List Means) (c : CallOf Expr) (p : Circumstance) (x : Made) : Type 0 where
   pub parts : x.parts ≡ p
   pub cur : x.cur ≡ s
   pub named : dropped_by_head (head s) ≡ dropped_by_call c
 
-abbrev pub Rows : Around → List Means → Parts → Made → Went → Type 0
+abbrev pub Rows : Surroundings → List Means → Circumstance → Made → Went → Type 0
 Rows k s p x (went.Outer c) = Unchanged s c p x
 Rows k s p x (went.Row r) = Leads k s x.cur (held p.agenda) (held x.parts.agenda) (after_of (went.Row r))
 Rows k s p x (went.Say text) = Leads k s x.cur (held p.agenda) (held x.parts.agenda) after.Clears
@@ -73,7 +73,7 @@ pick : {A : Type 0} (P : A → Type 0) (b : Bool) {x y : A} → P x → P y → 
 pick P true h g = h
 pick P false h g = g
 
-module _ (k : Around) (p : Parts) (cur : List Means) (none : p.agenda.acting ≡ None) where
+module _ (k : Surroundings) (p : Circumstance) (cur : List Means) (none : p.agenda.acting ≡ None) where
   abbrev Kept : Made → Type 0
   Kept x = Rows k cur p x x.went
 

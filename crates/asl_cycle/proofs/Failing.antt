@@ -1,6 +1,6 @@
 -- What becomes of a stack that fails, and of one whose top is done.
 use Rattle.std.proofs.Common.{◌≡◌, ℕ, zero, suc, ◌+◌, ◌≤◌, Bool, true, false, cond, if◌then◌else◌, List, [], ◌∷◌, ◌++◌, length, map, Option, None, Some, refl, arith}
-use Rattle.asl_plans.specs.declared.entry.Entry.{Entry}
+use Rattle.asl_plans.specs.declared.entry.OwnedPlan.{OwnedPlan}
 use Rattle.asl_unify.specs.declared.subst.Pair.{Pair}
 use Rattle.asl_intend.specs.declared.entry.Means.{Means}
 use Rattle.asl_intend.specs.declared.agenda.Agenda.{Agenda}
@@ -9,12 +9,12 @@ use Rattle.asl_intend.specs.declared.agenda.Error.TheVariants as error
 use Rattle.asl_intend.specs.Means.{applied_means}
 use Rattle.asl_intend.specs.Stacks.{head, has_head, without_head, is_bounded, is_bounded_trigger}
 use Rattle.asl_fail.specs.Fails.{fails, is_raised, failure_event, raised, popped_one, dropped}
-use Rattle.asl_state.specs.declared.rows.Row.TheVariants as row
-use Rattle.asl_state.specs.declared.went.Went.TheVariants as went
-use Rattle.asl_state.specs.Parts.{Around, Parts, Made, made, failed}
+use Rattle.asl_exec_circumstance.specs.declared.rows.Row.TheVariants as row
+use Rattle.asl_exec_circumstance.specs.declared.went.Went.TheVariants as went
+use Rattle.asl_exec_circumstance.specs.Circumstance.{Surroundings, Circumstance, Made, made, failed}
 use Rattle.asl_exec.specs.Clear as clearing
-use Rattle.asl_state.specs.Emptied as emptying
-use Rattle.asl_state.specs.Emptied.{answer, bound_by}
+use Rattle.asl_exec_circumstance.specs.Emptied as emptying
+use Rattle.asl_exec_circumstance.specs.Emptied.{answer, bound_by}
 use Rattle.asl_exec.specs.Clear.{clear}
 use Rattle.asl_cycle.specs.declared.rows.Sofar.{Sofar}
 use Rattle.asl_cycle.specs.Steps.{of_made, written}
@@ -24,12 +24,12 @@ use Rattle.asl_cycle.proofs.Sums.{posted_held, ready_held, becomes, becomes_as}
 
 -- ---- failing
 
-pub record Fell (plans : List Entry) (n : ℕ) (e : Error) (a after : Agenda) (s : List Means) : Type 0 where
+pub record Fell (plans : List OwnedPlan) (n : ℕ) (e : Error) (a after : Agenda) (s : List Means) : Type 0 where
   pub is : Option Intention
   pub fate : Failed plans n e s is
   pub sums : (f : Intention → ℕ) → held after f ≡ held a f + one_or_none f is
 
-module _ (plans : List Entry) (n : ℕ) (e : Error) (a : Agenda) where
+module _ (plans : List OwnedPlan) (n : ℕ) (e : Error) (a : Agenda) where
   fell_raised : (m : Means) (below : List Means) → is_raised plans n e m.trigger ≡ true → Fell plans n e a (raised e a m below).agenda (m ∷ below)
   fell_raised m below h = record {
     is = Some (Intention.Waits (failure_event e m.trigger below));
@@ -52,7 +52,7 @@ module _ (plans : List Entry) (n : ℕ) (e : Error) (a : Agenda) where
   fell (m ∷ c ∷ below) = fell_more m c below (is_raised plans n e m.trigger) refl (fell (c ∷ below))
 
 -- as a fate of what was taken out
-pub fell_as : (Fate : Option Intention → Type 0) (plans : List Entry) (n : ℕ) (e : Error) (a : Agenda) (s : List Means)
+pub fell_as : (Fate : Option Intention → Type 0) (plans : List OwnedPlan) (n : ℕ) (e : Error) (a : Agenda) (s : List Means)
     → ((x : Option Intention) → Failed plans n e s x → Fate x) → Becomes Fate (held a) (held (fails plans n e a s).agenda)
 fell_as Fate plans n e a s h =
     let g = fell plans n e a s in becomes Fate g.is (held a) (held (fails plans n e a s).agenda) (h g.is g.fate) g.sums
@@ -67,25 +67,25 @@ pub length_popped : (s : Option (List Pair)) (c : Means) (below : List Means) �
 length_popped None c below = refl
 length_popped (Some s) c below = let h = length_map (applied_means s) below in omega arith
 
-module _ (k : Around) where
+module _ (k : Surroundings) where
   -- what is after the row of a stack that is cleared
   abbrev after_clear : ℕ → Sofar → Made → spec.Ran
   after_clear n s x = let w = of_made x in spec.goes_on k (spec.from_clr k n) w.parts (written s w) w.next
 
-  abbrev Cleared : Parts → List Means → spec.Ran → Type 0
+  abbrev Cleared : Circumstance → List Means → spec.Ran → Type 0
   Cleared p cur r = Becomes (Clears k.plans p.number cur) (held p.agenda) (held r.parts.agenda)
 
   -- so far as so many rows are enough
   abbrev Enough : ℕ → Type 0
-  Enough n = (p : Parts) (s : Sofar) (cur : List Means) → length cur ≤ n → Cleared p cur (spec.from_clr k (suc n) p s cur)
+  Enough n = (p : Circumstance) (s : Sofar) (cur : List Means) → length cur ≤ n → Cleared p cur (spec.from_clr k (suc n) p s cur)
 
-  limited : (n : ℕ) (p : Parts) (s : Sofar) (m c : Means) (below : List Means) → has_head (m ∷ c ∷ below) ≡ false
+  limited : (n : ℕ) (p : Circumstance) (s : Sofar) (m c : Means) (below : List Means) → has_head (m ∷ c ∷ below) ≡ false
       → Cleared p (m ∷ c ∷ below) (after_clear n s (failed k row.ClrLimit error.TermLimit p (c ∷ below)))
   limited n p s m c below none =
       fell_as (Clears k.plans p.number (m ∷ c ∷ below)) k.plans p.number error.TermLimit p.agenda (c ∷ below)
       (λ x h. Clears.Ends (m ∷ c ∷ below) x none (Over.Limit m c below x h))
 
-  goes : (n : ℕ) → Enough n → (p : Parts) (s : Sofar) (m c : Means) (below : List Means) (b : Bool) → has_head (m ∷ c ∷ below) ≡ false
+  goes : (n : ℕ) → Enough n → (p : Circumstance) (s : Sofar) (m c : Means) (below : List Means) (b : Bool) → has_head (m ∷ c ∷ below) ≡ false
       → length (c ∷ below) ≤ n
       → Cleared p (m ∷ c ∷ below) (after_clear (suc n) s (cond b (emptying.done_below p m.trigger.lit (c ∷ below)) (failed k row.ClrLimit error.TermLimit p (c ∷ below))))
   goes n h p s m c below false none le = limited (suc n) p s m c below none
@@ -98,27 +98,27 @@ module _ (k : Around) where
       becomes_as (Clears k.plans p.number t) (Clears k.plans p.number (m ∷ c ∷ below)) (held p.agenda) (held p.agenda) (held r.parts.agenda) []
       (λ x g. Clears.Goes (m ∷ c ∷ below) t x none (GoesOn.Pops m c below u) g) (λ f. omega arith) (h p (written s w) t (omega arith))
 
-  two : (n : ℕ) → Enough n → (p : Parts) (s : Sofar) (m c : Means) (below : List Means) (b : Bool) → has_head (m ∷ c ∷ below) ≡ false
+  two : (n : ℕ) → Enough n → (p : Circumstance) (s : Sofar) (m c : Means) (below : List Means) (b : Bool) → has_head (m ∷ c ∷ below) ≡ false
       → length (c ∷ below) ≤ n
       → Cleared p (m ∷ c ∷ below) (after_clear (suc n) s (cond b (emptying.popped k p m.trigger.lit (c ∷ below)) (failed k row.ClrLimit error.TermLimit p (c ∷ below))))
   two n h p s m c below false none le = limited (suc n) p s m c below none
   two n h p s m c below true none le = goes n h p s m c below (is_bounded (head (c ∷ below))) none le
 
-  turn : (n : ℕ) (p : Parts) (s : Sofar) (cur : List Means) → has_head cur ≡ true → Cleared p cur (after_clear n s (clearing.waits p cur))
+  turn : (n : ℕ) (p : Circumstance) (s : Sofar) (cur : List Means) → has_head cur ≡ true → Cleared p cur (after_clear n s (clearing.waits p cur))
   turn n p s cur h =
       becomes (Clears k.plans p.number cur) (Some (Intention.Runs cur)) (held p.agenda) (held (record p.agenda { running = p.agenda.running ++ cur ∷ [] }))
       (Clears.Turn cur h) (λ f. let e = ready_held f p.agenda (cur ∷ []) in omega arith)
 
-  over : (n : ℕ) (p : Parts) (s : Sofar) (cur : List Means) → has_head cur ≡ false → Over k.plans p.number cur None
+  over : (n : ℕ) (p : Circumstance) (s : Sofar) (cur : List Means) → has_head cur ≡ false → Over k.plans p.number cur None
       → Becomes (Clears k.plans p.number cur) (held p.agenda) (held p.agenda)
   over n p s cur none h = becomes (Clears k.plans p.number cur) None (held p.agenda) (held p.agenda) (Clears.Ends cur None none h) (λ f. omega arith)
 
-  one_by : (n : ℕ) (p : Parts) (s : Sofar) (m : Means) (b : Bool) → has_head (m ∷ []) ≡ b
+  one_by : (n : ℕ) (p : Circumstance) (s : Sofar) (m : Means) (b : Bool) → has_head (m ∷ []) ≡ b
       → Cleared p (m ∷ []) (after_clear n s (cond b (clearing.waits p (m ∷ [])) (emptying.emptied k p (m ∷ []))))
   one_by n p s m true h = turn n p s (m ∷ []) h
   one_by n p s m false h = over n p s (m ∷ []) h (Over.Last m)
 
-  two_by : (n : ℕ) → Enough n → (p : Parts) (s : Sofar) (m c : Means) (below : List Means) (b : Bool) → has_head (m ∷ c ∷ below) ≡ b
+  two_by : (n : ℕ) → Enough n → (p : Circumstance) (s : Sofar) (m c : Means) (below : List Means) (b : Bool) → has_head (m ∷ c ∷ below) ≡ b
       → length (c ∷ below) ≤ n
       → Cleared p (m ∷ c ∷ below) (after_clear (suc n) s (cond b (clearing.waits p (m ∷ c ∷ below)) (emptying.emptied k p (m ∷ c ∷ below))))
   two_by n h p s m c below true e le = turn (suc n) p s (m ∷ c ∷ below) e
@@ -132,5 +132,5 @@ module _ (k : Around) where
   clr (suc n) p s (m ∷ []) le = one_by (suc n) p s m (has_head (m ∷ [])) refl
   clr (suc n) p s (m ∷ c ∷ below) le = two_by n (clr n) p s m c below (has_head (m ∷ c ∷ below)) refl (omega arith)
 
-  pub cleared : (p : Parts) (s : Sofar) (cur : List Means) → Cleared p cur (spec.clears k p s cur)
+  pub cleared : (p : Circumstance) (s : Sofar) (cur : List Means) → Cleared p cur (spec.clears k p s cur)
   cleared p s cur = clr (length cur) p s cur (omega arith)

@@ -19,13 +19,13 @@ use Rattle.asl_intend.specs.declared.agenda.Error.TheVariants as error
 use Rattle.asl_intend.specs.Agendas.{ask_of, external_event, without_ask}
 use Rattle.asl_intend.specs.Stacks.{bound, without_head}
 use Rattle.asl_fail.specs.Fails.{posted}
-use Rattle.asl_state.specs.Sought.{sought}
-use Rattle.asl_state.specs.Parts.{Around, Parts, with_agenda, with_number, told}
+use Rattle.asl_exec_circumstance.specs.Sought.{sought}
+use Rattle.asl_exec_circumstance.specs.Circumstance.{Surroundings, Circumstance, with_agenda, with_number, told}
 use Rattle.mas_mind.specs.declared.mind.Message.{Message}
 use Rattle.mas_mind.specs.declared.mind.Verb.{Verb}
 use Rattle.mas_mind.specs.declared.mind.Verb.TheVariants as verb
-use Rattle.asl_state.specs.declared.peers.Peers.{Peers}
-use Rattle.asl_state.specs.Contents.{agent_name, literal_of, literals_of, ground_literals}
+use Rattle.asl_exec_circumstance.specs.declared.peers.Peers.{Peers}
+use Rattle.asl_exec_circumstance.specs.Contents.{agent_name, literal_of, literals_of, ground_literals}
 use Rattle.asl_kqml.specs.Receive as spec
 use Rattle.asl_kqml.specs.Receive.{Received}
 use Rattle.asl_cycle.specs.Turns.{dropped_by_message, dropped_by_verb}
@@ -63,36 +63,36 @@ found : (n : ℕ) (asks : List Ask) (q : Ask) → ask_of n asks ≡ Some q → F
 found n [] q e = cc
 found n (a ∷ asks) q e = found_by n a q asks (eqb a.number n) refl e (found n asks q)
 
-module _ (k : Around) (named : Option (LiteralOf Term)) where
-  abbrev Reads_it : Parts → Received → Type 0
+module _ (k : Surroundings) (named : Option (LiteralOf Term)) where
+  abbrev Reads_it : Circumstance → Received → Type 0
   Reads_it p r = Reads k.plans named p.agenda r.parts.agenda
 
-  same : (p q : Parts) → q.agenda ≡ p.agenda → Reads k.plans named p.agenda q.agenda
+  same : (p q : Circumstance) → q.agenda ≡ p.agenda → Reads k.plans named p.agenda q.agenda
   same p q e = Reads.Begins (begins (held p.agenda) (held q.agenda) [] (λ f. let h = ap (λ a. held a f) e in omega arith))
 
-  changes : (p : Parts) (ts : List Trigger) → Reads k.plans named p.agenda (told p.agenda ts)
+  changes : (p : Circumstance) (ts : List Trigger) → Reads k.plans named p.agenda (told p.agenda ts)
   changes p ts = Reads.Begins (begins (held p.agenda) (held (told p.agenda ts)) ts (λ f. told_held f p.agenda ts))
 
-  tell : (name : List ℕ) (p : Parts) (o : Option (List (LiteralOf Term))) → Reads_it p (spec.tell name p o)
+  tell : (name : List ℕ) (p : Circumstance) (o : Option (List (LiteralOf Term))) → Reads_it p (spec.tell name p o)
   tell name p None = same p p refl
   tell name p (Some ls) = changes p _
 
-  untell : (name : List ℕ) (p : Parts) (o : Option (List (LiteralOf Term))) → Reads_it p (spec.untell name p o)
+  untell : (name : List ℕ) (p : Circumstance) (o : Option (List (LiteralOf Term))) → Reads_it p (spec.untell name p o)
   untell name p None = same p p refl
   untell name p (Some ls) = changes p _
 
-  achieve : (name : List ℕ) (p : Parts) (o : Option (LiteralOf Term)) → Reads_it p (spec.achieve name p o)
+  achieve : (name : List ℕ) (p : Circumstance) (o : Option (LiteralOf Term)) → Reads_it p (spec.achieve name p o)
   achieve name p None = same p p refl
   achieve name p (Some g) =
       let t : Trigger = record { add = true; kind = kind.Achieve; lit = spec.sourced name g } in
       Reads.Begins (begins (held p.agenda) (held (posted p.agenda (external_event t))) (t ∷ [])
       (λ f. let e = posted_held f p.agenda (external_event t) in omega arith))
 
-  unachieve : (p : Parts) (o : Option (LiteralOf Term)) → named ≡ o → Reads_it p (spec.unachieve p o)
+  unachieve : (p : Circumstance) (o : Option (LiteralOf Term)) → named ≡ o → Reads_it p (spec.unachieve p o)
   unachieve p None is = same p p refl
   unachieve p (Some g) is = Reads.Drops (desires_end k.plans named g is p.agenda)
 
-  module _ (me : ℕ) (m : Message) (p : Parts) where
+  module _ (me : ℕ) (m : Message) (p : Circumstance) where
     ask_one : (g : LiteralOf Term) (a : Answer) → Reads_it p (spec.ask_one me m p g a)
     ask_one g (answer.Spent b) = same p p refl
     ask_one g (answer.Found s n) = same p p refl
@@ -119,7 +119,7 @@ module _ (k : Around) (named : Option (LiteralOf Term)) where
     asks_how (Some g) = same p p refl
 
   -- the stack that waited for the answer goes to the back, or fails
-  answered : (p : Parts) (q : Ask) (o : Option (List Pair)) → Becomes (Answered k.plans q) (held p.agenda) (held (spec.answered k p q.stack o).parts.agenda)
+  answered : (p : Circumstance) (q : Ask) (o : Option (List Pair)) → Becomes (Answered k.plans q) (held p.agenda) (held (spec.answered k p q.stack o).parts.agenda)
   answered p q (Some s) =
       let t = without_head (bound s q.stack) in
       becomes (Answered k.plans q) (Some (Intention.Runs t)) (held p.agenda) (held (record p.agenda { running = p.agenda.running ++ t ∷ [] }))
@@ -127,22 +127,22 @@ module _ (k : Around) (named : Option (LiteralOf Term)) where
   answered p q None =
       fell_as (Answered k.plans q) k.plans p.number error.IaFailed p.agenda q.stack (λ x h. Answered.Fails p.number x h)
 
-  answers_ask : (p : Parts) (n : ℕ) (content : Term) (o : Option Ask) → ask_of n p.agenda.asks ≡ o → Reads_it p (spec.answers_ask k p n content o)
+  answers_ask : (p : Circumstance) (n : ℕ) (content : Term) (o : Option Ask) → ask_of n p.agenda.asks ≡ o → Reads_it p (spec.answers_ask k p n content o)
   answers_ask p n content None e = same p p refl
   answers_ask p n content (Some q) e =
       let h = found n p.agenda.asks q e in
       let o = agreed (unified [] (ask q.answer content ∷ [])) in
-      let r : List Ask → Parts = λ asks. with_agenda p (record p.agenda { asks = asks }) in
+      let r : List Ask → Circumstance = λ asks. with_agenda p (record p.agenda { asks = asks }) in
       Reads.Answers h.front h.back q h.all
       (subst (λ asks. Becomes (Answered k.plans q) (held (r asks).agenda) (held (spec.answered k (r (without_ask n p.agenda.asks)) q.stack o).parts.agenda))
       h.others (answered (r (without_ask n p.agenda.asks)) q o))
 
-  tells : (name : List ℕ) (p : Parts) (m : Message) (content : Term) (b : Bool)
+  tells : (name : List ℕ) (p : Circumstance) (m : Message) (content : Term) (b : Bool)
       → Reads_it p (cond b (spec.tell name p (ground_literals content)) (spec.answers_ask k p m.reply content (ask_of m.reply p.agenda.asks)))
   tells name p m content true = tell name p (ground_literals content)
   tells name p m content false = answers_ask p m.reply content (ask_of m.reply p.agenda.asks) refl
 
-  verbs : (me : ℕ) (name : List ℕ) (p : Parts) (m : Message) (content : Term) (v : Verb) → named ≡ dropped_by_verb v (literal_of content)
+  verbs : (me : ℕ) (name : List ℕ) (p : Circumstance) (m : Message) (content : Term) (v : Verb) → named ≡ dropped_by_verb v (literal_of content)
       → Reads_it p (spec.of_verb k me name p m content v)
   verbs me name p m content verb.Tell is = tells name p m content (eqb m.reply 0)
   verbs me name p m content verb.Untell is = untell name p (literals_of content)
@@ -154,7 +154,7 @@ module _ (k : Around) (named : Option (LiteralOf Term)) where
   verbs me name p m content verb.UntellHow is = same p p refl
   verbs me name p m content verb.AskHow is = asks_how me m p (literal_of content)
 
-pub hears : (k : Around) (peers : Peers) (p : Parts) (m : Message)
+pub hears : (k : Surroundings) (peers : Peers) (p : Circumstance) (m : Message)
     → Reads k.plans (dropped_by_message p.number (Some m)) p.agenda (spec.receive k peers p m).parts.agenda
 unfolding spec.receive
 hears k peers p m =

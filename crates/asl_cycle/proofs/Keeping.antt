@@ -15,17 +15,17 @@ use Rattle.asl_intend.specs.Means.{applied_means}
 use Rattle.asl_intend.specs.Stacks.{head, without_head}
 use Rattle.asl_plans.specs.declared.library.Choice.{Choice}
 use Rattle.asl_plans.specs.Plans.{relevant}
-use Rattle.asl_state.specs.declared.rows.Row.TheVariants as row
-use Rattle.asl_state.specs.declared.went.Went.{Went}
-use Rattle.asl_state.specs.declared.went.Went.TheVariants as went
-use Rattle.asl_state.specs.Parts.{Around, Parts, Made}
+use Rattle.asl_exec_circumstance.specs.declared.rows.Row.TheVariants as row
+use Rattle.asl_exec_circumstance.specs.declared.went.Went.{Went}
+use Rattle.asl_exec_circumstance.specs.declared.went.Went.TheVariants as went
+use Rattle.asl_exec_circumstance.specs.Circumstance.{Surroundings, Circumstance, Made}
 use Rattle.asl_exec.specs.Exec.{exec}
 use Rattle.mas_mind.specs.declared.mind.Feedback.{Feedback}
 use Rattle.mas_mind.specs.declared.mind.Feedback.TheVariants as feedback
 use Rattle.mas_mind.specs.declared.mind.Message.{Message}
 use Rattle.mas_mind.specs.declared.mind.Outs.{Outs}
 use Rattle.mas_mind.specs.declared.mind.Thought.TheVariants as thought
-use Rattle.asl_state.specs.declared.peers.Peers.{Peers}
+use Rattle.asl_exec_circumstance.specs.declared.peers.Peers.{Peers}
 use Rattle.asl_kqml.specs.declared.took.Took.{Took}
 use Rattle.asl_kqml.specs.declared.took.Took.TheVariants as took
 use Rattle.asl_kqml.specs.Receive.{receive}
@@ -37,9 +37,9 @@ use Rattle.asl_cycle.specs.declared.config.After.{After}
 use Rattle.asl_cycle.specs.declared.config.After.TheVariants as after
 use Rattle.asl_cycle.specs.declared.config.Applied.{Applied}
 use Rattle.asl_cycle.specs.declared.config.Applied.TheVariants as applied
-use Rattle.asl_choose.specs.declared.chosen.Chosen.{Chosen}
-use Rattle.asl_choose.specs.declared.chosen.Chosen.TheVariants as chosen
-use Rattle.asl_choose.specs.Choosing.{choose}
+use Rattle.asl_exec_choose.specs.declared.chosen.Chosen.{Chosen}
+use Rattle.asl_exec_choose.specs.declared.chosen.Chosen.TheVariants as chosen
+use Rattle.asl_exec_choose.specs.Choosing.{choose}
 use Rattle.asl_cycle.specs.declared.config.Intended.{Intended}
 use Rattle.asl_cycle.specs.declared.config.Related.{Related}
 use Rattle.asl_cycle.specs.Steps as step
@@ -60,9 +60,9 @@ Ended r = (o : Outs) × (r.thought ≡ thought.Outs o)
 
 -- ---- the selected stack
 
-module _ (k : Around) (c : List Means) where
+module _ (k : Surroundings) (c : List Means) where
   -- what a row leads to
-  lands : (t : List Means) (before : Heap) (q : Parts) (s : Sofar) (a : After) → Leads k c t before (held q.agenda) a
+  lands : (t : List Means) (before : Heap) (q : Circumstance) (s : Sofar) (a : After) → Leads k c t before (held q.agenda) a
       → Ended (spec.goes_to k (spec.clears k) q s t a) → Becomes (Executed k.plans c) before (held (spec.goes_to k (spec.clears k) q s t a).parts.agenda)
   lands t before q s after.Clears h e =
       becomes_as _ (Executed k.plans c) before (held q.agenda) (held (spec.clears k q s t).parts.agenda) h.begun (h.fate q.number) h.sums (cleared k q s t)
@@ -84,7 +84,7 @@ module _ (k : Around) (c : List Means) where
   acted_leads peers s left d acted.Stop h = h
 
   -- of the others some have ended, and it became what it did
-  record Turned (p : Parts) (r : spec.Ran) : Type 0 where
+  record Turned (p : Circumstance) (r : spec.Ran) : Type 0 where
     left : Heap
     ended : End k.plans (dropped_by_head (head c)) (held p.agenda) left
     becomes : Becomes (Executed k.plans c) left (held r.parts.agenda)
@@ -92,7 +92,7 @@ module _ (k : Around) (c : List Means) where
   abbrev by_went : Peers → Sofar → Made → Went → spec.Ran
   by_went peers s x w = let v = step.exec_by k peers s x w in spec.goes_on k (spec.clears k) v.parts v.sofar v.next
 
-  alone : (p : Parts) (s : Sofar) (x : Made) → Leads k c x.cur (held p.agenda) (held x.parts.agenda) (after_of x.went)
+  alone : (p : Circumstance) (s : Sofar) (x : Made) → Leads k c x.cur (held p.agenda) (held x.parts.agenda) (after_of x.went)
       → Ended (spec.goes_to k (spec.clears k) x.parts (written s (step.of_made x)) x.cur (after_of x.went))
       → Turned p (spec.goes_to k (spec.clears k) x.parts (written s (step.of_made x)) x.cur (after_of x.went))
   alone p s x h e = record {
@@ -101,7 +101,7 @@ module _ (k : Around) (c : List Means) where
     becomes = lands x.cur (held p.agenda) x.parts (written s (step.of_made x)) (after_of x.went) h e;
   }
 
-  turned_by : (peers : Peers) (p : Parts) (s : Sofar) (x : Made) (w : Went) → w ≡ x.went → Rows k c p x w → Ended (by_went peers s x w)
+  turned_by : (peers : Peers) (p : Circumstance) (s : Sofar) (x : Made) (w : Went) → w ≡ x.went → Rows k c p x w → Ended (by_went peers s x w)
       → Turned p (by_went peers s x w)
   turned_by peers p s x (went.Outer call) is h e =
       let one = deeds k peers s.asks p c call h.named in
@@ -129,8 +129,8 @@ module _ (k : Around) (c : List Means) where
 none_moves : (a : Agenda) → Becomes (λ x. x ≡ None) (held a) (held a)
 none_moves a = begins (held a) (held a) [] (λ f. omega arith)
 
-module _ (k : Around) (peers : Peers) where
-  int_by : (p : Parts) (s : Sofar) (stacks : List (List Means)) → p.agenda.running ≡ stacks → p.agenda.acting ≡ None
+module _ (k : Surroundings) (peers : Peers) where
+  int_by : (p : Circumstance) (s : Sofar) (stacks : List (List Means)) → p.agenda.running ≡ stacks → p.agenda.acting ≡ None
       → Ended (spec.and_then s (step.sel_int_on p stacks) (spec.after_sel_int k peers))
       → Selects k.plans p.agenda (spec.and_then s (step.sel_int_on p stacks) (spec.after_sel_int k peers)).parts.agenda
   int_by p s [] is none e = Selects.Idle is (none_moves p.agenda)
@@ -140,18 +140,18 @@ module _ (k : Around) (peers : Peers) where
       let h = turned_by k c peers w.parts (written s w) x x.went refl (executes k w.parts c none) e in
       Selects.First c stacks h.left is h.ended h.becomes
 
-  int : (p : Parts) (s : Sofar) → p.agenda.acting ≡ None → Ended (spec.from_sel_int k peers p s)
+  int : (p : Circumstance) (s : Sofar) → p.agenda.acting ≡ None → Ended (spec.from_sel_int k peers p s)
       → Selects k.plans p.agenda (spec.from_sel_int k peers p s).parts.agenda
   int p s none e = int_by p s p.agenda.running refl none e
 
   -- ---- the event that was taken
 
-  record Handled (v : Event) (p : Parts) (r : spec.Ran) : Type 0 where
+  record Handled (v : Event) (p : Circumstance) (r : spec.Ran) : Type 0 where
     treated : Agenda
     event : Becomes (Treated k.plans v) (held p.agenda) (held treated)
     turn : Selects k.plans treated r.parts.agenda
 
-  planned : (p : Parts) (s : Sofar) (i : Intended) → p.agenda.acting ≡ None → Ended (spec.from_sel_appl k peers p s i)
+  planned : (p : Circumstance) (s : Sofar) (i : Intended) → p.agenda.acting ≡ None → Ended (spec.from_sel_appl k peers p s i)
       → Handled i.event p (spec.from_sel_appl k peers p s i)
   planned p s i none e =
       let w = step.sel_appl p i in
@@ -164,34 +164,34 @@ module _ (k : Around) (peers : Peers) where
         turn = int v.parts (written (written s w) v) none e;
       }
 
-  failed : (p : Parts) (v : Event) (e : Error) → Becomes (Treated k.plans v) (held p.agenda)
+  failed : (p : Circumstance) (v : Event) (e : Error) → Becomes (Treated k.plans v) (held p.agenda)
       (held (step.no_plan k row.Rel3 p v e (tt {0})).parts.agenda)
   failed p v e =
       let own = step.error_of v.error e in
       fell_as (Treated k.plans v) k.plans p.number own p.agenda (step.virtual v) (λ x h. Treated.Fails p.number own x h)
 
-  dropped : (p : Parts) (v : Event) → v.trigger.kind ≡ kind.Belief → Becomes (Treated k.plans v) (held p.agenda) (held p.agenda)
+  dropped : (p : Circumstance) (v : Event) → v.trigger.kind ≡ kind.Belief → Becomes (Treated k.plans v) (held p.agenda) (held p.agenda)
   dropped p v is = becomes (Treated k.plans v) None (held p.agenda) (held p.agenda) (Treated.Dropped is) (λ f. omega arith)
 
   -- by the search for an applicable plan
 
-  abbrev ApplTo : Event → Parts → Parts → Applied → Type 0
+  abbrev ApplTo : Event → Circumstance → Circumstance → Applied → Type 0
   ApplTo v p q (applied.Plan i) = (q.agenda ≡ p.agenda) × (i.event ≡ v)
   ApplTo v p q applied.Nothing = Becomes (Treated k.plans v) (held p.agenda) (held q.agenda)
   ApplTo v p q applied.Spent = Unit {0}
 
-  not_applied : (p : Parts) (v : Event) (t : Kind) → v.trigger.kind ≡ t
+  not_applied : (p : Circumstance) (v : Event) (t : Kind) → v.trigger.kind ≡ t
       → let w = step.dropped_or_fails k row.Appl2 row.Appl3 p v t error.NoApplicable applied.Nothing in ApplTo v p w.parts w.next
   not_applied p v kind.Belief is = dropped p v is
   not_applied p v kind.Achieve is = failed p v error.NoApplicable
   not_applied p v kind.Test is = failed p v error.NoApplicable
 
-  appl_to : (p : Parts) (v : Event) (c : Chosen) → let w = step.appl_pl_on k p v c in ApplTo v p w.parts w.next
+  appl_to : (p : Circumstance) (v : Event) (c : Chosen) → let w = step.appl_pl_on k p v c in ApplTo v p w.parts w.next
   appl_to p v (chosen.Plan m t n) = (refl, refl)
   appl_to p v chosen.Nothing = not_applied p v v.trigger.kind refl
   appl_to p v (chosen.Spent b) = tt
 
-  after_appl : (v : Event) (p q : Parts) (s : Sofar) (a : Applied) → q.agenda.acting ≡ None → ApplTo v p q a → Ended (spec.after_appl_pl k peers q s a)
+  after_appl : (v : Event) (p q : Circumstance) (s : Sofar) (a : Applied) → q.agenda.acting ≡ None → ApplTo v p q a → Ended (spec.after_appl_pl k peers q s a)
       → Handled v p (spec.after_appl_pl k peers q s a)
   after_appl v p q s (applied.Plan i) none h e =
       let g = planned q s i none e in
@@ -204,7 +204,7 @@ module _ (k : Around) (peers : Peers) where
   after_appl v p q s applied.Nothing none h e = record { treated = q.agenda; event = h; turn = int q s none e }
   after_appl v p q s applied.Spent none h e = cc (e.1)
 
-  appl : (p : Parts) (s : Sofar) (r : Related) → p.agenda.acting ≡ None → Ended (spec.from_appl_pl k peers p s r)
+  appl : (p : Circumstance) (s : Sofar) (r : Related) → p.agenda.acting ≡ None → Ended (spec.from_appl_pl k peers p s r)
       → Handled r.event p (spec.from_appl_pl k peers p s r)
   appl p s r none e =
       let c = choose k p r.number r.choices in
@@ -213,21 +213,21 @@ module _ (k : Around) (peers : Peers) where
 
   -- by that for relevant plans
 
-  abbrev RelTo : Event → Parts → Parts → Option Related → Type 0
+  abbrev RelTo : Event → Circumstance → Circumstance → Option Related → Type 0
   RelTo v p q None = Becomes (Treated k.plans v) (held p.agenda) (held q.agenda)
   RelTo v p q (Some r) = (q.agenda ≡ p.agenda) × (r.event ≡ v)
 
-  not_related : (p : Parts) (v : Event) (t : Kind) (e : Error) → v.trigger.kind ≡ t
+  not_related : (p : Circumstance) (v : Event) (t : Kind) (e : Error) → v.trigger.kind ≡ t
       → let w = step.dropped_or_fails k row.Rel2 row.Rel3 p v t e None in RelTo v p w.parts w.next
   not_related p v kind.Belief e is = dropped p v is
   not_related p v kind.Achieve e is = failed p v e
   not_related p v kind.Test e is = failed p v e
 
-  rel_to : (p : Parts) (v : Event) (cs : List Choice) → let w = step.rel_pl_on k p v cs in RelTo v p w.parts w.next
+  rel_to : (p : Circumstance) (v : Event) (cs : List Choice) → let w = step.rel_pl_on k p v cs in RelTo v p w.parts w.next
   rel_to p v [] = not_related p v v.trigger.kind (step.irrelevant v.trigger.add v.trigger.kind) refl
   rel_to p v (c ∷ cs) = (refl, refl)
 
-  after_rel : (v : Event) (p q : Parts) (s : Sofar) (o : Option Related) → q.agenda.acting ≡ None → RelTo v p q o → Ended (spec.after_rel_pl k peers q s o)
+  after_rel : (v : Event) (p q : Circumstance) (s : Sofar) (o : Option Related) → q.agenda.acting ≡ None → RelTo v p q o → Ended (spec.after_rel_pl k peers q s o)
       → Handled v p (spec.after_rel_pl k peers q s o)
   after_rel v p q s None none h e = record { treated = q.agenda; event = h; turn = int q s none e }
   after_rel v p q s (Some r) none h e =
@@ -239,7 +239,7 @@ module _ (k : Around) (peers : Peers) where
         turn = g.turn;
       }
 
-  rel : (p : Parts) (s : Sofar) (v : Event) → p.agenda.acting ≡ None → Ended (spec.from_rel_pl k peers p s v)
+  rel : (p : Circumstance) (s : Sofar) (v : Event) → p.agenda.acting ≡ None → Ended (spec.from_rel_pl k peers p s v)
       → Handled v p (spec.from_rel_pl k peers p s v)
   rel p s v none e =
       let cs = relevant k.plans p.number v.trigger in
@@ -248,12 +248,12 @@ module _ (k : Around) (peers : Peers) where
 
   -- ---- the steps before
 
-  record Selected (p : Parts) (r : spec.Ran) : Type 0 where
+  record Selected (p : Circumstance) (r : spec.Ran) : Type 0 where
     treated : Agenda
     event : Treats k.plans p.agenda treated
     turn : Selects k.plans treated r.parts.agenda
 
-  ev_by : (p : Parts) (s : Sofar) (events : List Event) → p.agenda.events ≡ events → p.agenda.acting ≡ None
+  ev_by : (p : Circumstance) (s : Sofar) (events : List Event) → p.agenda.events ≡ events → p.agenda.acting ≡ None
       → Ended (spec.and_then s (step.sel_ev_on p events) (spec.after_sel_ev k peers))
       → Selected p (spec.and_then s (step.sel_ev_on p events) (spec.after_sel_ev k peers))
   ev_by p s [] is none e =
@@ -264,19 +264,19 @@ module _ (k : Around) (peers : Peers) where
       let h = rel w.parts (written s w) v none e in
       record { treated = h.treated; event = Treats.Oldest v events is h.event; turn = h.turn }
 
-  ev : (p : Parts) (s : Sofar) → p.agenda.acting ≡ None → Ended (spec.from_sel_ev k peers p s) → Selected p (spec.from_sel_ev k peers p s)
+  ev : (p : Circumstance) (s : Sofar) → p.agenda.acting ≡ None → Ended (spec.from_sel_ev k peers p s) → Selected p (spec.from_sel_ev k peers p s)
   ev p s none e = ev_by p s p.agenda.events refl none e
 
-module _ (k : Around) (peers : Peers) where
+module _ (k : Surroundings) (peers : Peers) where
   -- behind a message the plans are those that it leaves
-  record Heard (named : Option (LiteralOf Term)) (o : Option Message) (p : Parts) (r : spec.Ran) : Type 0 where
+  record Heard (named : Option (LiteralOf Term)) (o : Option Message) (p : Circumstance) (r : spec.Ran) : Type 0 where
     read : Agenda
     message : Reads k.plans named p.agenda read
     treated : Agenda
     event : Treats (step.plans_after k.plans p.number o) read treated
     turn : Selects (step.plans_after k.plans p.number o) treated r.parts.agenda
 
-  taken : (named : Option (LiteralOf Term)) (o : Option Message) (p q : Parts) (s : Sofar) (m : Message) (t : Took) → Reads k.plans named p.agenda q.agenda
+  taken : (named : Option (LiteralOf Term)) (o : Option Message) (p q : Circumstance) (s : Sofar) (m : Message) (t : Took) → Reads k.plans named p.agenda q.agenda
       → q.agenda.acting ≡ None
       → Ended (let w = step.took_row peers s m q t in spec.after_msg (step.taught k p.number o) peers w.parts w.sofar w.next)
       → Heard named o p (let w = step.took_row peers s m q t in spec.after_msg (step.taught k p.number o) peers w.parts w.sofar w.next)
@@ -286,7 +286,7 @@ module _ (k : Around) (peers : Peers) where
       record { read = q.agenda; message = h; treated = g.treated; event = g.event; turn = g.turn }
   taken named o p q s m (took.Spent b) h none e = cc (e.1)
 
-  mail : (p : Parts) (s : Sofar) (m : Option Message) → p.agenda.acting ≡ None → Ended (spec.from_msg k peers p s m)
+  mail : (p : Circumstance) (s : Sofar) (m : Option Message) → p.agenda.acting ≡ None → Ended (spec.from_msg k peers p s m)
       → Heard (dropped_by_message p.number m) m p (spec.from_msg k peers p s m)
   mail p s None none e =
       let g = ev (step.taught k p.number None) peers p (written s (step.by row.Msg0 p [] true)) none e in
@@ -295,7 +295,7 @@ module _ (k : Around) (peers : Peers) where
       let r = receive k peers p m in
       taken (dropped_by_message p.number (Some m)) (Some m) p r.parts s m r.took (hears k peers p m) (reads_acting k peers p m ∙ none) e
 
-  fed : (p : Parts) (f : Feedback) (a : Option Acting) → p.agenda.acting ≡ a → Feeds k.plans p.agenda (step.feed_on k p f a).parts.agenda
+  fed : (p : Circumstance) (f : Feedback) (a : Option Acting) → p.agenda.acting ≡ a → Feeds k.plans p.agenda (step.feed_on k p f a).parts.agenda
   fed p f None is = Feeds.Untold (none_moves p.agenda)
   fed p feedback.Done (Some a) is =
       let t = without_head a.stack in
@@ -305,16 +305,16 @@ module _ (k : Around) (peers : Peers) where
   fed p feedback.Failed (Some a) is =
       Feeds.Told a is (fell_as (Fed k.plans a) k.plans p.number error.ActionFailed (record p.agenda { acting = None }) a.stack (λ x h. Fed.Fails p.number x h))
 
-  feed : (p : Parts) (kept : Option Feedback) → Feeds k.plans p.agenda (step.feed k p kept).parts.agenda
+  feed : (p : Circumstance) (kept : Option Feedback) → Feeds k.plans p.agenda (step.feed k p kept).parts.agenda
   feed p None = Feeds.Untold (none_moves p.agenda)
   feed p (Some f) = fed p f p.agenda.acting refl
 
-  fed_number : (p : Parts) (f : Feedback) (a : Option Acting) → (step.feed_on k p f a).parts.number ≡ p.number
+  fed_number : (p : Circumstance) (f : Feedback) (a : Option Acting) → (step.feed_on k p f a).parts.number ≡ p.number
   fed_number p f None = refl
   fed_number p feedback.Done (Some a) = refl
   fed_number p feedback.Failed (Some a) = refl
 
-  feed_number : (p : Parts) (kept : Option Feedback) → (step.feed k p kept).parts.number ≡ p.number
+  feed_number : (p : Circumstance) (kept : Option Feedback) → (step.feed k p kept).parts.number ≡ p.number
   feed_number p None = refl
   feed_number p (Some f) = fed_number p f p.agenda.acting
 

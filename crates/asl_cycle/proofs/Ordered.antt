@@ -13,13 +13,13 @@ use Rattle.asl_intend.specs.declared.agenda.Error.TheVariants as error
 use Rattle.asl_intend.specs.declared.agenda.Event.{Event}
 use Rattle.asl_plans.specs.declared.library.Choice.{Choice}
 use Rattle.asl_plans.specs.Plans.{relevant}
-use Rattle.asl_state.specs.declared.rows.Row.{Row}
-use Rattle.asl_state.specs.declared.rows.Row.TheVariants as row
-use Rattle.asl_state.specs.declared.went.Went.{Went}
-use Rattle.asl_state.specs.declared.went.Went.TheVariants as went
-use Rattle.asl_state.specs.Parts.{Around, Parts, Made}
+use Rattle.asl_exec_circumstance.specs.declared.rows.Row.{Row}
+use Rattle.asl_exec_circumstance.specs.declared.rows.Row.TheVariants as row
+use Rattle.asl_exec_circumstance.specs.declared.went.Went.{Went}
+use Rattle.asl_exec_circumstance.specs.declared.went.Went.TheVariants as went
+use Rattle.asl_exec_circumstance.specs.Circumstance.{Surroundings, Circumstance, Made}
 use Rattle.asl_exec.specs.Exec.{exec}
-use Rattle.asl_state.specs.declared.peers.Peers.{Peers}
+use Rattle.asl_exec_circumstance.specs.declared.peers.Peers.{Peers}
 use Rattle.asl_kqml.specs.declared.took.Took.{Took}
 use Rattle.asl_kqml.specs.declared.took.Took.TheVariants as took
 use Rattle.asl_kqml.specs.Receive.{receive}
@@ -32,9 +32,9 @@ use Rattle.mas_mind.specs.declared.mind.Message.{Message}
 use Rattle.mas_mind.specs.declared.mind.Outs.{Outs}
 use Rattle.mas_mind.specs.declared.mind.Thought.TheVariants as thought
 use Rattle.asl_cycle.specs.declared.rows.Sofar.{Sofar}
-use Rattle.asl_choose.specs.declared.chosen.Chosen.{Chosen}
-use Rattle.asl_choose.specs.declared.chosen.Chosen.TheVariants as chosen
-use Rattle.asl_choose.specs.Choosing.{choose}
+use Rattle.asl_exec_choose.specs.declared.chosen.Chosen.{Chosen}
+use Rattle.asl_exec_choose.specs.declared.chosen.Chosen.TheVariants as chosen
+use Rattle.asl_exec_choose.specs.Choosing.{choose}
 use Rattle.asl_cycle.specs.declared.config.Related.{Related}
 use Rattle.asl_cycle.specs.declared.config.Intended.{Intended}
 use Rattle.asl_cycle.specs.declared.config.Applied.{Applied}
@@ -64,15 +64,15 @@ Behind xs r = (back : Stacks) × (r.parts.agenda.running ≡ xs ++ back)
 further : (xs ys : Stacks) (r : spec.Ran) (back : Stacks) → ys ≡ xs ++ back → Behind ys r → Behind xs r
 further xs ys r back e h = (back ++ h.0, h.1 ∙ (ap (λ zs. zs ++ h.0) e ∙ append_assoc xs back h.0))
 
-module _ (k : Around) where
-  goes : (rest : Parts → Sofar → List Means → spec.Ran) → ((p : Parts) (s : Sofar) (cur : List Means) → Behind p.agenda.running (rest p s cur))
-      → (p : Parts) (s : Sofar) (cur : List Means) (a : After) → Behind p.agenda.running (spec.goes_to k rest p s cur a)
+module _ (k : Surroundings) where
+  goes : (rest : Circumstance → Sofar → List Means → spec.Ran) → ((p : Circumstance) (s : Sofar) (cur : List Means) → Behind p.agenda.running (rest p s cur))
+      → (p : Circumstance) (s : Sofar) (cur : List Means) (a : After) → Behind p.agenda.running (spec.goes_to k rest p s cur a)
   goes rest h p s cur after.Clears = h p s cur
   goes rest h p s cur after.Ends = ([], sym (nothing_behind p.agenda.running))
   goes rest h p s cur (after.Acts l) = ([], sym (nothing_behind p.agenda.running))
   goes rest h p s cur after.Spends = ([], sym (nothing_behind p.agenda.running))
 
-  clr : (n : ℕ) (p : Parts) (s : Sofar) (cur : List Means) → Behind p.agenda.running (spec.from_clr k n p s cur)
+  clr : (n : ℕ) (p : Circumstance) (s : Sofar) (cur : List Means) → Behind p.agenda.running (spec.from_clr k n p s cur)
   clr zero p s cur = ([], sym (nothing_behind p.agenda.running))
   clr (suc n) p s cur =
       let w = step.clear_step k p cur in
@@ -80,7 +80,7 @@ module _ (k : Around) where
       further p.agenda.running w.parts.agenda.running (spec.from_clr k (suc n) p s cur) b.0 b.1
       (goes (spec.from_clr k n) (clr n) w.parts (written s w) w.next.cur w.next.after)
 
-  all_clr : (p : Parts) (s : Sofar) (cur : List Means) → Behind p.agenda.running (spec.clears k p s cur)
+  all_clr : (p : Circumstance) (s : Sofar) (cur : List Means) → Behind p.agenda.running (spec.clears k p s cur)
   all_clr p s cur = clr (suc (length cur)) p s cur
 
   acted_leaves : (named : Option (LiteralOf Term)) (peers : Peers) (s : Sofar) (xs : Stacks) (d : Did) (a : Acted) → Leaves named xs d.parts.agenda.running
@@ -107,8 +107,8 @@ module _ (k : Around) where
   exec_leaves named peers s x (went.Failed r fall) is = leaves_all named x.parts.agenda.running x.parts.agenda.running refl
   exec_leaves named peers s x (went.Spent r b) is = leaves_all named x.parts.agenda.running x.parts.agenda.running refl
 
-module _ (k : Around) (peers : Peers) where
-  execs : (p : Parts) (s : Sofar) (cur : List Means)
+module _ (k : Surroundings) (peers : Peers) where
+  execs : (p : Circumstance) (s : Sofar) (cur : List Means)
       → Leaves (dropped_by_head (head cur)) p.agenda.running (spec.from_exec k peers p s cur).parts.agenda.running
   execs p s cur =
       let named = dropped_by_head (head cur) in
@@ -120,19 +120,19 @@ module _ (k : Around) (peers : Peers) where
       let l = leaves_then named x.parts.agenda.running w.parts.agenda.running r.parts.agenda.running h.0 e h.1 in
       subst (λ xs. Leaves named xs r.parts.agenda.running) (exec_running k p cur) l
 
-  int_by : (p : Parts) (s : Sofar) (stacks : Stacks) → p.agenda.running ≡ stacks
+  int_by : (p : Circumstance) (s : Sofar) (stacks : Stacks) → p.agenda.running ≡ stacks
       → Leaves (dropped_by_first stacks) (drop 1 stacks) (spec.and_then s (step.sel_int_on p stacks) (spec.after_sel_int k peers)).parts.agenda.running
   int_by p s [] e = leaves_all None [] p.agenda.running e
   int_by p s (c ∷ stacks) e = let w = step.sel_int_on p (c ∷ stacks) in execs w.parts (written s w) c
 
 -- ---- up to the selection; a message drops the goal of this literal, or none does
 
-module _ (k : Around) (peers : Peers) (named : Option (LiteralOf Term)) where
+module _ (k : Surroundings) (peers : Peers) (named : Option (LiteralOf Term)) where
   -- a rest of the cycle takes a turn, unless it ends by a spent budget
-  abbrev Ordered : Parts → spec.Ran → Type 0
+  abbrev Ordered : Circumstance → spec.Ran → Type 0
   Ordered p r = (o : Outs) → r.thought ≡ thought.Outs o → TakesTurns named p.agenda.running r.parts.agenda.running
 
-  int : (p : Parts) (s : Sofar) → Ordered p (spec.from_sel_int k peers p s)
+  int : (p : Circumstance) (s : Sofar) → Ordered p (spec.from_sel_int k peers p s)
   int p s o e =
       let xs = p.agenda.running in
       let h = int_by k peers p s xs refl in
@@ -147,7 +147,7 @@ module _ (k : Around) (peers : Peers) (named : Option (LiteralOf Term)) where
       }
 
   -- of the stacks these are left before the selection, and some run too
-  turns : (p q : Parts) (r : spec.Ran) → Leaves named p.agenda.running q.agenda.running → Ordered q r → Ordered p r
+  turns : (p q : Circumstance) (r : spec.Ran) → Leaves named p.agenda.running q.agenda.running → Ordered q r → Ordered p r
   turns p q r l h o is =
       let xs = p.agenda.running in
       let t = h o is in
@@ -164,99 +164,99 @@ module _ (k : Around) (peers : Peers) (named : Option (LiteralOf Term)) where
         in_order = t.in_order;
       }
 
-  wakes : (p q : Parts) (r : spec.Ran) (woken : Stacks) → q.agenda.running ≡ p.agenda.running ++ woken → Ordered q r → Ordered p r
+  wakes : (p q : Circumstance) (r : spec.Ran) (woken : Stacks) → q.agenda.running ≡ p.agenda.running ++ woken → Ordered q r → Ordered p r
   wakes p q r woken e h = turns p q r (leaves_front named p.agenda.running q.agenda.running woken e) h
 
-  keeps : (p q : Parts) (r : spec.Ran) → q.agenda.running ≡ p.agenda.running → Ordered q r → Ordered p r
+  keeps : (p q : Circumstance) (r : spec.Ran) → q.agenda.running ≡ p.agenda.running → Ordered q r → Ordered p r
   keeps p q r e h = turns p q r (leaves_all named p.agenda.running q.agenda.running e) h
 
-  appl : (p : Parts) (s : Sofar) (i : Intended) → Ordered p (spec.from_sel_appl k peers p s i)
+  appl : (p : Circumstance) (s : Sofar) (i : Intended) → Ordered p (spec.from_sel_appl k peers p s i)
   appl p s i =
       let w = step.sel_appl p i in
       let v = step.add_im w.parts i in
       let r = spec.from_sel_appl k peers p s i in
       wakes p v.parts r ((applied_means i.subst i.means ∷ i.event.stack) ∷ []) refl (int v.parts (written (written s w) v))
 
-  dropped_keeps : {N : Type 0} (b f : Row) (p : Parts) (v : Event) (t : Kind) (e : Error) (next : N)
+  dropped_keeps : {N : Type 0} (b f : Row) (p : Circumstance) (v : Event) (t : Kind) (e : Error) (next : N)
       → (step.dropped_or_fails k b f p v t e next).parts.agenda.running ≡ p.agenda.running
   dropped_keeps b f p v kind.Belief e next = refl
   dropped_keeps b f p v kind.Achieve e next = falls k p.number (step.error_of v.error e) p.agenda (step.virtual v)
   dropped_keeps b f p v kind.Test e next = falls k p.number (step.error_of v.error e) p.agenda (step.virtual v)
 
-  appl_keeps : (p : Parts) (v : Event) (c : Chosen) → (step.appl_pl_on k p v c).parts.agenda.running ≡ p.agenda.running
+  appl_keeps : (p : Circumstance) (v : Event) (c : Chosen) → (step.appl_pl_on k p v c).parts.agenda.running ≡ p.agenda.running
   appl_keeps p v (chosen.Plan m t n) = refl
   appl_keeps p v chosen.Nothing = dropped_keeps row.Appl2 row.Appl3 p v v.trigger.kind error.NoApplicable applied.Nothing
   appl_keeps p v (chosen.Spent b) = refl
 
-  after_appl : (p : Parts) (s : Sofar) (a : Applied) → Ordered p (spec.after_appl_pl k peers p s a)
+  after_appl : (p : Circumstance) (s : Sofar) (a : Applied) → Ordered p (spec.after_appl_pl k peers p s a)
   after_appl p s (applied.Plan i) = appl p s i
   after_appl p s applied.Nothing = int p s
   after_appl p s applied.Spent = λ o e. cc
 
-  appl_of : (p : Parts) (s : Sofar) (r : Related) → Ordered p (spec.from_appl_pl k peers p s r)
+  appl_of : (p : Circumstance) (s : Sofar) (r : Related) → Ordered p (spec.from_appl_pl k peers p s r)
   appl_of p s r =
       let w = step.appl_pl k p r in
       keeps p w.parts (spec.from_appl_pl k peers p s r) (appl_keeps p r.event (choose k p r.number r.choices)) (after_appl w.parts (written s w) w.next)
 
-  rel_keeps : (p : Parts) (v : Event) (cs : List Choice) → (step.rel_pl_on k p v cs).parts.agenda.running ≡ p.agenda.running
+  rel_keeps : (p : Circumstance) (v : Event) (cs : List Choice) → (step.rel_pl_on k p v cs).parts.agenda.running ≡ p.agenda.running
   rel_keeps p v [] = dropped_keeps row.Rel2 row.Rel3 p v v.trigger.kind (step.irrelevant v.trigger.add v.trigger.kind) None
   rel_keeps p v (c ∷ cs) = refl
 
-  after_rel : (p : Parts) (s : Sofar) (o : Option Related) → Ordered p (spec.after_rel_pl k peers p s o)
+  after_rel : (p : Circumstance) (s : Sofar) (o : Option Related) → Ordered p (spec.after_rel_pl k peers p s o)
   after_rel p s None = int p s
   after_rel p s (Some r) = appl_of p s r
 
-  rel : (p : Parts) (s : Sofar) (v : Event) → Ordered p (spec.from_rel_pl k peers p s v)
+  rel : (p : Circumstance) (s : Sofar) (v : Event) → Ordered p (spec.from_rel_pl k peers p s v)
   rel p s v =
       let w = step.rel_pl k p v in
       keeps p w.parts (spec.from_rel_pl k peers p s v) (rel_keeps p v (relevant k.plans p.number v.trigger)) (after_rel w.parts (written s w) w.next)
 
-  ev_keeps : (p : Parts) (events : List Event) → (step.sel_ev_on p events).parts.agenda.running ≡ p.agenda.running
+  ev_keeps : (p : Circumstance) (events : List Event) → (step.sel_ev_on p events).parts.agenda.running ≡ p.agenda.running
   ev_keeps p [] = refl
   ev_keeps p (v ∷ events) = refl
 
-  after_ev : (p : Parts) (s : Sofar) (o : Option Event) → Ordered p (spec.after_sel_ev k peers p s o)
+  after_ev : (p : Circumstance) (s : Sofar) (o : Option Event) → Ordered p (spec.after_sel_ev k peers p s o)
   after_ev p s None = int p s
   after_ev p s (Some v) = rel p s v
 
-  ev : (p : Parts) (s : Sofar) → Ordered p (spec.from_sel_ev k peers p s)
+  ev : (p : Circumstance) (s : Sofar) → Ordered p (spec.from_sel_ev k peers p s)
   ev p s =
       let w = step.sel_ev p in
       keeps p w.parts (spec.from_sel_ev k peers p s) (ev_keeps p p.agenda.events) (after_ev w.parts (written s w) w.next)
 
-  taken : (p q : Parts) (s : Sofar) (m : Message) (t : Took) → Leaves named p.agenda.running q.agenda.running
+  taken : (p q : Circumstance) (s : Sofar) (m : Message) (t : Took) → Leaves named p.agenda.running q.agenda.running
       → Ordered p (let w = step.took_row peers s m q t in spec.after_msg k peers w.parts w.sofar w.next)
   taken p q s m (took.Row r reply fs) l =
       let w = step.took_row peers s m q (took.Row r reply fs) in turns p q (spec.from_sel_ev k peers q w.sofar) l (ev q w.sofar)
   taken p q s m (took.Spent b) l = λ o e. cc
 
-module _ (k : Around) (peers : Peers) where
-  mail : (p : Parts) (s : Sofar) (m : Option Message) → Ordered k peers (dropped_by_message p.number m) p (spec.from_msg k peers p s m)
+module _ (k : Surroundings) (peers : Peers) where
+  mail : (p : Circumstance) (s : Sofar) (m : Option Message) → Ordered k peers (dropped_by_message p.number m) p (spec.from_msg k peers p s m)
   mail p s None = ev (step.taught k p.number None) peers None p (written s (step.by row.Msg0 p [] true))
   mail p s (Some m) =
       let r = receive k peers p m in
       taken (step.taught k p.number (Some m)) peers (dropped_by_message p.number (Some m)) p r.parts s m r.took (reads_leave k peers p m)
 
-  fed_wakes : (p : Parts) (f : Feedback) (a : Option Acting) → (woken : Stacks) × ((step.feed_on k p f a).parts.agenda.running ≡ p.agenda.running ++ woken)
+  fed_wakes : (p : Circumstance) (f : Feedback) (a : Option Acting) → (woken : Stacks) × ((step.feed_on k p f a).parts.agenda.running ≡ p.agenda.running ++ woken)
   fed_wakes p f None = ([], sym (nothing_behind p.agenda.running))
   fed_wakes p feedback.Done (Some a) = (without_head a.stack ∷ [], refl)
   fed_wakes p feedback.Failed (Some a) =
       ([], falls k p.number error.ActionFailed (step.none_acting p).agenda a.stack ∙ sym (nothing_behind p.agenda.running))
 
-  feed_wakes : (p : Parts) (kept : Option Feedback) → (woken : Stacks) × ((step.feed k p kept).parts.agenda.running ≡ p.agenda.running ++ woken)
+  feed_wakes : (p : Circumstance) (kept : Option Feedback) → (woken : Stacks) × ((step.feed k p kept).parts.agenda.running ≡ p.agenda.running ++ woken)
   feed_wakes p None = ([], sym (nothing_behind p.agenda.running))
   feed_wakes p (Some f) = fed_wakes p f p.agenda.acting
 
-  fed_number : (p : Parts) (f : Feedback) (a : Option Acting) → (step.feed_on k p f a).parts.number ≡ p.number
+  fed_number : (p : Circumstance) (f : Feedback) (a : Option Acting) → (step.feed_on k p f a).parts.number ≡ p.number
   fed_number p f None = refl
   fed_number p feedback.Done (Some a) = refl
   fed_number p feedback.Failed (Some a) = refl
 
-  feed_number : (p : Parts) (kept : Option Feedback) → (step.feed k p kept).parts.number ≡ p.number
+  feed_number : (p : Circumstance) (kept : Option Feedback) → (step.feed k p kept).parts.number ≡ p.number
   feed_number p None = refl
   feed_number p (Some f) = fed_number p f p.agenda.acting
 
-  feeds : (p : Parts) (s : Sofar) (kept : Option Feedback) (m : Option Message)
+  feeds : (p : Circumstance) (s : Sofar) (kept : Option Feedback) (m : Option Message)
       → Ordered k peers (dropped_by_message p.number m) p (spec.from_feed k peers p s kept m)
   feeds p s kept m =
       let w = step.feed k p kept in

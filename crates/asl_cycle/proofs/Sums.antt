@@ -6,7 +6,7 @@ use Rattle.asl_intend.specs.declared.agenda.Agenda.{Agenda}
 use Rattle.asl_intend.specs.declared.agenda.Event.{Event}
 use Rattle.asl_intend.specs.Agendas.{external, external_event}
 use Rattle.asl_fail.specs.Fails.{posted}
-use Rattle.asl_state.specs.Parts.{told}
+use Rattle.asl_exec_circumstance.specs.Circumstance.{told}
 use Rattle.asl_cycle.specs.Intentions.{Intention, Heap, total, held, one_or_none, begin, Becomes, IsNone}
 
 pub total_append : {A : Type 0} (f : A → ℕ) (xs ys : List A) → total f (xs ++ ys) ≡ total f xs + total f ys

@@ -1,17 +1,17 @@
 -- What an agent is: its configuration, and what it has shown so far.
 use Rattle.std.specs.Prelude.{ℕ, ◌+◌, Bool, false, List, [], ◌++◌, length, Option, None, Some}
 use Rattle.asl_term.specs.declared.syntax.AgentText.{AgentText}
-use Rattle.asl_plans.specs.declared.entry.Entry.{Entry}
+use Rattle.asl_plans.specs.declared.entry.OwnedPlan.{OwnedPlan}
 use Rattle.asl_plans.specs.Libraries.{opened}
 use Rattle.asl_term.specs.declared.syntax.Clause.{Clause}
 use Rattle.asl_resolve.specs.declared.answers.Budgets.{Budgets}
-use Rattle.asl_state.specs.Parts.{Around, Parts, around}
+use Rattle.asl_exec_circumstance.specs.Circumstance.{Surroundings, Circumstance, around}
 use Rattle.mas_mind.specs.declared.mind.Input.{Input}
 use Rattle.mas_mind.specs.declared.mind.Level.{Level}
 use Rattle.mas_mind.specs.declared.mind.Feedback.{Feedback}
 use Rattle.mas_mind.specs.Minds.{Cycled, Kind, asks_feedback}
-use Rattle.asl_state.specs.Contents.{agent_name}
-use Rattle.asl_state.specs.declared.peers.Peers.{Peers}
+use Rattle.asl_exec_circumstance.specs.Contents.{agent_name}
+use Rattle.asl_exec_circumstance.specs.declared.peers.Peers.{Peers}
 use Rattle.asl_stdlib.specs.Solving.{solve}
 use Rattle.asl_cycle.specs.Opening.{opening_parts}
 use Rattle.asl_cycle.specs.Cycle.{Ran, cycle}
@@ -21,9 +21,9 @@ use Rattle.asl_cycle.specs.Trace.{shown}
 -- an agent: its plans, each with those who it is from, its rules, what its rows change, the number of its next ask, the feedback that was told and is still
 -- to be used, whether it awaits feedback, the names of all agents and its number, and the lines that it has shown
 pub record Mindset : Type 0 where
-  pub plans : List Entry
+  pub plans : List OwnedPlan
   pub rules : List Clause
-  pub parts : Parts
+  pub parts : Circumstance
   pub asks : ℕ
   pub kept : Option Feedback
   pub awaits : Bool
@@ -38,7 +38,7 @@ abbrev pub own_name : Peers → List ℕ
 own_name peers = agent_name peers.names peers.me
 
 -- what none of its rows changes: the internal actions of formulas are asked under the agent's own name
-abbrev pub surroundings : Mindset → Around
+abbrev pub surroundings : Mindset → Surroundings
 surroundings m = around m.plans m.rules (solve (own_name m.peers)) m.budgets
 
 -- the agent after a cycle: the plans that its message leaves, one cycle more, and those of its lines that the level shows; it awaits

@@ -8,7 +8,7 @@ use Rattle.asl_term.specs.declared.syntax.Kind.TheVariants as kind
 use Rattle.asl_beliefs.specs.Sources.{with_source}
 use Rattle.asl_beliefs.specs.Bases as beliefs
 use Rattle.asl_intend.specs.Agendas as agendas
-use Rattle.asl_state.specs.Parts.{Parts, parts, goal_trigger}
+use Rattle.asl_exec_circumstance.specs.Circumstance.{Circumstance, parts, goal_trigger}
 
 -- what an initial goal is the event of
 abbrev pub initial_goal : LiteralOf Term → Trigger
@@ -19,5 +19,5 @@ abbrev pub initial : AgentText → List Trigger
 initial source = (beliefs.opening source).events ++ map initial_goal source.goals
 
 -- the counter begins at 1
-abbrev pub opening_parts : AgentText → Parts
+abbrev pub opening_parts : AgentText → Circumstance
 opening_parts source = parts (beliefs.opening source).beliefs (agendas.opening (initial source)) 1

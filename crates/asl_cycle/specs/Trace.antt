@@ -6,14 +6,14 @@ use Rattle.asl_term.specs.Texts.{text}
 use Rattle.asl_term.specs.Exprs.{literal_text}
 use Rattle.mas_mind.specs.declared.mind.Level.{Level}
 use Rattle.mas_mind.specs.declared.mind.Level.TheVariants as level
-use Rattle.asl_state.specs.declared.rows.Row.{Row}
-use Rattle.asl_state.specs.declared.rows.Row.TheVariants as row
+use Rattle.asl_exec_circumstance.specs.declared.rows.Row.{Row}
+use Rattle.asl_exec_circumstance.specs.declared.rows.Row.TheVariants as row
 use Rattle.asl_fail.specs.Fails.{error_name}
 use Rattle.asl_resolve.specs.declared.answers.Spent.{Spent}
 use Rattle.asl_resolve.specs.declared.answers.Spent.TheVariants as spent
 use Rattle.asl_cycle.specs.declared.rows.Mail.{Mail}
-use Rattle.asl_cycle.specs.declared.rows.Line.{Line}
-use Rattle.asl_cycle.specs.declared.rows.Line.TheVariants as line
+use Rattle.asl_cycle.specs.declared.rows.TraceLine.{TraceLine}
+use Rattle.asl_cycle.specs.declared.rows.TraceLine.TheVariants as line
 use Rattle.mas_mind.specs.Minds.{verb_text}
 
 abbrev pub row_name : Row → List ℕ
@@ -88,7 +88,7 @@ spent_name spent.Tries = codes "tries"
 abbrev pub mail_text : Mail → List ℕ
 mail_text m = m.who ++ codes " " ++ verb_text m.verb ++ codes " " ++ text m.content
 
-abbrev pub line_text : Line → List ℕ
+abbrev pub line_text : TraceLine → List ℕ
 line_text (line.Rule r) = codes "rule " ++ row_name r
 line_text (line.Say t) = codes "say " ++ t
 line_text (line.Took m) = codes "took " ++ mail_text m
@@ -110,14 +110,14 @@ abbrev pub shows_acts : Level → Bool
 shows_acts level.Say = false
 shows_acts other = true
 
-abbrev pub shows : Level → Line → Bool
+abbrev pub shows : Level → TraceLine → Bool
 shows v (line.Rule r) = shows_rules v
 shows v (line.Say t) = true
 shows v other = shows_acts v
 
 -- a line of a trace: the number of the cycle, a space, the text and a line feed
-abbrev pub line_shown : Level → ℕ → Line → List ℕ
+abbrev pub line_shown : Level → ℕ → TraceLine → List ℕ
 line_shown v n l = if shows v l then decimal n ++ codes " " ++ line_text l ++ codes "\n" else []
 
-abbrev pub shown : Level → ℕ → List Line → List ℕ
+abbrev pub shown : Level → ℕ → List TraceLine → List ℕ
 shown v n ls = flat_map (line_shown v n) ls

@@ -12,7 +12,7 @@ use Rattle.asl_unify.specs.Renamed.{renamed}
 use Rattle.asl_unify.specs.Settling.{Settled, settle_formula}
 use Rattle.asl_intend.specs.declared.entry.Means.{Means}
 use Rattle.asl_intend.specs.Stacks.{has_goal, head}
-use Rattle.asl_state.specs.Parts.{Around, Parts}
+use Rattle.asl_exec_circumstance.specs.Circumstance.{Surroundings, Circumstance}
 use Rattle.mas_mind.specs.declared.mind.Feedback.{Feedback}
 use Rattle.mas_mind.specs.declared.mind.Input.{Input}
 use Rattle.mas_mind.specs.declared.mind.Message.{Message}
@@ -20,8 +20,8 @@ use Rattle.mas_mind.specs.declared.mind.Outs.{Outs}
 use Rattle.mas_mind.specs.declared.mind.Thought.TheVariants as thought
 use Rattle.mas_mind.specs.declared.mind.Verb.{Verb}
 use Rattle.mas_mind.specs.declared.mind.Verb.TheVariants as verb
-use Rattle.asl_state.specs.declared.peers.Peers.{Peers}
-use Rattle.asl_state.specs.Contents.{literal_of}
+use Rattle.asl_exec_circumstance.specs.declared.peers.Peers.{Peers}
+use Rattle.asl_exec_circumstance.specs.Contents.{literal_of}
 use Rattle.asl_goals.specs.Sending.{term_at}
 use Rattle.asl_cycle.specs.Cycle.{cycle}
 
@@ -91,7 +91,7 @@ pub record TakesTurns (by_message : Option (LiteralOf Term)) (before after : Lis
 -- and makes a step before another makes its second. (The counter is the same at the message as before the cycle.)
 abbrev pub CyclesTakeTurns : Type 0
 CyclesTakeTurns =
-    (k : Around) (peers : Peers) (p : Parts) (asks : ℕ) (kept : Option Feedback) (i : Input) (o : Outs)
+    (k : Surroundings) (peers : Peers) (p : Circumstance) (asks : ℕ) (kept : Option Feedback) (i : Input) (o : Outs)
     → (cycle k peers p asks kept i).thought ≡ thought.Outs o
     → TakesTurns (dropped_by_message p.number i.message) p.agenda.running (cycle k peers p asks kept i).parts.agenda.running
 
@@ -108,6 +108,6 @@ pub record OthersStay (before after : List (List Means)) : Type 0 where
 
 abbrev pub CyclesKeepOthers : Type 0
 CyclesKeepOthers =
-    (k : Around) (peers : Peers) (p : Parts) (asks : ℕ) (kept : Option Feedback) (i : Input) (o : Outs)
+    (k : Surroundings) (peers : Peers) (p : Circumstance) (asks : ℕ) (kept : Option Feedback) (i : Input) (o : Outs)
     → (cycle k peers p asks kept i).thought ≡ thought.Outs o → dropped_by_message p.number i.message ≡ None
     → OthersStay p.agenda.running (cycle k peers p asks kept i).parts.agenda.running

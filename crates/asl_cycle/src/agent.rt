@@ -8,13 +8,13 @@ ghost use Rattle.mas_mind.specs.Minds.{asks_feedback};
 use crate::cycle::cycle;
 use crate::opening::{add_goals, copy_plans};
 use crate::trace::write_lines;
+use asl_exec_circumstance::parts::{Circumstance, Surroundings};
+use asl_exec_circumstance::peers::{Peers, agent_name};
+use asl_exec_circumstance::shared::SharedNames;
 use asl_index::indexed::Indexed;
 use asl_intend::opening::agenda;
 use asl_plans::library::Library;
 use asl_resolve::answers::Budgets;
-use asl_state::parts::{Around, Parts};
-use asl_state::peers::{Peers, agent_name};
-use asl_state::shared::SharedNames;
 use asl_stdlib::standard::StandardActions;
 use asl_term::sequence::{Seq, Starved};
 use asl_term::syntax::{AgentText, Text};
@@ -25,8 +25,8 @@ use std::marker::Model;
 
 /// An agent. It makes at most 1,000,000 cycles.
 pub struct Agent {
-    around: Around<StandardActions>,
-    parts: Parts<Indexed>,
+    around: Surroundings<StandardActions>,
+    parts: Circumstance<Indexed>,
     asks: u64,
     kept: Option<Feedback>,
     awaits: bool,
@@ -108,12 +108,12 @@ pub fn open_agent(
     let actions = StandardActions::new(agent_name(alloc, names.get(), me)?);
     let names = names.again()?;
     Ok(Agent {
-        around: Around {
+        around: Surroundings {
             lib,
             actions,
             budgets,
         },
-        parts: Parts {
+        parts: Circumstance {
             beliefs,
             agenda,
             number: 1,

@@ -1,24 +1,24 @@
 //! A cycle: from each step to the end.
 
 ghost use Rattle.std.specs.Prelude.{◌≡◌, ◌≤◌, ◌<◌, ◌^◌, ◌+◌, ◌-◌, ◌*◌, true, None, IfOk, OnOk};
-ghost use Rattle.asl_state.specs.Parts.{seen_around, seen};
+ghost use Rattle.asl_exec_circumstance.specs.Circumstance.{seen_around, seen};
 ghost use Rattle.asl_beliefs.specs.Bases.{all_ground};
 ghost use Rattle.asl_cycle.specs.Acts.{is_fed};
 ghost use Rattle.asl_cycle.specs.Cycle as spec;
 ghost use Rattle.asl_cycle.specs.Steps.{plans_after};
 
 use crate::config::{After, Applied, Intended, Related};
-use crate::rows::{Line, Lines, Sofar};
+use crate::rows::{Lines, Sofar, TraceLine};
 use crate::steps::{
     add_im, appl_pl, clear_step, exec_step, feed, msg, percept, rel_pl, sel_appl, sel_ev, sel_int,
 };
 use asl_beliefs::base::BeliefBase;
+use asl_exec_circumstance::parts::{Circumstance, Surroundings};
+use asl_exec_circumstance::peers::Peers;
+use asl_exec_circumstance::rows::Row;
 use asl_intend::agenda::Event;
 use asl_intend::stack::Stack;
 use asl_resolve::actions::Actions;
-use asl_state::parts::{Around, Parts};
-use asl_state::peers::Peers;
-use asl_state::rows::Row;
 use asl_term::sequence::{Seq, Starved};
 use asl_term::syntax::Literal;
 use mas_mind::mind::{Feedback, Input, Message, Outs, Thought};
@@ -41,16 +41,16 @@ fn quiet_row(row: Row) -> bool
     }
 }
 
-fn quiet_line(line: &Line) -> bool
+fn quiet_line(line: &TraceLine) -> bool
     ensures { result ≡ spec.quiet_line line.now }
 {
     match line {
-        Line::Rule(row) => quiet_row(*row),
+        TraceLine::Rule(row) => quiet_row(*row),
         _ => false,
     }
 }
 
-fn quiet_lines(lines: &[Line]) -> bool
+fn quiet_lines(lines: &[TraceLine]) -> bool
     ensures { result ≡ spec.quiet_lines lines.now }
 {
     for line in lines {
@@ -106,8 +106,8 @@ fn spends(sofar: Sofar) -> Finished
 #[tactic(auto, using(crate::proofs::Clears::more))]
 fn from_clr<B: BeliefBase, A: Actions>(
     alloc: Global,
-    k: &Around<A>,
-    p: &mut Parts<B>,
+    k: &Surroundings<A>,
+    p: &mut Circumstance<B>,
     sofar: Sofar,
     cur: Stack,
 ) -> Result<Finished, Starved>
@@ -139,9 +139,9 @@ fn from_clr<B: BeliefBase, A: Actions>(
 
 fn from_exec<B: BeliefBase, A: Actions>(
     alloc: Global,
-    k: &Around<A>,
+    k: &Surroundings<A>,
     peers: &Peers,
-    p: &mut Parts<B>,
+    p: &mut Circumstance<B>,
     sofar: Sofar,
     cur: Stack,
 ) -> Result<Finished, Starved>
@@ -168,9 +168,9 @@ fn from_exec<B: BeliefBase, A: Actions>(
 
 fn from_sel_int<B: BeliefBase, A: Actions>(
     alloc: Global,
-    k: &Around<A>,
+    k: &Surroundings<A>,
     peers: &Peers,
-    p: &mut Parts<B>,
+    p: &mut Circumstance<B>,
     sofar: Sofar,
 ) -> Result<Finished, Starved>
     requires room { p.old.number + k.now.budgets.tries < 2 ^ 64 - 1 }
@@ -196,9 +196,9 @@ fn from_sel_int<B: BeliefBase, A: Actions>(
 
 fn from_sel_appl<B: BeliefBase, A: Actions>(
     alloc: Global,
-    k: &Around<A>,
+    k: &Surroundings<A>,
     peers: &Peers,
-    p: &mut Parts<B>,
+    p: &mut Circumstance<B>,
     sofar: Sofar,
     intended: Intended,
 ) -> Result<Finished, Starved>
@@ -221,9 +221,9 @@ fn from_sel_appl<B: BeliefBase, A: Actions>(
 
 fn from_appl_pl<B: BeliefBase, A: Actions>(
     alloc: Global,
-    k: &Around<A>,
+    k: &Surroundings<A>,
     peers: &Peers,
-    p: &mut Parts<B>,
+    p: &mut Circumstance<B>,
     sofar: Sofar,
     related: Related,
 ) -> Result<Finished, Starved>
@@ -248,9 +248,9 @@ fn from_appl_pl<B: BeliefBase, A: Actions>(
 
 fn from_rel_pl<B: BeliefBase, A: Actions>(
     alloc: Global,
-    k: &Around<A>,
+    k: &Surroundings<A>,
     peers: &Peers,
-    p: &mut Parts<B>,
+    p: &mut Circumstance<B>,
     sofar: Sofar,
     event: Event,
 ) -> Result<Finished, Starved>
@@ -275,9 +275,9 @@ fn from_rel_pl<B: BeliefBase, A: Actions>(
 
 fn from_sel_ev<B: BeliefBase, A: Actions>(
     alloc: Global,
-    k: &Around<A>,
+    k: &Surroundings<A>,
     peers: &Peers,
-    p: &mut Parts<B>,
+    p: &mut Circumstance<B>,
     sofar: Sofar,
 ) -> Result<Finished, Starved>
     requires tries { k.now.budgets.tries ≤ 10000000 }
@@ -301,9 +301,9 @@ fn from_sel_ev<B: BeliefBase, A: Actions>(
 
 fn from_msg<B: BeliefBase, A: Actions>(
     alloc: Global,
-    k: &mut Around<A>,
+    k: &mut Surroundings<A>,
     peers: &Peers,
-    p: &mut Parts<B>,
+    p: &mut Circumstance<B>,
     sofar: Sofar,
     message: &Option<Message>,
 ) -> Result<Finished, Starved>
@@ -333,9 +333,9 @@ fn from_msg<B: BeliefBase, A: Actions>(
 /// for its action, there is some. The counter rises by at most two and twice the tries, and at most one number of an ask is used.
 pub fn cycle<B: BeliefBase, A: Actions>(
     alloc: Global,
-    k: &mut Around<A>,
+    k: &mut Surroundings<A>,
     peers: &Peers,
-    p: &mut Parts<B>,
+    p: &mut Circumstance<B>,
     asks: u64,
     kept: Option<Feedback>,
     input: &Input,

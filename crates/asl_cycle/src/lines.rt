@@ -1,16 +1,16 @@
 //! What rows write and send, behind what the cycle has written and sent so far.
 
 ghost use Rattle.std.specs.Prelude.{◌≡◌, ◌++◌, [], ◌∷◌, map, option_to_list, IfOk, OnOk};
-ghost use Rattle.asl_cycle.specs.declared.rows.Line.TheVariants as line;
-ghost use Rattle.asl_state.specs.Parts as specs;
+ghost use Rattle.asl_cycle.specs.declared.rows.TraceLine.TheVariants as line;
+ghost use Rattle.asl_exec_circumstance.specs.Circumstance as specs;
 ghost use Rattle.asl_cycle.specs.Steps as spec;
 
-use crate::rows::{Line, Lines, Mail, Sofar};
+use crate::rows::{Lines, Mail, Sofar, TraceLine};
+use asl_exec_circumstance::peers::{Peers, agent_name};
+use asl_exec_circumstance::rows::{Fall, Row};
 use asl_fail::fail::Fell;
 use asl_intend::agenda::Error;
 use asl_kqml::took::Took;
-use asl_state::peers::{Peers, agent_name};
-use asl_state::rows::{Fall, Row};
 use asl_term::copying::copy;
 use asl_term::sequence::Starved;
 use mas_mind::mind::{Message, Messages};
@@ -20,7 +20,7 @@ use std::alloc::Global;
 pub fn rule(sofar: &mut Sofar, row: Row) -> Result<(), Starved>
     ensures { OnOk result (sofar.new ≡ record sofar.old { lines = sofar.old.lines ++ line.Rule row ∷ [] }) }
 {
-    sofar.lines.push(Line::Rule(row))
+    sofar.lines.push(TraceLine::Rule(row))
 }
 
 /// Puts so many rows Fail2 last.
@@ -28,7 +28,7 @@ fn put_popped(lines: &mut Lines, n: u64) -> Result<(), Starved>
     ensures { OnOk result (lines.new ≡ lines.old ++ spec.pops n) }
 {
     for _ in 0..n {
-        lines.push(Line::Rule(Row::Fail2))?;
+        lines.push(TraceLine::Rule(Row::Fail2))?;
     }
     Ok(())
 }
@@ -40,12 +40,12 @@ pub fn put_fall(lines: &mut Lines, e: Error, fell: Fell) -> Result<(), Starved>
     match fell {
         Fell::Raised(n) => {
             put_popped(lines, n.saturating_sub(1))?;
-            lines.push(Line::Rule(Row::Fail1))
+            lines.push(TraceLine::Rule(Row::Fail1))
         }
         Fell::Dropped(n) => {
             put_popped(lines, n)?;
-            lines.push(Line::Rule(Row::Fail3))?;
-            lines.push(Line::Drops(e))
+            lines.push(TraceLine::Rule(Row::Fail3))?;
+            lines.push(TraceLine::Drops(e))
         }
     }
 }
@@ -87,7 +87,7 @@ pub fn send(alloc: Global, peers: &Peers, sofar: &mut Sofar, m: Message) -> Resu
     }) }
 {
     let mail = mail_of(alloc, peers, m.to, &m)?;
-    sofar.lines.push(Line::Sends(mail))?;
+    sofar.lines.push(TraceLine::Sends(mail))?;
     sofar.messages.push(m)
 }
 
@@ -132,7 +132,7 @@ fn put_taken(alloc: Global, peers: &Peers, lines: &mut Lines, m: &Message) -> Re
     ensures { OnOk result (lines.new ≡ lines.old ++ spec.took_line peers.now m.now ∷ []) }
 {
     let mail = mail_of(alloc, peers, m.from, m)?;
-    lines.push(Line::Took(mail))
+    lines.push(TraceLine::Took(mail))
 }
 
 /// Puts what the row of a message did last, and says whether the cycle goes on.
@@ -143,7 +143,7 @@ pub fn put_took(
     m: &Message,
     took: Took,
 ) -> Result<bool, Starved>
-    ensures made { (p : specs.Parts) → IfOk result (λ next. spec.took_row peers.now sofar.old m.now p took ≡ spec.moved p sofar.new next) }
+    ensures made { (p : specs.Circumstance) → IfOk result (λ next. spec.took_row peers.now sofar.old m.now p took ≡ spec.moved p sofar.new next) }
     ensures asks { OnOk result (sofar.new.asks ≡ sofar.old.asks) }
 {
     match took {
@@ -157,7 +157,7 @@ pub fn put_took(
         Took::Spent(spent) => {
             rule(sofar, Row::AskSpent)?;
             put_taken(alloc, peers, &mut sofar.lines, m)?;
-            sofar.lines.push(Line::Spent(spent))?;
+            sofar.lines.push(TraceLine::Spent(spent))?;
             Ok(false)
         }
     }

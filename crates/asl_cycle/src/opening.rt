@@ -4,7 +4,7 @@ ghost use Rattle.std.specs.Prelude.{◌≡◌, ◌++◌, map, IfOk, OnOk};
 ghost use Rattle.asl_cycle.specs.Opening as spec;
 
 use asl_beliefs::sources::with_source;
-use asl_state::parts::goal_trigger;
+use asl_exec_circumstance::parts::goal_trigger;
 use asl_term::copying::copy_plan;
 use asl_term::sequence::{Seq, Starved};
 use asl_term::syntax::{Kind, Literal, Plan, Plans, Trigger, Triggers};

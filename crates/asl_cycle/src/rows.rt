@@ -1,8 +1,8 @@
 //! The lines that rows write.
 
+use asl_exec_circumstance::rows::Row;
 use asl_intend::agenda::Error;
 use asl_resolve::answers::Spent;
-use asl_state::rows::Row;
 use asl_term::sequence::Seq;
 use asl_term::syntax::{Literal, Term, Text};
 use mas_mind::mind::{Messages, Verb};
@@ -17,7 +17,7 @@ pub struct Mail {
 
 /// A line of a trace.
 #[derive(Drop)]
-pub enum Line {
+pub enum TraceLine {
     /// The name of the row, before the row's other lines.
     Rule(Row),
     Say(Text),
@@ -31,7 +31,7 @@ pub enum Line {
     Stops,
 }
 
-pub type Lines = Seq<Line>;
+pub type Lines = Seq<TraceLine>;
 
 /// What the rows of a cycle have written and asked for so far.
 #[derive(Drop)]

@@ -2,8 +2,8 @@
 
 ghost use Rattle.std.specs.Prelude.{◌≡◌, ◌<◌, ◌≤◌, ◌+◌, ◌-◌, ◌*◌, ◌^◌, ◌++◌, [], ◌∷◌, true, None, IfOk, OnOk};
 ghost use Rattle.asl_beliefs.specs.Bases.{all_ground};
-ghost use Rattle.asl_cycle.specs.declared.rows.Line.TheVariants as line;
-ghost use Rattle.asl_state.specs.Parts.{seen_around, seen};
+ghost use Rattle.asl_cycle.specs.declared.rows.TraceLine.TheVariants as line;
+ghost use Rattle.asl_exec_circumstance.specs.Circumstance.{seen_around, seen};
 ghost use Rattle.asl_goals.specs.Inside.{did, act_inside};
 ghost use Rattle.asl_cycle.specs.Acts.{is_fed};
 ghost use Rattle.asl_cycle.specs.Steps as spec;
@@ -12,13 +12,17 @@ ghost use Rattle.asl_cycle.specs.inner.Choosing.{AppliedAtMost};
 
 use crate::config::{After, Applied, Intended, Related};
 use crate::lines::{put_fall, put_falling, put_took, rule, send, send_all};
-use crate::rows::{Line, Sofar};
+use crate::rows::{Sofar, TraceLine};
 use asl_beliefs::base::BeliefBase;
 use asl_beliefs::removed::BeliefFault;
-use asl_choose::choosing::choose;
-use asl_choose::chosen::Chosen;
 use asl_exec::clear::clear;
 use asl_exec::exec::exec;
+use asl_exec_choose::choosing::choose;
+use asl_exec_choose::chosen::Chosen;
+use asl_exec_circumstance::parts::{Circumstance, Surroundings, fails_as, tell};
+use asl_exec_circumstance::peers::Peers;
+use asl_exec_circumstance::rows::Row;
+use asl_exec_circumstance::went::Went;
 use asl_fail::fail::fail;
 use asl_goals::acted::Acted;
 use asl_goals::inside::act_inside;
@@ -27,10 +31,6 @@ use asl_intend::entry::Means;
 use asl_intend::stack::Stack;
 use asl_kqml::receive::receive;
 use asl_resolve::actions::Actions;
-use asl_state::parts::{Around, Parts, fails_as, tell};
-use asl_state::peers::Peers;
-use asl_state::rows::Row;
-use asl_state::went::Went;
 use asl_term::copying::copy_literal;
 use asl_term::sequence::{Seq, Starved};
 use asl_term::syntax::{Call, Kind, Literals, Trigger};
@@ -68,8 +68,8 @@ fn virtual_stack(alloc: Global, event: Event) -> Result<Stack, Starved>
 /// The row of an event for which there is no plan.
 fn no_plan<B: BeliefBase, A: Actions>(
     alloc: Global,
-    k: &Around<A>,
-    p: &mut Parts<B>,
+    k: &Surroundings<A>,
+    p: &mut Circumstance<B>,
     sofar: &mut Sofar,
     row: Row,
     event: Event,
@@ -93,8 +93,8 @@ fn no_plan<B: BeliefBase, A: Actions>(
 /// An event of a belief is dropped; else it is one for which there is no plan.
 fn drop_or_fail<B: BeliefBase, A: Actions>(
     alloc: Global,
-    k: &Around<A>,
-    p: &mut Parts<B>,
+    k: &Surroundings<A>,
+    p: &mut Circumstance<B>,
     sofar: &mut Sofar,
     rows: (Row, Row),
     event: Event,
@@ -127,7 +127,7 @@ fn percept_row(events: &[Trigger]) -> Row
 /// The percepts are believed, and those of before no longer.
 pub fn percept<B: BeliefBase>(
     alloc: Global,
-    p: &mut Parts<B>,
+    p: &mut Circumstance<B>,
     sofar: &mut Sofar,
     percepts: &Literals,
 ) -> Result<(), Starved>
@@ -151,7 +151,7 @@ pub fn percept<B: BeliefBase>(
 
 /// The head of the stack that waits is done, and the stack runs on.
 fn feed_done<B: BeliefBase>(
-    p: &mut Parts<B>,
+    p: &mut Circumstance<B>,
     sofar: &mut Sofar,
     waits: Acting,
 ) -> Result<(), Starved>
@@ -168,14 +168,14 @@ fn feed_done<B: BeliefBase>(
     p.agenda.acting = None;
     p.agenda.running.push(stack)?;
     rule(sofar, Row::FeedDone)?;
-    sofar.lines.push(Line::Done(action))
+    sofar.lines.push(TraceLine::Done(action))
 }
 
 /// The stack that waits fails.
 fn feed_fail<B: BeliefBase, A: Actions>(
     alloc: Global,
-    k: &Around<A>,
-    p: &mut Parts<B>,
+    k: &Surroundings<A>,
+    p: &mut Circumstance<B>,
     sofar: &mut Sofar,
     waits: Acting,
 ) -> Result<(), Starved>
@@ -193,15 +193,15 @@ fn feed_fail<B: BeliefBase, A: Actions>(
     let error = Error::ActionFailed;
     let fell = fail(alloc, &mut p.agenda, &k.lib, &mut stack, error, p.number)?;
     rule(sofar, Row::FeedFail)?;
-    sofar.lines.push(Line::Failed(action))?;
+    sofar.lines.push(TraceLine::Failed(action))?;
     put_fall(&mut sofar.lines, error, fell)
 }
 
 /// What became of the action for which a stack waits, where that was told.
 pub fn feed<B: BeliefBase, A: Actions>(
     alloc: Global,
-    k: &Around<A>,
-    p: &mut Parts<B>,
+    k: &Surroundings<A>,
+    p: &mut Circumstance<B>,
     sofar: &mut Sofar,
     kept: Option<Feedback>,
 ) -> Result<(), Starved>
@@ -230,9 +230,9 @@ pub fn feed<B: BeliefBase, A: Actions>(
 /// the plans.
 pub fn msg<B: BeliefBase, A: Actions>(
     alloc: Global,
-    k: &mut Around<A>,
+    k: &mut Surroundings<A>,
     peers: &Peers,
-    p: &mut Parts<B>,
+    p: &mut Circumstance<B>,
     sofar: &mut Sofar,
     message: &Option<Message>,
 ) -> Result<bool, Starved>
@@ -262,7 +262,10 @@ pub fn msg<B: BeliefBase, A: Actions>(
 }
 
 /// The oldest event.
-pub fn sel_ev<B: BeliefBase>(p: &mut Parts<B>, sofar: &mut Sofar) -> Result<Option<Event>, Starved>
+pub fn sel_ev<B: BeliefBase>(
+    p: &mut Circumstance<B>,
+    sofar: &mut Sofar,
+) -> Result<Option<Event>, Starved>
     ensures made { let old = seen B.beliefs p.old in
         let new = seen B.beliefs p.new in
         IfOk result (Wrought (spec.sel_ev old) new sofar.old sofar.new) }
@@ -294,8 +297,8 @@ fn irrelevant(add: bool, kind: Kind) -> Error
 /// The event with its relevant plans. The counter rises by one at most.
 pub fn rel_pl<B: BeliefBase, A: Actions>(
     alloc: Global,
-    k: &Around<A>,
-    p: &mut Parts<B>,
+    k: &Surroundings<A>,
+    p: &mut Circumstance<B>,
     sofar: &mut Sofar,
     event: Event,
 ) -> Result<Option<Related>, Starved>
@@ -327,8 +330,8 @@ pub fn rel_pl<B: BeliefBase, A: Actions>(
 /// The event with the first of its plans whose context is found.
 pub fn appl_pl<B: BeliefBase, A: Actions>(
     alloc: Global,
-    k: &Around<A>,
-    p: &mut Parts<B>,
+    k: &Surroundings<A>,
+    p: &mut Circumstance<B>,
     sofar: &mut Sofar,
     related: Related,
 ) -> Result<Applied, Starved>
@@ -377,7 +380,7 @@ pub fn appl_pl<B: BeliefBase, A: Actions>(
         Ok(Chosen::Spent(spent)) => {
             drop(event);
             rule(sofar, Row::ApplSpent)?;
-            sofar.lines.push(Line::Spent(spent))?;
+            sofar.lines.push(TraceLine::Spent(spent))?;
             Ok(Applied::Spent)
         }
     }
@@ -385,7 +388,7 @@ pub fn appl_pl<B: BeliefBase, A: Actions>(
 
 /// The counter becomes the next fresh number of the solution.
 pub fn sel_appl<B: BeliefBase>(
-    p: &mut Parts<B>,
+    p: &mut Circumstance<B>,
     sofar: &mut Sofar,
     intended: &Intended,
 ) -> Result<(), Starved>
@@ -402,7 +405,7 @@ pub fn sel_appl<B: BeliefBase>(
 
 /// The means, with their solution, go on top of the event's stack, which runs.
 pub fn add_im<B: BeliefBase>(
-    p: &mut Parts<B>,
+    p: &mut Circumstance<B>,
     sofar: &mut Sofar,
     intended: Intended,
 ) -> Result<(), Starved>
@@ -435,7 +438,10 @@ pub fn add_im<B: BeliefBase>(
 }
 
 /// The first of the stacks that run.
-pub fn sel_int<B: BeliefBase>(p: &mut Parts<B>, sofar: &mut Sofar) -> Result<Option<Stack>, Starved>
+pub fn sel_int<B: BeliefBase>(
+    p: &mut Circumstance<B>,
+    sofar: &mut Sofar,
+) -> Result<Option<Stack>, Starved>
     ensures made { let old = seen B.beliefs p.old in
         let new = seen B.beliefs p.new in
         IfOk result (Wrought (spec.sel_int old) new sofar.old sofar.new) }
@@ -484,12 +490,14 @@ fn put_went(alloc: Global, sofar: &mut Sofar, went: Went) -> Result<After, Starv
         }
         Went::Say(text) => {
             rule(sofar, Row::IaOk)?;
-            sofar.lines.push(Line::Say(text))?;
+            sofar.lines.push(TraceLine::Say(text))?;
             Ok(After::Clears)
         }
         Went::Action(action) => {
             rule(sofar, Row::Action)?;
-            sofar.lines.push(Line::Does(copy_literal(alloc, &action)?))?;
+            sofar
+                .lines
+                .push(TraceLine::Does(copy_literal(alloc, &action)?))?;
             Ok(After::Acts(action))
         }
         Went::Outer(_) => {
@@ -503,7 +511,7 @@ fn put_went(alloc: Global, sofar: &mut Sofar, went: Went) -> Result<After, Starv
         }
         Went::Spent { row, spent } => {
             rule(sofar, row)?;
-            sofar.lines.push(Line::Spent(spent))?;
+            sofar.lines.push(TraceLine::Spent(spent))?;
             Ok(After::Spends)
         }
     }
@@ -512,9 +520,9 @@ fn put_went(alloc: Global, sofar: &mut Sofar, went: Went) -> Result<After, Starv
 /// The row of an internal action on goals, beliefs or other agents, by what it did.
 fn of_acted<B: BeliefBase, A: Actions>(
     alloc: Global,
-    k: &Around<A>,
+    k: &Surroundings<A>,
     peers: &Peers,
-    p: &mut Parts<B>,
+    p: &mut Circumstance<B>,
     sofar: &mut Sofar,
     cur: &mut Stack,
     acted: Acted,
@@ -553,7 +561,7 @@ fn of_acted<B: BeliefBase, A: Actions>(
         }
         Acted::Stop => {
             rule(sofar, Row::IaOk)?;
-            sofar.lines.push(Line::Stops)?;
+            sofar.lines.push(TraceLine::Stops)?;
             sofar.stop = true;
             Ok(After::Clears)
         }
@@ -563,9 +571,9 @@ fn of_acted<B: BeliefBase, A: Actions>(
 /// The internal action on goals, beliefs or other agents that the head of the current stack is.
 fn deed<B: BeliefBase, A: Actions>(
     alloc: Global,
-    k: &Around<A>,
+    k: &Surroundings<A>,
     peers: &Peers,
-    p: &mut Parts<B>,
+    p: &mut Circumstance<B>,
     sofar: &mut Sofar,
     cur: &mut Stack,
     c: &Call,
@@ -588,9 +596,9 @@ fn deed<B: BeliefBase, A: Actions>(
 /// ask is used.
 pub fn exec_step<B: BeliefBase, A: Actions>(
     alloc: Global,
-    k: &Around<A>,
+    k: &Surroundings<A>,
     peers: &Peers,
-    p: &mut Parts<B>,
+    p: &mut Circumstance<B>,
     sofar: &mut Sofar,
     cur: &mut Stack,
 ) -> Result<After, Starved>
@@ -614,8 +622,8 @@ pub fn exec_step<B: BeliefBase, A: Actions>(
 /// The row for the current stack after a formula.
 pub fn clear_step<B: BeliefBase, A: Actions>(
     alloc: Global,
-    k: &Around<A>,
-    p: &mut Parts<B>,
+    k: &Surroundings<A>,
+    p: &mut Circumstance<B>,
     sofar: &mut Sofar,
     cur: &mut Stack,
 ) -> Result<After, Starved>

@@ -4,10 +4,10 @@ ghost use Rattle.std.specs.Prelude.{◌≡◌, ◌++◌, OnOk, OnErr};
 ghost use Rattle.asl_term.specs.Exprs.{literal_text};
 ghost use Rattle.asl_cycle.specs.Trace as spec;
 
-use crate::rows::{Line, Mail};
+use crate::rows::{Mail, TraceLine};
+use asl_exec_circumstance::rows::Row;
 use asl_fail::failure::error_name;
 use asl_resolve::answers::Spent;
-use asl_state::rows::Row;
 use asl_term::printing::{print, write_number};
 use asl_term::printing_expr::print_literal;
 use asl_term::sequence::{Seq, Starved};
@@ -119,20 +119,20 @@ fn write_mail(out: &mut Text, word: &[u8], m: &Mail) -> Result<(), Starved>
     print(&m.content, out)
 }
 
-fn write_line(out: &mut Text, line: &Line) -> Result<(), Starved>
+fn write_line(out: &mut Text, line: &TraceLine) -> Result<(), Starved>
     ensures { OnOk result (out.new ≡ out.old ++ spec.line_text line.now) }
 {
     match line {
-        Line::Rule(row) => two(out, b"rule ", row_name(*row)),
-        Line::Say(text) => two(out, b"say ", text.as_slice()),
-        Line::Took(mail) => write_mail(out, b"took ", mail),
-        Line::Does(l) => write_act(out, b"does ", l),
-        Line::Done(l) => write_act(out, b"done ", l),
-        Line::Failed(l) => write_act(out, b"failed ", l),
-        Line::Sends(mail) => write_mail(out, b"sends ", mail),
-        Line::Drops(error) => two(out, b"drops ", error_name(*error)),
-        Line::Spent(spent) => two(out, b"spent ", spent_name(*spent)),
-        Line::Stops => out.append(b"stops"),
+        TraceLine::Rule(row) => two(out, b"rule ", row_name(*row)),
+        TraceLine::Say(text) => two(out, b"say ", text.as_slice()),
+        TraceLine::Took(mail) => write_mail(out, b"took ", mail),
+        TraceLine::Does(l) => write_act(out, b"does ", l),
+        TraceLine::Done(l) => write_act(out, b"done ", l),
+        TraceLine::Failed(l) => write_act(out, b"failed ", l),
+        TraceLine::Sends(mail) => write_mail(out, b"sends ", mail),
+        TraceLine::Drops(error) => two(out, b"drops ", error_name(*error)),
+        TraceLine::Spent(spent) => two(out, b"spent ", spent_name(*spent)),
+        TraceLine::Stops => out.append(b"stops"),
     }
 }
 
@@ -154,12 +154,12 @@ fn shows_acts(level: Level) -> bool
     }
 }
 
-fn shows(level: Level, line: &Line) -> bool
+fn shows(level: Level, line: &TraceLine) -> bool
     ensures { result ≡ spec.shows level line.now }
 {
     match line {
-        Line::Rule(_) => shows_rules(level),
-        Line::Say(_) => true,
+        TraceLine::Rule(_) => shows_rules(level),
+        TraceLine::Say(_) => true,
         _ => shows_acts(level),
     }
 }
@@ -169,7 +169,7 @@ fn write_shown(
     out: &mut Text,
     level: Level,
     cycle: u64,
-    line: &Line,
+    line: &TraceLine,
 ) -> Result<(), Starved>
     ensures { OnOk result (out.new ≡ out.old ++ spec.line_shown level cycle line.now) }
 {
@@ -187,7 +187,7 @@ fn write_all(
     out: &mut Text,
     level: Level,
     cycle: u64,
-    lines: &[Line],
+    lines: &[TraceLine],
 ) -> Result<(), Starved>
     ensures { OnOk result (out.new ≡ out.old ++ spec.shown level cycle lines.now) }
 {
@@ -203,7 +203,7 @@ pub fn write_lines(
     out: &mut Text,
     level: Level,
     cycle: u64,
-    lines: &[Line],
+    lines: &[TraceLine],
 ) -> Result<(), Starved>
     ensures ok { OnOk result (out.new ≡ out.old ++ spec.shown level cycle lines.now) }
     ensures err { OnErr result (out.new ≡ out.old) }

@@ -2,16 +2,18 @@
 
 ghost use Rattle.std.specs.Prelude.{◌≡◌, IfOk, OnOk};
 ghost use Rattle.asl_exec.specs.Exec as rows;
-ghost use Rattle.asl_state.specs.Parts as spec;
+ghost use Rattle.asl_exec_circumstance.specs.Circumstance as spec;
 
 use asl_beliefs::base::BeliefBase;
 use asl_beliefs::removed::{BeliefFault, Removed};
+use asl_exec_circumstance::parts::{
+    Circumstance, Surroundings, event_of, fails_as, tell, tell_one,
+};
+use asl_exec_circumstance::rows::Row;
+use asl_exec_circumstance::went::Went;
 use asl_intend::agenda::Error;
 use asl_intend::stack::Stack;
 use asl_resolve::actions::Actions;
-use asl_state::parts::{Around, Parts, event_of, fails_as, tell, tell_one};
-use asl_state::rows::Row;
-use asl_state::went::Went;
 use asl_term::sequence::Starved;
 use asl_term::syntax::Literal;
 use asl_unify::subst::no_subst;
@@ -20,8 +22,8 @@ use std::alloc::Global;
 /// AddBel, or ExecFree where the literal has a variable. It has a source already.
 pub fn add<B: BeliefBase, A: Actions>(
     alloc: Global,
-    k: &Around<A>,
-    p: &mut Parts<B>,
+    k: &Surroundings<A>,
+    p: &mut Circumstance<B>,
     cur: &mut Stack,
     b: &Literal,
 ) -> Result<Went, Starved>
@@ -46,8 +48,8 @@ pub fn add<B: BeliefBase, A: Actions>(
 /// RepBel, or ExecFree where the literal has a variable. It has a source already.
 pub fn replace<B: BeliefBase, A: Actions>(
     alloc: Global,
-    k: &Around<A>,
-    p: &mut Parts<B>,
+    k: &Surroundings<A>,
+    p: &mut Circumstance<B>,
     cur: &mut Stack,
     b: &Literal,
 ) -> Result<Went, Starved>
@@ -82,7 +84,7 @@ fn bind_by(cur: &mut Stack, removed: &Option<Removed>) -> Result<(), Starved>
 /// DelBel. The literal has a source already.
 pub fn delete<B: BeliefBase>(
     alloc: Global,
-    p: &mut Parts<B>,
+    p: &mut Circumstance<B>,
     cur: &mut Stack,
     b: &Literal,
 ) -> Result<Went, Starved>

@@ -7,21 +7,21 @@ ghost use Rattle.asl_unify.specs.Comparing as comparing;
 ghost use Rattle.asl_unify.specs.Settling.{settle_formula as settling};
 ghost use Rattle.asl_resolve.specs.Marks.{NextAtMost};
 ghost use Rattle.asl_exec.specs.Exec as rows;
-ghost use Rattle.asl_state.specs.Parts as spec;
+ghost use Rattle.asl_exec_circumstance.specs.Circumstance as spec;
 
 use crate::believing::{add, delete, replace};
 use crate::goals::{achieve, solved, spawn, test};
 use crate::said::print_text;
 use asl_beliefs::base::BeliefBase;
 use asl_beliefs::sources::with_source;
+use asl_exec_circumstance::parts::{Circumstance, Surroundings, fails_as};
+use asl_exec_circumstance::rows::Row;
+use asl_exec_circumstance::sought::sought;
+use asl_exec_circumstance::went::Went;
 use asl_intend::agenda::{Acting, Error};
 use asl_intend::stack::Stack;
 use asl_resolve::actions::Actions;
 use asl_resolve::answers::Answer;
-use asl_state::parts::{Around, Parts, fails_as};
-use asl_state::rows::Row;
-use asl_state::sought::sought;
-use asl_state::went::Went;
 use asl_term::copying::{copy_call, copy_literal};
 use asl_term::measure::ground_literal;
 use asl_term::sequence::Starved;
@@ -36,8 +36,8 @@ use std::mem;
 /// Action, or ExecFree where the action has a variable.
 fn act<B: BeliefBase, A: Actions>(
     alloc: Global,
-    k: &Around<A>,
-    p: &mut Parts<B>,
+    k: &Surroundings<A>,
+    p: &mut Circumstance<B>,
     cur: &mut Stack,
     l: &Literal,
 ) -> Result<Went, Starved>
@@ -68,8 +68,8 @@ fn holding(alloc: Global, r: &Relation) -> Result<Option<Subst>, CompareFault>
 /// RelYes and RelNo. A substitution that makes it hold is applied.
 fn relation<B: BeliefBase, A: Actions>(
     alloc: Global,
-    k: &Around<A>,
-    p: &mut Parts<B>,
+    k: &Surroundings<A>,
+    p: &mut Circumstance<B>,
     cur: &mut Stack,
     r: &Relation,
 ) -> Result<Went, Starved>
@@ -127,8 +127,8 @@ fn is_deed(name: &Text) -> bool
 /// The row of an internal action that changes nothing, by what the search for it answered.
 fn answered<B: BeliefBase, A: Actions>(
     alloc: Global,
-    k: &Around<A>,
-    p: &mut Parts<B>,
+    k: &Surroundings<A>,
+    p: &mut Circumstance<B>,
     cur: &mut Stack,
     answer: Answer,
 ) -> Result<Went, Starved>
@@ -153,8 +153,8 @@ fn answered<B: BeliefBase, A: Actions>(
 /// The row of an internal action that changes nothing.
 fn searched<B: BeliefBase, A: Actions>(
     alloc: Global,
-    k: &Around<A>,
-    p: &mut Parts<B>,
+    k: &Surroundings<A>,
+    p: &mut Circumstance<B>,
     cur: &mut Stack,
     c: &Call,
 ) -> Result<Went, Starved>
@@ -175,8 +175,8 @@ fn searched<B: BeliefBase, A: Actions>(
 /// The row of an internal action. That of a deed is still to be made.
 fn inner<B: BeliefBase, A: Actions>(
     alloc: Global,
-    k: &Around<A>,
-    p: &mut Parts<B>,
+    k: &Surroundings<A>,
+    p: &mut Circumstance<B>,
     cur: &mut Stack,
     c: &Call,
 ) -> Result<Went, Starved>
@@ -203,8 +203,8 @@ fn inner<B: BeliefBase, A: Actions>(
 /// The row of a formula that is applied and settled. Beliefs get default source.
 fn of_formula<B: BeliefBase, A: Actions>(
     alloc: Global,
-    k: &Around<A>,
-    p: &mut Parts<B>,
+    k: &Surroundings<A>,
+    p: &mut Circumstance<B>,
     cur: &mut Stack,
     f: &Formula,
 ) -> Result<Went, Starved>
@@ -240,8 +240,8 @@ fn of_formula<B: BeliefBase, A: Actions>(
 /// The row of a formula that is applied: ExecArith where it does not settle.
 fn of_applied<B: BeliefBase, A: Actions>(
     alloc: Global,
-    k: &Around<A>,
-    p: &mut Parts<B>,
+    k: &Surroundings<A>,
+    p: &mut Circumstance<B>,
     cur: &mut Stack,
     f: &Formula,
 ) -> Result<Went, Starved>
@@ -270,8 +270,8 @@ fn of_applied<B: BeliefBase, A: Actions>(
 #[tactic(auto, unfolding(crate::specs::Exec::exec))]
 pub fn exec<B: BeliefBase, A: Actions>(
     alloc: Global,
-    k: &Around<A>,
-    p: &mut Parts<B>,
+    k: &Surroundings<A>,
+    p: &mut Circumstance<B>,
     cur: &mut Stack,
 ) -> Result<Went, Starved>
     requires room { p.old.number + k.now.budgets.tries < 2 ^ 64 - 1 }

@@ -3,17 +3,17 @@
 ghost use Rattle.std.specs.Prelude.{◌≡◌, ◌+◌, ◌<◌, ◌≤◌, ◌-◌, ◌^◌, IfOk};
 ghost use Rattle.asl_resolve.specs.Marks.{NextAtMost};
 ghost use Rattle.asl_exec.specs.Exec as rows;
-ghost use Rattle.asl_state.specs.Parts as spec;
+ghost use Rattle.asl_exec_circumstance.specs.Circumstance as spec;
 
 use asl_beliefs::base::BeliefBase;
+use asl_exec_circumstance::parts::{Circumstance, Surroundings, fails_as, goal_event};
+use asl_exec_circumstance::rows::Row;
+use asl_exec_circumstance::sought::sought;
+use asl_exec_circumstance::went::Went;
 use asl_intend::agenda::Error;
 use asl_intend::stack::Stack;
 use asl_resolve::actions::Actions;
 use asl_resolve::answers::Answer;
-use asl_state::parts::{Around, Parts, fails_as, goal_event};
-use asl_state::rows::Row;
-use asl_state::sought::sought;
-use asl_state::went::Went;
 use asl_term::copying::copy_literal;
 use asl_term::sequence::Starved;
 use asl_term::syntax::{Expr, Formula, Kind, Literal};
@@ -24,7 +24,7 @@ use std::mem;
 /// The current stack waits below the event of a goal, with this formula as its head.
 fn wait<B: BeliefBase>(
     alloc: Global,
-    p: &mut Parts<B>,
+    p: &mut Circumstance<B>,
     cur: &mut Stack,
     head: Formula,
     kind: Kind,
@@ -44,7 +44,7 @@ fn wait<B: BeliefBase>(
 /// AchvGl.
 pub fn achieve<B: BeliefBase>(
     alloc: Global,
-    p: &mut Parts<B>,
+    p: &mut Circumstance<B>,
     cur: &mut Stack,
     g: &Literal,
 ) -> Result<Went, Starved>
@@ -59,7 +59,7 @@ pub fn achieve<B: BeliefBase>(
 /// AchvNew.
 pub fn spawn<B: BeliefBase>(
     alloc: Global,
-    p: &mut Parts<B>,
+    p: &mut Circumstance<B>,
     cur: &mut Stack,
     g: &Literal,
 ) -> Result<Went, Starved>
@@ -75,7 +75,7 @@ pub fn spawn<B: BeliefBase>(
 
 /// A solution is applied, the counter becomes its next number, and the head is removed.
 pub fn solved<B: BeliefBase>(
-    p: &mut Parts<B>,
+    p: &mut Circumstance<B>,
     cur: &mut Stack,
     row: Row,
     s: &Subst,
@@ -94,8 +94,8 @@ pub fn solved<B: BeliefBase>(
 /// The row of a test goal, by what the search for it answered.
 fn tested<B: BeliefBase, A: Actions>(
     alloc: Global,
-    k: &Around<A>,
-    p: &mut Parts<B>,
+    k: &Surroundings<A>,
+    p: &mut Circumstance<B>,
     cur: &mut Stack,
     g: &Literal,
     answer: Answer,
@@ -124,8 +124,8 @@ fn tested<B: BeliefBase, A: Actions>(
 /// TestGl1, TestGl2, TestErr, TestSpent.
 pub fn test<B: BeliefBase, A: Actions>(
     alloc: Global,
-    k: &Around<A>,
-    p: &mut Parts<B>,
+    k: &Surroundings<A>,
+    p: &mut Circumstance<B>,
     cur: &mut Stack,
     g: &Literal,
 ) -> Result<Went, Starved>

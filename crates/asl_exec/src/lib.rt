@@ -1,4 +1,8 @@
-//! One row for a formula of the current stack, and one for what is left of it.
+//! The rows for the first formula of the current stack, and for what is left of the stack.
+//!
+//! May stand on: asl_term, asl_unify, asl_beliefs, asl_resolve, asl_intend, asl_exec
+//!
+//! Must not: choose a plan, carry out an action, send a message, print.
 #![tactic(auto)]
 
 pub mod believing;

@@ -1,16 +1,16 @@
 -- A sweep, one item after another.
 use Rattle.std.proofs.Common.{◌≡◌, List, [], ◌∷◌, ◌++◌, refl, sym, subst, ap, ◌∙◌, append_assoc}
 use Rattle.std.proofs.lemmas.List.{append-nil}
-use Rattle.asl_state.specs.declared.rows.Fall.{Fall}
-use Rattle.asl_state.specs.Parts.{Parts}
+use Rattle.asl_exec_circumstance.specs.declared.rows.Fall.{Fall}
+use Rattle.asl_exec_circumstance.specs.Circumstance.{Circumstance}
 use Rattle.asl_goals.specs.Goals.{Swept, swept, sweep}
 
 -- one sweep after another
 abbrev joined : {S : Type 0} → Swept S → Swept S → Swept S
 joined a b = swept b.parts (a.left ++ b.left) (a.falls ++ b.falls)
 
-module _ {S : Type 0} (one : Parts → S → Swept S) where
-  one_more : (p : Parts) (done : List S) (x : S) → sweep one p (done ++ x ∷ []) ≡ joined (sweep one p done) (one (sweep one p done).parts x)
+module _ {S : Type 0} (one : Circumstance → S → Swept S) where
+  one_more : (p : Circumstance) (done : List S) (x : S) → sweep one p (done ++ x ∷ []) ≡ joined (sweep one p done) (one (sweep one p done).parts x)
   one_more p [] x = let a = one p x in λ i. swept a.parts (append-nil a.left i) (append-nil a.falls i)
   one_more p (y ∷ done) x =
       let a = one p y in
@@ -20,34 +20,34 @@ module _ {S : Type 0} (one : Parts → S → Swept S) where
       ∙ (λ i. swept d.parts (sym (append_assoc a.left c.left d.left) i) (sym (append_assoc a.falls c.falls d.falls) i))
 
   -- what those that are done left, after some falls
-  pub record Sofar (p : Parts) (before : List Fall) (done : List S) (q : Parts) (kept : List S) (falls : List Fall) : Type 0 where
+  pub record Sofar (p : Circumstance) (before : List Fall) (done : List S) (q : Circumstance) (kept : List S) (falls : List Fall) : Type 0 where
     pub parts : q ≡ (sweep one p done).parts
     pub left : kept ≡ (sweep one p done).left
     pub fell : falls ≡ before ++ (sweep one p done).falls
 
-  pub begins : (p : Parts) (before : List Fall) → Sofar p before [] p [] before
+  pub begins : (p : Circumstance) (before : List Fall) → Sofar p before [] p [] before
   begins p before = record { parts = refl; left = refl; fell = sym (append-nil before) }
 
-  pub goes_on : (p : Parts) (before : List Fall) (done : List S) (x : S) (q r : Parts) (kept left : List S) (falls fell : List Fall)
+  pub goes_on : (p : Circumstance) (before : List Fall) (done : List S) (x : S) (q r : Circumstance) (kept left : List S) (falls fell : List Fall)
       → Sofar p before done q kept falls → r ≡ (one q x).parts → left ≡ kept ++ (one q x).left → fell ≡ falls ++ (one q x).falls
       → Sofar p before (done ++ x ∷ []) r left fell
   goes_on p before done x q r kept left falls fell s a b c =
       let e = one_more p done x in
       let t = sweep one p done in
       record {
-        parts = a ∙ ap (λ (z : Parts). (one z x).parts) s.parts ∙ sym (ap (λ (z : Swept S). z.parts) e);
+        parts = a ∙ ap (λ (z : Circumstance). (one z x).parts) s.parts ∙ sym (ap (λ (z : Swept S). z.parts) e);
         left = b ∙ (λ i. s.left i ++ (one (s.parts i) x).left) ∙ sym (ap (λ (z : Swept S). z.left) e);
         fell = c ∙ (λ i. s.fell i ++ (one (s.parts i) x).falls) ∙ append_assoc before t.falls (one t.parts x).falls
             ∙ sym (ap (λ (z : Swept S). before ++ z.falls) e);
       }
 
-  pub finished : (p : Parts) (before : List Fall) (done all : List S) (q : Parts) (kept : List S) (falls : List Fall) → Sofar p before done q kept falls
+  pub finished : (p : Circumstance) (before : List Fall) (done all : List S) (q : Circumstance) (kept : List S) (falls : List Fall) → Sofar p before done q kept falls
       → done ≡ all → Sofar p before all q kept falls
   finished p before done all q kept falls s e = subst (λ (d : List S). Sofar p before d q kept falls) e s
 
 -- the same, where what the sweep depends on is known to be as it was
-pub goes_on_as : {R S : Type 0} (one : R → Parts → S → Swept S) (old now : R) → now ≡ old → (p : Parts) (before : List Fall) (done : List S) (x : S)
-    (q r : Parts) (kept left : List S) (falls fell : List Fall) → Sofar (one old) p before done q kept falls → r ≡ (one now q x).parts
+pub goes_on_as : {R S : Type 0} (one : R → Circumstance → S → Swept S) (old now : R) → now ≡ old → (p : Circumstance) (before : List Fall) (done : List S) (x : S)
+    (q r : Circumstance) (kept left : List S) (falls fell : List Fall) → Sofar (one old) p before done q kept falls → r ≡ (one now q x).parts
     → left ≡ kept ++ (one now q x).left → fell ≡ falls ++ (one now q x).falls → Sofar (one old) p before (done ++ x ∷ []) r left fell
 goes_on_as one old now same p before done x q r kept left falls fell s a b c =
     goes_on (one old) p before done x q r kept left falls fell s

@@ -13,11 +13,11 @@ use Rattle.asl_intend.specs.declared.entry.Means.{Means}
 use Rattle.asl_intend.specs.declared.agenda.Agenda.{Agenda}
 use Rattle.asl_intend.specs.Agendas.{without_intentions, without_desires}
 use Rattle.asl_intend.specs.Stacks.{bound, has_goal, without_head}
-use Rattle.asl_state.specs.declared.rows.Fall.{Fall}
-use Rattle.asl_state.specs.Parts.{Around, Parts, with_agenda, believing}
+use Rattle.asl_exec_circumstance.specs.declared.rows.Fall.{Fall}
+use Rattle.asl_exec_circumstance.specs.Circumstance.{Surroundings, Circumstance, with_agenda, believing}
 use Rattle.mas_mind.specs.declared.mind.Message.{Message}
-use Rattle.asl_state.specs.declared.peers.Peers.{Peers}
-use Rattle.asl_state.specs.Contents.{literal_of}
+use Rattle.asl_exec_circumstance.specs.declared.peers.Peers.{Peers}
+use Rattle.asl_exec_circumstance.specs.Contents.{literal_of}
 use Rattle.asl_goals.specs.declared.acted.Acted.{Acted}
 use Rattle.asl_goals.specs.declared.acted.Acted.TheVariants as acted
 use Rattle.asl_goals.specs.declared.acted.Why.{Why}
@@ -30,21 +30,21 @@ use Rattle.asl_goals.specs.Sending.{term_at, letter, posted, is_ask, spread}
 
 -- what an action leaves, the number of the next ask among it, and what it did
 pub record Did : Type 0 where
-  pub parts : Parts
+  pub parts : Circumstance
   pub asks : ℕ
   pub cur : List Means
   pub acted : Acted
 
-abbrev pub did : Parts → ℕ → List Means → Acted → Did
+abbrev pub did : Circumstance → ℕ → List Means → Acted → Did
 did p asks cur a = record { parts = p; asks = asks; cur = cur; acted = a }
 
-module _ (k : Around) (asks : ℕ) (p : Parts) (cur : List Means) where
+module _ (k : Surroundings) (asks : ℕ) (p : Circumstance) (cur : List Means) where
   -- nothing is changed
   abbrev pub refused : Why → Did
   refused e = did p asks cur (acted.Failed e)
 
   -- it is done, and the head is removed
-  abbrev pub done : Parts → Did
+  abbrev pub done : Circumstance → Did
   done q = did q asks (without_head cur) (acted.Ok [])
 
   -- ---- `.drop_intention` and `.drop_desire`: the current stack goes too where it has the goal
@@ -71,11 +71,11 @@ module _ (k : Around) (asks : ℕ) (p : Parts) (cur : List Means) where
   -- ---- `.succeed_goal` and `.fail_goal`: the current stack after all others
 
   -- what is left of it goes on to Clr; its head was popped
-  abbrev pub current_left : Parts → List Means → List Fall → Did
+  abbrev pub current_left : Circumstance → List Means → List Fall → Did
   current_left q [] falls = did q asks [] (acted.Gone falls)
   current_left q (m ∷ below) falls = did q asks (m ∷ below) (acted.Ok falls)
 
-  abbrev pub current : Way → Parts → List Fall → Option (List Means) → Did
+  abbrev pub current : Way → Circumstance → List Fall → Option (List Means) → Did
   current w q falls None = did q asks (without_head cur) (acted.Ok falls)
   current w q falls (Some cut) = let x = treated k w q cut in current_left x.parts x.cur (falls ++ falls_of x.went)
 
@@ -153,5 +153,5 @@ module _ (k : Around) (asks : ℕ) (p : Parts) (cur : List Means) where
       (about_term c.name (term_at c.args 0))))
 
 -- (shut, so that proofs above do not look inside)
-unfoldable pub act_inside : Around → Peers → ℕ → Parts → List Means → CallOf Expr → Did
+unfoldable pub act_inside : Surroundings → Peers → ℕ → Circumstance → List Means → CallOf Expr → Did
 act_inside k peers asks p cur c = act k asks p cur peers c

@@ -12,8 +12,8 @@ use Rattle.mas_mind.specs.declared.mind.Message.{Message}
 use Rattle.mas_mind.specs.declared.mind.Verb.{Verb}
 use Rattle.mas_mind.specs.declared.mind.Verb.TheVariants as verb
 use Rattle.mas_mind.specs.Minds.{verb_text}
-use Rattle.asl_state.specs.declared.peers.Peers.{Peers}
-use Rattle.asl_state.specs.Contents.{literal_of, literals_of, ground_literals, is_atom, string_of, strings_of}
+use Rattle.asl_exec_circumstance.specs.declared.peers.Peers.{Peers}
+use Rattle.asl_exec_circumstance.specs.Contents.{literal_of, literals_of, ground_literals, is_atom, string_of, strings_of}
 use Rattle.asl_goals.specs.declared.acted.Why.{Why}
 use Rattle.asl_goals.specs.declared.acted.Why.TheVariants as why
 use Rattle.asl_goals.specs.declared.letter.Letter.{Letter}

@@ -1,6 +1,6 @@
 //! What an internal action did.
 
-use asl_state::rows::Falls;
+use asl_exec_circumstance::rows::Falls;
 use asl_term::syntax::Text;
 use mas_mind::mind::{Message, Messages};
 

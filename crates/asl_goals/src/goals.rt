@@ -1,7 +1,7 @@
 //! The actions on goals and on beliefs. Each is given all that an action may change.
 
 ghost use Rattle.std.specs.Prelude.{◌≡◌, IfOk};
-ghost use Rattle.asl_state.specs.Parts as parts;
+ghost use Rattle.asl_exec_circumstance.specs.Circumstance as parts;
 ghost use Rattle.asl_goals.specs.Goals as goals;
 ghost use Rattle.asl_goals.specs.Inside as spec;
 
@@ -9,10 +9,10 @@ use crate::acted::{Acted, Why};
 use crate::lookup::first_goal;
 use crate::sweep::{Way, cut_to_goal, sweep_all, treat};
 use asl_beliefs::base::BeliefBase;
+use asl_exec_circumstance::parts::{Circumstance, Surroundings, tell};
+use asl_exec_circumstance::rows::Falls;
 use asl_intend::stack::Stack;
 use asl_resolve::actions::Actions;
-use asl_state::parts::{Around, Parts, tell};
-use asl_state::rows::Falls;
 use asl_term::sequence::{Seq, Starved};
 use asl_term::syntax::Literal;
 use std::alloc::Global;
@@ -21,8 +21,8 @@ use std::mem;
 /// `.drop_intention`. The current stack goes too where it has the goal.
 pub fn drop_intention<B: BeliefBase, A: Actions>(
     alloc: Global,
-    k: &Around<A>,
-    p: &mut Parts<B>,
+    k: &Surroundings<A>,
+    p: &mut Circumstance<B>,
     asks: &mut u64,
     cur: &mut Stack,
     g: &Literal,
@@ -46,8 +46,8 @@ pub fn drop_intention<B: BeliefBase, A: Actions>(
 /// `.drop_desire`. The current stack goes too where it has the goal.
 pub fn drop_desire<B: BeliefBase, A: Actions>(
     alloc: Global,
-    k: &Around<A>,
-    p: &mut Parts<B>,
+    k: &Surroundings<A>,
+    p: &mut Circumstance<B>,
     asks: &mut u64,
     cur: &mut Stack,
     g: &Literal,
@@ -71,8 +71,8 @@ pub fn drop_desire<B: BeliefBase, A: Actions>(
 /// `.intend`, and `.desire` where `desired` is true: the first match is applied to the current stack.
 pub fn looked_up<B: BeliefBase, A: Actions>(
     alloc: Global,
-    k: &Around<A>,
-    p: &mut Parts<B>,
+    k: &Surroundings<A>,
+    p: &mut Circumstance<B>,
     asks: &mut u64,
     cur: &mut Stack,
     desired: bool,
@@ -99,8 +99,8 @@ pub fn looked_up<B: BeliefBase, A: Actions>(
 /// What is left of the current stack after the others, for `.succeed_goal` and `.fail_goal`.
 fn ended_here<B: BeliefBase, A: Actions>(
     alloc: Global,
-    k: &Around<A>,
-    p: &mut Parts<B>,
+    k: &Surroundings<A>,
+    p: &mut Circumstance<B>,
     asks: &mut u64,
     cur: &mut Stack,
     way: Way,
@@ -129,8 +129,8 @@ fn ended_here<B: BeliefBase, A: Actions>(
 /// `.succeed_goal` and `.fail_goal`. The current stack comes after all others.
 pub fn ended<B: BeliefBase, A: Actions>(
     alloc: Global,
-    k: &Around<A>,
-    p: &mut Parts<B>,
+    k: &Surroundings<A>,
+    p: &mut Circumstance<B>,
     asks: &mut u64,
     cur: &mut Stack,
     way: Way,
@@ -149,8 +149,8 @@ pub fn ended<B: BeliefBase, A: Actions>(
 /// `.abolish`.
 pub fn abolish<B: BeliefBase, A: Actions>(
     alloc: Global,
-    k: &Around<A>,
-    p: &mut Parts<B>,
+    k: &Surroundings<A>,
+    p: &mut Circumstance<B>,
     asks: &mut u64,
     cur: &mut Stack,
     g: &Literal,

@@ -1,7 +1,7 @@
 //! The internal action of a name.
 
 ghost use Rattle.std.specs.Prelude.{◌≡◌, ◌≤◌, ◌+◌, ◌<◌, ◌^◌, ◌-◌, IfOk};
-ghost use Rattle.asl_state.specs.Parts as parts;
+ghost use Rattle.asl_exec_circumstance.specs.Circumstance as parts;
 ghost use Rattle.asl_goals.specs.Inside as spec;
 ghost use Rattle.asl_goals.specs.Sending as sending;
 
@@ -11,10 +11,10 @@ use crate::letter::{literal_of, term_at};
 use crate::sending::{broadcast, send, stop};
 use crate::sweep::Way;
 use asl_beliefs::base::BeliefBase;
+use asl_exec_circumstance::parts::{Circumstance, Surroundings};
+use asl_exec_circumstance::peers::Peers;
 use asl_intend::stack::Stack;
 use asl_resolve::actions::Actions;
-use asl_state::parts::{Around, Parts};
-use asl_state::peers::Peers;
 use asl_term::sequence::Starved;
 use asl_term::syntax::{Call, Literal, Text};
 use std::alloc::Global;
@@ -22,8 +22,8 @@ use std::alloc::Global;
 /// The action of a name about a literal.
 fn about<B: BeliefBase, A: Actions>(
     alloc: Global,
-    k: &Around<A>,
-    p: &mut Parts<B>,
+    k: &Surroundings<A>,
+    p: &mut Circumstance<B>,
     asks: &mut u64,
     cur: &mut Stack,
     name: &Text,
@@ -58,8 +58,8 @@ fn about<B: BeliefBase, A: Actions>(
 /// The action of a name about its first argument.
 fn about_term<B: BeliefBase, A: Actions>(
     alloc: Global,
-    k: &Around<A>,
-    p: &mut Parts<B>,
+    k: &Surroundings<A>,
+    p: &mut Circumstance<B>,
     asks: &mut u64,
     cur: &mut Stack,
     c: &Call,
@@ -85,9 +85,9 @@ fn about_term<B: BeliefBase, A: Actions>(
 #[tactic(auto, unfolding(crate::specs::Inside::act_inside))]
 pub fn act_inside<B: BeliefBase, A: Actions>(
     alloc: Global,
-    k: &Around<A>,
+    k: &Surroundings<A>,
     peers: &Peers,
-    p: &mut Parts<B>,
+    p: &mut Circumstance<B>,
     asks: &mut u64,
     cur: &mut Stack,
     c: &Call,

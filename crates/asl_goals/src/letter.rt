@@ -3,12 +3,12 @@
 ghost use Rattle.std.specs.Prelude.{◌≡◌, Some, IfOk};
 ghost use Rattle.std.specs.Option.{option_copied};
 ghost use Rattle.asl_term.specs.Names.{place_of};
-ghost use Rattle.asl_state.specs.Contents as contents;
+ghost use Rattle.asl_exec_circumstance.specs.Contents as contents;
 ghost use Rattle.asl_goals.specs.Sending as spec;
 
 use crate::acted::Why;
-use asl_state::content::{are_strings, ground_literals, is_string, literals_of};
-use asl_state::peers::Peers;
+use asl_exec_circumstance::content::{are_strings, ground_literals, is_string, literals_of};
+use asl_exec_circumstance::peers::Peers;
 use asl_term::copying::{copy, copy_text};
 use asl_term::names::{Names, find};
 use asl_term::sequence::{Seq, Starved};

@@ -1,17 +1,17 @@
 //! The actions on other agents. Each is given all that an action may change.
 
 ghost use Rattle.std.specs.Prelude.{◌≡◌, ◌≤◌, ◌+◌, ◌<◌, ◌^◌, ◌-◌, None, IfOk, slice_get};
-ghost use Rattle.asl_state.specs.Parts as parts;
+ghost use Rattle.asl_exec_circumstance.specs.Circumstance as parts;
 ghost use Rattle.asl_goals.specs.Inside as spec;
 
 use crate::acted::{Acted, Why};
 use crate::letter::{Letter, is_ask, letter_of, posted, spread};
 use asl_beliefs::base::BeliefBase;
+use asl_exec_circumstance::parts::{Circumstance, Surroundings};
+use asl_exec_circumstance::peers::Peers;
 use asl_intend::agenda::Ask;
 use asl_intend::stack::Stack;
 use asl_resolve::actions::Actions;
-use asl_state::parts::{Around, Parts};
-use asl_state::peers::Peers;
 use asl_term::copying::copy;
 use asl_term::sequence::{Seq, Starved};
 use asl_term::syntax::{Arg, ArgOf, Term};
@@ -22,8 +22,8 @@ use std::mem;
 /// The messages are sent.
 fn sent<B: BeliefBase, A: Actions>(
     alloc: Global,
-    k: &Around<A>,
-    p: &mut Parts<B>,
+    k: &Surroundings<A>,
+    p: &mut Circumstance<B>,
     asks: &mut u64,
     cur: &mut Stack,
     messages: Messages,
@@ -41,8 +41,8 @@ fn sent<B: BeliefBase, A: Actions>(
 /// A letter that asks for no answer is sent.
 fn sent_one<B: BeliefBase, A: Actions>(
     alloc: Global,
-    k: &Around<A>,
-    p: &mut Parts<B>,
+    k: &Surroundings<A>,
+    p: &mut Circumstance<B>,
     asks: &mut u64,
     cur: &mut Stack,
     me: u32,
@@ -62,8 +62,8 @@ fn sent_one<B: BeliefBase, A: Actions>(
 /// An ask is sent, and the current stack waits for the answer.
 fn asked<B: BeliefBase, A: Actions>(
     alloc: Global,
-    k: &Around<A>,
-    p: &mut Parts<B>,
+    k: &Surroundings<A>,
+    p: &mut Circumstance<B>,
     asks: &mut u64,
     cur: &mut Stack,
     me: u32,
@@ -106,8 +106,8 @@ fn asked<B: BeliefBase, A: Actions>(
 /// A letter is sent, with the term that takes the answer as the fourth argument where one is asked for.
 fn sent_letter<B: BeliefBase, A: Actions>(
     alloc: Global,
-    k: &Around<A>,
-    p: &mut Parts<B>,
+    k: &Surroundings<A>,
+    p: &mut Circumstance<B>,
     asks: &mut u64,
     cur: &mut Stack,
     me: u32,
@@ -141,9 +141,9 @@ fn sent_letter<B: BeliefBase, A: Actions>(
 /// `.send`.
 pub fn send<B: BeliefBase, A: Actions>(
     alloc: Global,
-    k: &Around<A>,
+    k: &Surroundings<A>,
     peers: &Peers,
-    p: &mut Parts<B>,
+    p: &mut Circumstance<B>,
     asks: &mut u64,
     cur: &mut Stack,
     args: &[Arg],
@@ -164,9 +164,9 @@ pub fn send<B: BeliefBase, A: Actions>(
 /// `.broadcast`.
 pub fn broadcast<B: BeliefBase, A: Actions>(
     alloc: Global,
-    k: &Around<A>,
+    k: &Surroundings<A>,
     peers: &Peers,
-    p: &mut Parts<B>,
+    p: &mut Circumstance<B>,
     asks: &mut u64,
     cur: &mut Stack,
     args: &[Arg],
@@ -186,8 +186,8 @@ pub fn broadcast<B: BeliefBase, A: Actions>(
 
 /// `.stopMAS`.
 pub fn stop<B: BeliefBase, A: Actions>(
-    k: &Around<A>,
-    p: &mut Parts<B>,
+    k: &Surroundings<A>,
+    p: &mut Circumstance<B>,
     asks: &mut u64,
     cur: &mut Stack,
 ) -> Result<Acted, Starved>

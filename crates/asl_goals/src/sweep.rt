@@ -1,20 +1,20 @@
 //! `.succeed_goal` and `.fail_goal`: one fold over the stacks.
 
 ghost use Rattle.std.specs.Prelude.{◌≡◌, ◌++◌, Some, None, if◌then◌else◌, false, drop, IfOk, OnOk};
-ghost use Rattle.asl_state.specs.Parts as parts;
+ghost use Rattle.asl_exec_circumstance.specs.Circumstance as parts;
 ghost use Rattle.asl_goals.specs.Goals as goals;
 
 use asl_beliefs::base::BeliefBase;
+use asl_exec_circumstance::emptied::emptied;
+use asl_exec_circumstance::parts::{Circumstance, Surroundings, fails_as};
+use asl_exec_circumstance::rows::{Falls, Row};
+use asl_exec_circumstance::went::Went;
 use asl_intend::agenda::{Ask, Asks, Error, Event, Stacks};
 use asl_intend::stack::Stack;
-use asl_queue::queue::Queue;
 use asl_resolve::actions::Actions;
-use asl_state::emptied::emptied;
-use asl_state::parts::{Around, Parts, fails_as};
-use asl_state::rows::{Falls, Row};
-use asl_state::went::Went;
 use asl_term::sequence::{Seq, Starved};
 use asl_term::syntax::Literal;
+use asl_term_queue::queue::Queue;
 use std::alloc::Global;
 use std::mem;
 
@@ -55,8 +55,8 @@ pub fn cut_to_goal(alloc: Global, stack: &mut Stack, g: &Literal) -> Result<bool
 /// The row of Clr for an empty body, or the row in which a stack fails.
 fn ended<B: BeliefBase, A: Actions>(
     alloc: Global,
-    k: &Around<A>,
-    p: &mut Parts<B>,
+    k: &Surroundings<A>,
+    p: &mut Circumstance<B>,
     way: Way,
     stack: &mut Stack,
 ) -> Result<Went, Starved>
@@ -85,8 +85,8 @@ fn note(falls: &mut Falls, went: Went) -> Result<(), Starved>
 /// last.
 pub fn treat<B: BeliefBase, A: Actions>(
     alloc: Global,
-    k: &Around<A>,
-    p: &mut Parts<B>,
+    k: &Surroundings<A>,
+    p: &mut Circumstance<B>,
     way: Way,
     stack: &mut Stack,
     falls: &mut Falls,
@@ -115,8 +115,8 @@ fn put_left(list: &mut Stacks, stack: Stack) -> Result<(), Starved>
 /// Treats a stack with the goal, and puts what is left of it to the back of those that run.
 fn treat_to_back<B: BeliefBase, A: Actions>(
     alloc: Global,
-    k: &Around<A>,
-    p: &mut Parts<B>,
+    k: &Surroundings<A>,
+    p: &mut Circumstance<B>,
     way: Way,
     cut: Stack,
     falls: &mut Falls,
@@ -140,8 +140,8 @@ fn treat_to_back<B: BeliefBase, A: Actions>(
 /// Treats a stack with the goal, and puts what is left of it last in a list.
 fn treat_in_place<B: BeliefBase, A: Actions>(
     alloc: Global,
-    k: &Around<A>,
-    p: &mut Parts<B>,
+    k: &Surroundings<A>,
+    p: &mut Circumstance<B>,
     way: Way,
     cut: Stack,
     left: &mut Stacks,
@@ -166,8 +166,8 @@ fn treat_in_place<B: BeliefBase, A: Actions>(
 /// One of the stacks that run: what is left of it keeps its place.
 fn sweep_stack<B: BeliefBase, A: Actions>(
     alloc: Global,
-    k: &Around<A>,
-    p: &mut Parts<B>,
+    k: &Surroundings<A>,
+    p: &mut Circumstance<B>,
     way: Way,
     g: &Literal,
     stack: Stack,
@@ -195,8 +195,8 @@ fn sweep_stack<B: BeliefBase, A: Actions>(
 /// One of the events: it stays, or what is left of its stack goes to the back of those that run.
 fn sweep_event<B: BeliefBase, A: Actions>(
     alloc: Global,
-    k: &Around<A>,
-    p: &mut Parts<B>,
+    k: &Surroundings<A>,
+    p: &mut Circumstance<B>,
     way: Way,
     g: &Literal,
     e: Event,
@@ -237,8 +237,8 @@ fn sweep_event<B: BeliefBase, A: Actions>(
 /// One of the asks, in the same way.
 fn sweep_ask<B: BeliefBase, A: Actions>(
     alloc: Global,
-    k: &Around<A>,
-    p: &mut Parts<B>,
+    k: &Surroundings<A>,
+    p: &mut Circumstance<B>,
     way: Way,
     g: &Literal,
     a: Ask,
@@ -279,8 +279,8 @@ fn sweep_ask<B: BeliefBase, A: Actions>(
 /// The stacks that run.
 fn sweep_running<B: BeliefBase, A: Actions>(
     alloc: Global,
-    k: &Around<A>,
-    p: &mut Parts<B>,
+    k: &Surroundings<A>,
+    p: &mut Circumstance<B>,
     way: Way,
     g: &Literal,
     falls: &mut Falls,
@@ -304,8 +304,8 @@ fn sweep_running<B: BeliefBase, A: Actions>(
 /// Those of events. What was posted meanwhile goes behind the events that stay.
 fn sweep_events<B: BeliefBase, A: Actions>(
     alloc: Global,
-    k: &Around<A>,
-    p: &mut Parts<B>,
+    k: &Surroundings<A>,
+    p: &mut Circumstance<B>,
     way: Way,
     g: &Literal,
     falls: &mut Falls,
@@ -331,8 +331,8 @@ fn sweep_events<B: BeliefBase, A: Actions>(
 /// Those that wait for an answer.
 fn sweep_asks<B: BeliefBase, A: Actions>(
     alloc: Global,
-    k: &Around<A>,
-    p: &mut Parts<B>,
+    k: &Surroundings<A>,
+    p: &mut Circumstance<B>,
     way: Way,
     g: &Literal,
     falls: &mut Falls,
@@ -357,8 +357,8 @@ fn sweep_asks<B: BeliefBase, A: Actions>(
 /// which failed.
 pub fn sweep_all<B: BeliefBase, A: Actions>(
     alloc: Global,
-    k: &Around<A>,
-    p: &mut Parts<B>,
+    k: &Surroundings<A>,
+    p: &mut Circumstance<B>,
     way: Way,
     g: &Literal,
 ) -> Result<Falls, Starved>

@@ -9,8 +9,8 @@ use Rattle.asl_unify.specs.declared.subst.Pair.{Pair}
 use Rattle.asl_unify.specs.Compare.{same_frame, asks}
 use Rattle.asl_unify.specs.Unified.{unified}
 use Rattle.asl_unify.specs.Matches.{on_unified, annots}
-use Rattle.asl_places.specs.Slots.{kept, places, at_slot, rank}
-use Rattle.asl_places.proofs.Slots.{rank_at, kept_set}
+use Rattle.asl_index_tables.specs.Slots.{kept, places, at_slot, rank}
+use Rattle.asl_index_tables.proofs.Slots.{rank_at, kept_set}
 use Rattle.asl_beliefs.specs.Sources.{names_source, with_annots}
 use Rattle.asl_beliefs.specs.Changes.{is_held, not_held, news, added, left_of, loss, matched, first_match, removed}
 use Rattle.asl_beliefs.specs.Bases.{AreBeliefs}
@@ -20,7 +20,7 @@ use Rattle.asl_beliefs.proofs.Taken.{HitAt, set_pieces, hit_at, hit_beliefs, hit
 use Rattle.asl_index.specs.declared.taking.Hit.{Hit}
 use Rattle.asl_index.specs.Store.{IsSlot}
 use Rattle.asl_index.specs.Hits.{IsHitAt, left_slot}
-use Rattle.asl_index.proofs.Filing.{Slots}
+use Rattle.asl_index.proofs.Filing.{BeliefSlots}
 
 -- what is left of a belief, as a list
 pub left_list : (taken : List Term) (b : LiteralOf Term) → option_to_list (left_slot taken b) ≡ left_of taken b
@@ -29,7 +29,7 @@ left_list taken b = go (filter (λ a. not (is_held taken a)) b.annots) (names_so
   go left true = refl
   go left false = refl
 
-module _ (s : Slots) (k : ℕ) where
+module _ (s : BeliefSlots) (k : ℕ) where
   -- the belief of a slot, at its place
   pub placed_slot : (b : LiteralOf Term) → AreBeliefs (kept s) → (p : IsSlot b s k) → Placed b (kept s) (rank s k)
   placed_slot b a p = placed_at (rank s k) b (kept s) a (record { here = p.here; at = rank_at s k p.here p.at; same = p.same })
@@ -48,7 +48,7 @@ module _ (s : Slots) (k : ℕ) where
       p.at ∙ both
 
   -- the belief of a slot gets the annotations that it does not yet hold
-  pub grown_beliefs : (b : LiteralOf Term) → AreBeliefs (kept s) → IsSlot b s k → (new : Slots)
+  pub grown_beliefs : (b : LiteralOf Term) → AreBeliefs (kept s) → IsSlot b s k → (new : BeliefSlots)
       → ((c : LiteralOf Term) → at_slot s k ≡ Some c → new ≡ slice_set s k (Some (with_annots c (c.annots ++ not_held c.annots b.annots))))
       → kept new ≡ (added b (kept s)).beliefs
   grown_beliefs b a p new h =
@@ -90,13 +90,13 @@ module _ (p : LiteralOf Term) (s : List Pair) where
     go more false e w = ap (λ z. hit_or n z (hit_from (suc n) p s bs)) (no_match p b s e) ∙ more w
 
   -- the k-th belief of the frame, and what is found where it is the first that matches
-  pub record IsNthHit (slots : Slots) (k i : ℕ) : Type 0 where
+  pub record IsNthHit (slots : BeliefSlots) (k i : ℕ) : Type 0 where
     pub here : LiteralOf Term
     pub at : at_slot slots i ≡ Some here
     pub first : (n : ℕ) (t : List Pair) → first_match p here s ≡ Some t → Unmatched (take k (filter (same_frame p) (kept slots)))
         → hit_from n p s (kept slots) ≡ Some (record { place = n + rank slots i; subst = t })
 
-  pub nth_hit : (m : ℕ) (slots : Slots) (k j : ℕ) → slice_get (places (same_frame p) m slots) k ≡ Some j → (i : ℕ) × (j ≡ m + i) × IsNthHit slots k i
+  pub nth_hit : (m : ℕ) (slots : BeliefSlots) (k j : ℕ) → slice_get (places (same_frame p) m slots) k ≡ Some j → (i : ℕ) × (j ≡ m + i) × IsNthHit slots k i
   nth_hit m [] k j e = cc
   nth_hit m (None ∷ slots) k j e =
       let r = nth_hit (suc m) slots k j e in
@@ -152,21 +152,21 @@ module _ (p : LiteralOf Term) (s : List Pair) where
           },
         )
 
-  pub hit_slot : (slots : Slots) (k j : ℕ) → slice_get (places (same_frame p) 0 slots) k ≡ Some j → IsNthHit slots k j
+  pub hit_slot : (slots : BeliefSlots) (k j : ℕ) → slice_get (places (same_frame p) 0 slots) k ≡ Some j → IsNthHit slots k j
   hit_slot slots k j e =
       let r = nth_hit 0 slots k j e in
       let same : r.0 ≡ j = omega (arith, r.1) in
       subst (IsNthHit slots k) same r.2
 
 -- the first belief that a pattern matches loses the matched annotations
-module _ (p : LiteralOf Term) (s : List Pair) (slots : Slots) (h : Hit) (q : IsHitAt p s slots h) where
+module _ (p : LiteralOf Term) (s : List Pair) (slots : BeliefSlots) (h : Hit) (q : IsHitAt p s slots h) where
   hit : HitAt p s h.subst (kept slots) (rank slots h.slot)
   hit = hit_at (record { place = rank slots h.slot; subst = h.subst }) p s (kept slots) q.first
 
   same_here : q.here ≡ hit.here
   same_here = let both : Some q.here ≡ Some hit.here = sym (rank_at slots h.slot q.here q.at) ∙ hit.at in cc
 
-  pub hit_lost : (new : Slots) (taken : List Term) → taken ≡ matched p h.subst → new ≡ slice_set slots h.slot (left_slot taken q.here)
+  pub hit_lost : (new : BeliefSlots) (taken : List Term) → taken ≡ matched p h.subst → new ≡ slice_set slots h.slot (left_slot taken q.here)
       → kept new ≡ (removed p s (kept slots)).beliefs
   hit_lost new taken e is =
       ap kept is ∙ kept_lost slots h.slot taken q.here q.at

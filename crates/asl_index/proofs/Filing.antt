@@ -4,21 +4,21 @@ use Rattle.std.specs.Prelude.{◌==◌, Result, Ok, Err, OnErr}
 use Rattle.std.specs.List.{slice_get, slice_set, filter}
 use Rattle.asl_term.specs.declared.syntax.LiteralOf.{LiteralOf}
 use Rattle.asl_term.specs.declared.syntax.Term.{Term}
-use Rattle.asl_places.specs.declared.frames.Frames.{Frames}
-use Rattle.asl_places.specs.declared.keys.Keys.{Keys}
-use Rattle.asl_places.specs.Frames.{has_frame, filed, without}
-use Rattle.asl_places.specs.Frames as frames
-use Rattle.asl_places.specs.Keys as keys
-use Rattle.asl_places.specs.Prints.{key_print}
-use Rattle.asl_places.specs.Slots.{kept, places, content, at_slot}
-use Rattle.asl_places.proofs.Slots.{nth_slot, nth_none, length_places, places_more, places_put, places_clear, places_same, places_empty, kept_append, kept_put}
+use Rattle.asl_index_tables.specs.declared.frames.Frames.{Frames}
+use Rattle.asl_index_tables.specs.declared.keys.Keys.{Keys}
+use Rattle.asl_index_tables.specs.Frames.{has_frame, filed, without}
+use Rattle.asl_index_tables.specs.Frames as frames
+use Rattle.asl_index_tables.specs.Keys as keys
+use Rattle.asl_index_tables.specs.Prints.{key_print}
+use Rattle.asl_index_tables.specs.Slots.{kept, places, content, at_slot}
+use Rattle.asl_index_tables.proofs.Slots.{nth_slot, nth_none, length_places, places_more, places_put, places_clear, places_same, places_empty, kept_append, kept_put}
 use Rattle.std.proofs.lemmas.List.{append-nil, length-append}
 use Rattle.asl_unify.specs.Compare.{same_frame}
 use Rattle.asl_beliefs.specs.Sources.{with_annots}
 use Rattle.asl_index.specs.Store.{has_key, AreFiled, AreListed}
 
-abbrev pub Slots : Type 0
-Slots = List (Option (LiteralOf Term))
+abbrev pub BeliefSlots : Type 0
+BeliefSlots = List (Option (LiteralOf Term))
 
 pub set_back : {A : Type 0} → (s : List A) (k : ℕ) (x y : A) → slice_get s k ≡ Some x → slice_set (slice_set s k y) k x ≡ s
 set_back [] k x y e = cc
@@ -50,7 +50,7 @@ at_get s k b e = go (slice_get s k) refl e where
 pub get_at : {A : Type 0} → (s : List (Option A)) (k : ℕ) (x : Option A) → slice_get s k ≡ Some x → at_slot s k ≡ x
 get_at s k x e = ap content e
 
-module _ (s : Slots) (k : ℕ) (b : LiteralOf Term) where
+module _ (s : BeliefSlots) (k : ℕ) (b : LiteralOf Term) where
   pub filed_put : (old new : Frames) → AreFiled s old → frames.IsPut b k old new → slice_get s k ≡ Some None → k + 1 ≡ length s
       → AreFiled (slice_set s k (Some b)) new
   filed_put old new a p e l neg functor count =
@@ -106,7 +106,7 @@ module _ (s : Slots) (k : ℕ) (b : LiteralOf Term) where
       let set = slice_set s k (Some b) in
       subst (λ z. AreFiled z new) (set_back s k None (Some b) e) (taken set put (get_set s k None (Some b) e))
     where
-      taken : (set : Slots) → AreFiled set mid → slice_get set k ≡ Some (Some b) → AreFiled (slice_set set k None) new
+      taken : (set : BeliefSlots) → AreFiled set mid → slice_get set k ≡ Some (Some b) → AreFiled (slice_set set k None) new
       taken set put at neg functor count =
           let test : LiteralOf Term → Bool = has_frame neg functor count in
           let same : k ≡ 0 + k = omega arith in
@@ -116,7 +116,7 @@ module _ (s : Slots) (k : ℕ) (b : LiteralOf Term) where
           ∙ sym (places_clear test 0 set k b (get_at set k (Some b) at))
 
 -- what is filed under the frame of a goal
-module _ (g : LiteralOf Term) (s : Slots) (f : Frames) (a : AreFiled s f) where
+module _ (g : LiteralOf Term) (s : BeliefSlots) (f : Frames) (a : AreFiled s f) where
   pub slot_filed : (k : ℕ) → slice_get (filed f g.neg g.functor (length g.args)) k ≡ slice_get (places (same_frame g) 0 s) k
   slot_filed k = ap (λ z. slice_get z k) (a g.neg g.functor (length g.args))
 
@@ -143,7 +143,7 @@ listed_more ls i l old new key e is a put n =
     ∙ ap (λ m. places (has_key n) 0 (map Some (take m ls))) next
 
 -- one more slot, which is empty
-module _ (s : Slots) where
+module _ (s : BeliefSlots) where
   pub filed_empty : (f : Frames) → AreFiled s f → AreFiled (s ++ None ∷ []) f
   filed_empty f a neg functor count = a neg functor count ∙ sym (places_empty (has_frame neg functor count) 0 s)
 
@@ -155,7 +155,7 @@ module _ (s : Slots) where
 
   pub last_empty : slice_get (s ++ None ∷ []) (length s) ≡ Some None
   last_empty = go s where
-    go : (s : Slots) → slice_get (s ++ None ∷ []) (length s) ≡ Some None
+    go : (s : BeliefSlots) → slice_get (s ++ None ∷ []) (length s) ≡ Some None
     go [] = refl
     go (x ∷ s) = go s
 

@@ -6,15 +6,15 @@ use Rattle.std.proofs.lemmas.Bool.{false≢true, eq-eqb}
 use Rattle.std.proofs.lemmas.List.{take_all}
 use Rattle.asl_term.specs.declared.syntax.LiteralOf.{LiteralOf}
 use Rattle.asl_term.specs.declared.syntax.Term.{Term}
-use Rattle.asl_places.specs.declared.keys.Keys.{Keys}
-use Rattle.asl_places.specs.Keys.{listed}
-use Rattle.asl_places.specs.Prints.{key_print}
-use Rattle.asl_places.specs.Slots.{kept, at_slot}
-use Rattle.asl_places.proofs.Slots.{IsNth, nth_slot, length_places}
+use Rattle.asl_index_tables.specs.declared.keys.Keys.{Keys}
+use Rattle.asl_index_tables.specs.Keys.{listed}
+use Rattle.asl_index_tables.specs.Prints.{key_print}
+use Rattle.asl_index_tables.specs.Slots.{kept, at_slot}
+use Rattle.asl_index_tables.proofs.Slots.{IsNth, nth_slot, length_places}
 use Rattle.asl_beliefs.specs.Changes.{same_belief}
 use Rattle.asl_beliefs.proofs.Keys.{same_key}
 use Rattle.asl_index.specs.Store.{has_key, AreListed, IsSlot}
-use Rattle.asl_index.proofs.Filing.{Slots}
+use Rattle.asl_index.proofs.Filing.{BeliefSlots}
 
 module _ {A : Type 0} (p : A → Bool) where
   none_next : (xs : List A) (k : ℕ) (x : A) → slice_get xs k ≡ Some x → p x ≡ false → list_any p (take k xs) ≡ false → list_any p (take (suc k) xs) ≡ false
@@ -42,7 +42,7 @@ same_print b c n is e =
     let k = same_key b c e in
     eq-eqb n (key_print c.functor c.args) (is ∙ ap (λ z. key_print z.functor z.args) k)
 
-module _ (b : LiteralOf Term) (slots : Slots) (f : Keys) (n : ℕ) (all : AreListed slots f) where
+module _ (b : LiteralOf Term) (slots : BeliefSlots) (f : Keys) (n : ℕ) (all : AreListed slots f) where
   at_place : (k j : ℕ) → slice_get (listed f n) k ≡ Some j → IsNth (has_key n) slots k j
   at_place k j e = nth_slot (has_key n) slots k j (ap (λ z. slice_get z k) (sym (all n)) ∙ e)
 

@@ -5,10 +5,10 @@ use Rattle.asl_term.specs.declared.syntax.LiteralOf.{LiteralOf}
 use Rattle.asl_term.specs.declared.syntax.Term.{Term}
 use Rattle.asl_term.specs.declared.syntax.Clause.{Clause}
 use Rattle.asl_unify.specs.Compare.{same_frame}
-use Rattle.asl_places.specs.declared.frames.Frames.{Frames}
-use Rattle.asl_places.specs.Frames.{has_frame, filed, IsPut}
-use Rattle.asl_places.specs.Slots.{kept, places, at_slot}
-use Rattle.asl_places.proofs.Slots.{nth_slot, nth_none, length_places, kept_some, places_more}
+use Rattle.asl_index_tables.specs.declared.frames.Frames.{Frames}
+use Rattle.asl_index_tables.specs.Frames.{has_frame, filed, IsPut}
+use Rattle.asl_index_tables.specs.Slots.{kept, places, at_slot}
+use Rattle.asl_index_tables.proofs.Slots.{nth_slot, nth_none, length_places, kept_some, places_more}
 use Rattle.asl_index.specs.Rules.{AreFiledRules}
 
 -- a filter keeps no more than there is

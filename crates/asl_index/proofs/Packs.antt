@@ -5,17 +5,17 @@ use Rattle.std.specs.Option.{is_some}
 use Rattle.std.proofs.lemmas.List.{take_all}
 use Rattle.asl_term.specs.declared.syntax.LiteralOf.{LiteralOf}
 use Rattle.asl_term.specs.declared.syntax.Term.{Term}
-use Rattle.asl_places.specs.declared.frames.Frames.{Frames}
-use Rattle.asl_places.specs.declared.keys.Keys.{Keys}
-use Rattle.asl_places.specs.Frames.{has_frame, filed}
-use Rattle.asl_places.specs.Frames as frames
-use Rattle.asl_places.specs.Keys as keys
-use Rattle.asl_places.specs.Prints.{key_print}
-use Rattle.asl_places.specs.Slots.{kept, packed, places, at_slot, rank}
-use Rattle.asl_places.proofs.Slots.{rank_at, places_more}
+use Rattle.asl_index_tables.specs.declared.frames.Frames.{Frames}
+use Rattle.asl_index_tables.specs.declared.keys.Keys.{Keys}
+use Rattle.asl_index_tables.specs.Frames.{has_frame, filed}
+use Rattle.asl_index_tables.specs.Frames as frames
+use Rattle.asl_index_tables.specs.Keys as keys
+use Rattle.asl_index_tables.specs.Prints.{key_print}
+use Rattle.asl_index_tables.specs.Slots.{kept, packed, places, at_slot, rank}
+use Rattle.asl_index_tables.proofs.Slots.{rank_at, places_more}
 use Rattle.asl_index.specs.Packing.{AreFiledFirst}
 use Rattle.asl_index.specs.Store.{AreFiled, AreListed}
-use Rattle.asl_index.proofs.Filing.{Slots, listed_more}
+use Rattle.asl_index.proofs.Filing.{BeliefSlots, listed_more}
 
 module _ {A : Type 0} where
   -- so many of the first slots hold no more
@@ -58,7 +58,7 @@ filed_more ls i l old new e a put neg functor count =
     ∙ sym (places_more test 0 ls i l e)
     ∙ ap (λ m. places test 0 (map Some (take m ls))) next
 
-module _ (slots : Slots) (k n : ℕ) (f : Frames) (g : Keys) (r : AreFiledFirst slots k n f g) where
+module _ (slots : BeliefSlots) (k n : ℕ) (f : Frames) (g : Keys) (r : AreFiledFirst slots k n f g) where
   pub filed_fewer : n ≤ k
   filed_fewer = let last = r.many in let few = rank_within slots k in omega (arith, last, few)
 

@@ -16,9 +16,9 @@ use Rattle.asl_term.specs.declared.syntax.LiteralOf.{LiteralOf}
 use Rattle.asl_term.specs.declared.syntax.Term.{Term}
 use Rattle.asl_term.specs.declared.syntax.Term.TheVariants as term
 use Rattle.asl_term.specs.declared.syntax.Term.TheOpen as layer
-use Rattle.asl_places.specs.Frames.{without}
-use Rattle.asl_places.specs.Slots.{kept, places, at_slot}
-use Rattle.asl_places.proofs.Slots.{nth_slot, length_places, places_same, places_clear, places_put, places_empty}
+use Rattle.asl_index_tables.specs.Frames.{without}
+use Rattle.asl_index_tables.specs.Slots.{kept, places, at_slot}
+use Rattle.asl_index_tables.proofs.Slots.{nth_slot, length_places, places_same, places_clear, places_put, places_empty}
 use Rattle.asl_beliefs.specs.Sources.{source_percept, with_annots}
 use Rattle.asl_beliefs.specs.Bases.{AreBeliefs, all_ground}
 use Rattle.asl_beliefs.specs.Changes.{same_belief, is_held, as_percept}
@@ -27,7 +27,7 @@ use Rattle.asl_beliefs.proofs.Initial.{source_ground}
 use Rattle.asl_beliefs.proofs.Keys.{same_key}
 use Rattle.asl_beliefs.proofs.Sound.{true_both, both_true, ground_parts}
 use Rattle.asl_index.specs.Noted.{is_perceived, AreNoted, layer_names_percept, layer_may_be, may_be_percept}
-use Rattle.asl_index.proofs.Filing.{Slots, last_empty}
+use Rattle.asl_index.proofs.Filing.{BeliefSlots, last_empty}
 use Rattle.asl_index.proofs.Quiet.{Ls, drop_next}
 
 -- the mark passes the test
@@ -59,7 +59,7 @@ held_past ts i t all l e f so_far =
     ∙ so_far
 
 -- what was noted is taken, and put back where nothing changed
-pub unless_noted : (noted taken new : Option (List ℕ)) (changed : Bool) (s t : Slots) → taken ≡ noted → AreNoted s noted
+pub unless_noted : (noted taken new : Option (List ℕ)) (changed : Bool) (s t : BeliefSlots) → taken ≡ noted → AreNoted s noted
     → IfSome new (λ ps. (changed ≡ false) × (taken ≡ Some ps)) → (changed ≡ false → places is_perceived 0 t ≡ places is_perceived 0 s) → AreNoted t new
 unless_noted noted taken None changed s t e a u f = tt
 unless_noted noted taken (Some ps) changed s t e a u f =
@@ -67,11 +67,11 @@ unless_noted noted taken (Some ps) changed s t e a u f =
     was ∙ sym (f u.0)
 
 -- a belief that was not perceived, before and after
-pub same_noted : (s : Slots) (k : ℕ) (b : LiteralOf Term) (annots : List Term) → at_slot s k ≡ Some b → is_perceived b ≡ false → is_held annots source_percept ≡ false
+pub same_noted : (s : BeliefSlots) (k : ℕ) (b : LiteralOf Term) (annots : List Term) → at_slot s k ≡ Some b → is_perceived b ≡ false → is_held annots source_percept ≡ false
     → places is_perceived 0 (slice_set s k (Some (with_annots b annots))) ≡ places is_perceived 0 s
 same_noted s k b annots at before after = places_same is_perceived 0 s k b (with_annots b annots) at (after ∙ sym before)
 
-pub cleared_noted : (s : Slots) (k : ℕ) → is_some (at_slot s k) ≡ true → option_map_or is_perceived (at_slot s k) false ≡ false
+pub cleared_noted : (s : BeliefSlots) (k : ℕ) → is_some (at_slot s k) ≡ true → option_map_or is_perceived (at_slot s k) false ≡ false
     → places is_perceived 0 (slice_set s k None) ≡ places is_perceived 0 s
 cleared_noted s k some none = go (at_slot s k) refl some none where
   go : (o : Option (LiteralOf Term)) → at_slot s k ≡ o → is_some o ≡ true → option_map_or is_perceived o false ≡ false
@@ -81,7 +81,7 @@ cleared_noted s k some none = go (at_slot s k) refl some none where
       places_clear is_perceived 0 s k b e
       ∙ ap (λ t. cond t (without (0 + k) (places is_perceived 0 s)) (places is_perceived 0 s)) w
 
-pub pushed_noted : (s : Slots) (b : LiteralOf Term) → is_perceived b ≡ false
+pub pushed_noted : (s : BeliefSlots) (b : LiteralOf Term) → is_perceived b ≡ false
     → places is_perceived 0 (slice_set (s ++ None ∷ []) (length s) (Some b)) ≡ places is_perceived 0 s
 pushed_noted s b e =
     let size = length-append s (None ∷ []) in
@@ -90,7 +90,7 @@ pushed_noted s b e =
     ∙ ap (λ t. cond t (p ++ (0 + length s) ∷ []) p) e
     ∙ places_empty is_perceived 0 s
 
-pub empty_noted : (s : Slots) (noted : Option (List ℕ)) → AreNoted s noted → AreNoted (s ++ None ∷ []) noted
+pub empty_noted : (s : BeliefSlots) (noted : Option (List ℕ)) → AreNoted s noted → AreNoted (s ++ None ∷ []) noted
 empty_noted s None a = tt
 empty_noted s (Some ps) a = a ∙ sym (places_empty is_perceived 0 s)
 
@@ -98,7 +98,7 @@ empty_noted s (Some ps) a = a ∙ sym (places_empty is_perceived 0 s)
 pub held_in : (xs ys : List Term) (r : Bool) → xs ≡ ys → (r ≡ false → is_held xs source_percept ≡ false) → r ≡ false → is_held ys source_percept ≡ false
 held_in xs ys r e f u = ap (λ z. is_held z source_percept) (sym e) ∙ f u
 
-module _ (s : Slots) (noted taken new : Option (List ℕ)) (changed : Bool) (e : taken ≡ noted) (a : AreNoted s noted)
+module _ (s : BeliefSlots) (noted taken new : Option (List ℕ)) (changed : Bool) (e : taken ≡ noted) (a : AreNoted s noted)
     (u : IfSome new (λ ps. (changed ≡ false) × (taken ≡ Some ps))) where
   -- a belief that gets other annotations
   pub noted_again : (k : ℕ) (b : LiteralOf Term) (annots : List Term) (before after : Bool) → at_slot s k ≡ Some b
@@ -109,7 +109,7 @@ module _ (s : Slots) (noted taken new : Option (List ℕ)) (changed : Bool) (e :
       (λ w. same_noted s k b annots at (f (both w).0) (g (both w).1))
 
   -- a belief in the last of these slots, which was empty
-  pub noted_last : (t : Slots) (n : ℕ) (b : LiteralOf Term) → t ≡ s ++ None ∷ [] → n ≡ length s → (changed ≡ false → is_perceived b ≡ false)
+  pub noted_last : (t : BeliefSlots) (n : ℕ) (b : LiteralOf Term) → t ≡ s ++ None ∷ [] → n ≡ length s → (changed ≡ false → is_perceived b ≡ false)
       → AreNoted (slice_set t n (Some b)) new
   noted_last t n b is at f =
       unless_noted noted taken new changed s (slice_set t n (Some b)) e a u
@@ -118,7 +118,7 @@ module _ (s : Slots) (noted taken new : Option (List ℕ)) (changed : Bool) (e :
       ∙ pushed_noted s b (f w))
 
   -- a slot that gets empty
-  pub noted_cleared : (t : Slots) (k : ℕ) → t ≡ s → is_some (at_slot s k) ≡ true
+  pub noted_cleared : (t : BeliefSlots) (k : ℕ) → t ≡ s → is_some (at_slot s k) ≡ true
       → (changed ≡ false → option_map_or is_perceived (at_slot t k) false ≡ false) → AreNoted (slice_set s k None) new
   noted_cleared t k is some f =
       unless_noted noted taken new changed s (slice_set s k None) e a u
@@ -171,10 +171,10 @@ lengths_differ (x ∷ xs) (y ∷ ys) d = go (same_belief x y) (lengths_differ xs
   go false e = refl
 
 -- those from a place on are still to be compared
-abbrev pub Left : Slots → Ls → ℕ → Type 0
+abbrev pub Left : BeliefSlots → Ls → ℕ → Type 0
 Left s percepts i = all_same_belief (drop i (perceived (kept s))) (drop i percepts) ≡ are_perceived percepts (kept s)
 
-module _ (s : Slots) (percepts : Ls) (ps : List ℕ) (e : ps ≡ places is_perceived 0 s) where
+module _ (s : BeliefSlots) (percepts : Ls) (ps : List ℕ) (e : ps ≡ places is_perceived 0 s) where
   abbrev all : Ls
   all = perceived (kept s)
 

@@ -6,12 +6,12 @@ use Rattle.std.proofs.Math.Dec.{eqb-zero-suc, eqb-suc-suc}
 use Rattle.std.proofs.lemmas.List.{drop_all}
 use Rattle.asl_term.specs.declared.syntax.LiteralOf.{LiteralOf}
 use Rattle.asl_term.specs.declared.syntax.Term.{Term}
-use Rattle.asl_places.specs.Slots.{kept, at_slot}
+use Rattle.asl_index_tables.specs.Slots.{kept, at_slot}
 use Rattle.asl_beliefs.specs.Sources.{source_percept}
 use Rattle.asl_beliefs.specs.Changes.{same_belief, is_held}
 use Rattle.asl_beliefs.specs.Laws.{perceived, all_same_belief, are_perceived}
 use Rattle.asl_index.specs.Hits.{IsPassed}
-use Rattle.asl_index.proofs.Filing.{Slots}
+use Rattle.asl_index.proofs.Filing.{BeliefSlots}
 
 abbrev pub Ls : Type 0
 Ls = List (LiteralOf Term)
@@ -70,11 +70,11 @@ pub ruleset passes = (past_empty, unmarked, past_all, past_other, past_same)
 -- ---- over slots
 
 -- the percepts behind so many are still to be compared with the slots from one on
-pub record Compared (ps : Ls) (slots : Slots) (k n : ℕ) : Type 0 where
+pub record Compared (ps : Ls) (slots : BeliefSlots) (k n : ℕ) : Type 0 where
   pub rest : are_perceived (drop n ps) (kept (drop k slots)) ≡ are_perceived ps (kept slots)
   pub within : n ≤ length ps
 
-kept_next : (s : Slots) (k : ℕ) → kept (drop k s) ≡ option_to_list (at_slot s k) ++ kept (drop (suc k) s)
+kept_next : (s : BeliefSlots) (k : ℕ) → kept (drop k s) ≡ option_to_list (at_slot s k) ++ kept (drop (suc k) s)
 kept_next [] zero = refl
 kept_next [] (suc k) = refl
 kept_next (None ∷ s) zero = refl
@@ -88,7 +88,7 @@ none_over [] (suc n) e = absurd (omega (arith, e))
 none_over (p ∷ ps) zero e = eqb-zero-suc (length ps)
 none_over (p ∷ ps) (suc n) e = eqb-suc-suc n (length ps) ∙ none_over ps n (omega (arith, e))
 
-module _ (ps : Ls) (slots : Slots) (k n : ℕ) (c : Compared ps slots k n) where
+module _ (ps : Ls) (slots : BeliefSlots) (k n : ℕ) (c : Compared ps slots k n) where
   pub compared_next : (m : ℕ) → IsPassed (at_slot slots k) ps n (Some m) → Compared ps slots (k + 1) m
   compared_next m p =
       let next : k + 1 ≡ suc k = omega arith in

@@ -8,14 +8,14 @@ use Rattle.asl_term.specs.declared.syntax.LiteralOf.{LiteralOf}
 use Rattle.asl_term.specs.declared.syntax.Term.{Term}
 use Rattle.asl_term.specs.declared.syntax.Trigger.{Trigger}
 use Rattle.asl_unify.specs.Compare.{same_frame}
-use Rattle.asl_places.specs.Slots.{kept, places, content, at_slot, rank}
-use Rattle.asl_places.proofs.Slots.{kept_append, kept_set}
+use Rattle.asl_index_tables.specs.Slots.{kept, places, content, at_slot, rank}
+use Rattle.asl_index_tables.proofs.Slots.{kept_append, kept_set}
 use Rattle.asl_beliefs.specs.Sources.{source_percept}
 use Rattle.asl_beliefs.specs.Changes.{is_match, is_unseen, unseen, loss, left_of}
 use Rattle.asl_beliefs.specs.Bases.{AreBeliefs}
 use Rattle.asl_beliefs.proofs.Sound.{sound_remove}
 use Rattle.asl_index.specs.Hits.{left_slot, is_unseen_at}
-use Rattle.asl_index.proofs.Filing.{Slots}
+use Rattle.asl_index.proofs.Filing.{BeliefSlots}
 use Rattle.asl_index.proofs.Changes.{left_list, no_match}
 
 module _ {A : Type 0} where
@@ -40,7 +40,7 @@ module _ {A : Type 0} where
   filled (x ∷ s) (suc k) e = filled s k (omega (arith, e))
 
 -- a slot that is walked past, with what it gets
-kept_walked : (s : Slots) (k : ℕ) (x y : Option (LiteralOf Term)) → slice_get s k ≡ Some x → kept (take (suc k) (slice_set s k y)) ≡ kept (take k s) ++ option_to_list y
+kept_walked : (s : BeliefSlots) (k : ℕ) (x y : Option (LiteralOf Term)) → slice_get s k ≡ Some x → kept (take (suc k) (slice_set s k y)) ≡ kept (take k s) ++ option_to_list y
 kept_walked s k x y e = ap kept (take_set s k x y e) ∙ kept_append (take k s) (y ∷ []) ∙ ap (λ z. kept (take k s) ++ z) (one y) where
   one : (y : Option (LiteralOf Term)) → kept (y ∷ []) ≡ option_to_list y
   one None = refl
@@ -60,14 +60,14 @@ module _ (percepts : List (LiteralOf Term)) where
   first_told None rest e = refl
   first_told (Some b) rest e = ap (λ z. map (loss marks) (cond z (b ∷ filter (is_unseen percepts) rest) (filter (is_unseen percepts) rest))) e
 
-  kept_next : (s : Slots) (k : ℕ) (x : Option (LiteralOf Term)) → slice_get s k ≡ Some x → kept (drop k s) ≡ option_to_list x ++ kept (drop (suc k) s)
+  kept_next : (s : BeliefSlots) (k : ℕ) (x : Option (LiteralOf Term)) → slice_get s k ≡ Some x → kept (drop k s) ≡ option_to_list x ++ kept (drop (suc k) s)
   kept_next s k x e = ap kept (drop_next s k x e) ∙ one x where
     one : (x : Option (LiteralOf Term)) → kept (x ∷ drop (suc k) s) ≡ option_to_list x ++ kept (drop (suc k) s)
     one None = refl
     one (Some b) = refl
 
   -- a slot whose belief stays
-  pub staying : (s : Slots) (k : ℕ) (events : List Trigger) → k < length s → is_unseen_at percepts s k ≡ false
+  pub staying : (s : BeliefSlots) (k : ℕ) (events : List Trigger) → k < length s → is_unseen_at percepts s k ≡ false
       → (kept (take (suc k) s) ++ (unseen percepts (kept (drop (suc k) s))).beliefs ≡ kept (take k s) ++ (unseen percepts (kept (drop k s))).beliefs)
       × (events ++ (unseen percepts (kept (drop (suc k) s))).events ≡ events ++ (unseen percepts (kept (drop k s))).events)
   staying s k events l e =
@@ -83,13 +83,13 @@ module _ (percepts : List (LiteralOf Term)) where
         ap (λ z. events ++ z) (sym (first_told x rest quiet) ∙ ap (λ z. (unseen percepts z).events) (sym (kept_next s k x f.1))),
       )
     where
-      same : (s : Slots) (k : ℕ) (x : Option (LiteralOf Term)) → slice_get s k ≡ Some x → slice_set s k x ≡ s
+      same : (s : BeliefSlots) (k : ℕ) (x : Option (LiteralOf Term)) → slice_get s k ≡ Some x → slice_set s k x ≡ s
       same [] k x e = cc
       same (z ∷ s) zero x e = let is : z ≡ x = cc in ap (λ w. w ∷ s) (sym is)
       same (z ∷ s) (suc k) x e = ap (λ w. z ∷ w) (same s k x e)
 
   -- a slot whose belief loses its mark
-  pub losing : (s new : Slots) (k : ℕ) (b : LiteralOf Term) (events : List Trigger) → slice_get s k ≡ Some (Some b) → is_unseen percepts b ≡ true
+  pub losing : (s new : BeliefSlots) (k : ℕ) (b : LiteralOf Term) (events : List Trigger) → slice_get s k ≡ Some (Some b) → is_unseen percepts b ≡ true
       → new ≡ slice_set s k (left_slot marks b)
       → (kept (take (suc k) new) ++ (unseen percepts (kept (drop (suc k) new))).beliefs ≡ kept (take k s) ++ (unseen percepts (kept (drop k s))).beliefs)
       × ((events ++ loss marks b ∷ []) ++ (unseen percepts (kept (drop (suc k) new))).events ≡ events ++ (unseen percepts (kept (drop k s))).events)
@@ -152,18 +152,18 @@ module _ (p : LiteralOf Term) where
         )
 
   -- what is so where the belief of a slot goes, which is the k-th of the frame, those before it matching nothing
-  pub record Goes (slots : Slots) (k i : ℕ) (b : LiteralOf Term) : Type 0 where
+  pub record Goes (slots : BeliefSlots) (k i : ℕ) (b : LiteralOf Term) : Type 0 where
     pub rest : filter (λ c. not (m c)) (kept (slice_set slots i None)) ≡ filter (λ c. not (m c)) (kept slots)
     pub told : filter m (kept slots) ≡ b ∷ filter m (kept (slice_set slots i None))
     pub before : take k (filter f (kept (slice_set slots i None))) ≡ take k (filter f (kept slots))
     pub fewer : length (filter f (kept (slice_set slots i None))) + 1 ≡ length (filter f (kept slots))
 
-  pub record IsNthGone (slots : Slots) (k i : ℕ) : Type 0 where
+  pub record IsNthGone (slots : BeliefSlots) (k i : ℕ) : Type 0 where
     pub here : LiteralOf Term
     pub at : at_slot slots i ≡ Some here
     pub goes : m here ≡ true → Apart (take k (filter f (kept slots))) → Goes slots k i here
 
-  pub nth_gone : (n : ℕ) (slots : Slots) (k j : ℕ) → slice_get (places f n slots) k ≡ Some j → (i : ℕ) × (j ≡ n + i) × IsNthGone slots k i
+  pub nth_gone : (n : ℕ) (slots : BeliefSlots) (k j : ℕ) → slice_get (places f n slots) k ≡ Some j → (i : ℕ) × (j ≡ n + i) × IsNthGone slots k i
   nth_gone n [] k j e = cc
   nth_gone n (None ∷ slots) k j e =
       let r = nth_gone (suc n) slots k j e in
@@ -254,12 +254,12 @@ module _ (p : LiteralOf Term) where
           },
         )
 
-  pub gone_slot : (slots : Slots) (k j : ℕ) → slice_get (places f 0 slots) k ≡ Some j → IsNthGone slots k j
+  pub gone_slot : (slots : BeliefSlots) (k j : ℕ) → slice_get (places f 0 slots) k ≡ Some j → IsNthGone slots k j
   gone_slot slots k j e =
       let r = nth_gone 0 slots k j e in
       let same : r.0 ≡ j = omega (arith, r.1) in
       subst (IsNthGone slots k) same r.2
 
 -- the belief of a slot goes
-pub sound_gone : (s : Slots) (k : ℕ) (b : LiteralOf Term) → AreBeliefs (kept s) → at_slot s k ≡ Some b → AreBeliefs (kept (slice_set s k None))
+pub sound_gone : (s : BeliefSlots) (k : ℕ) (b : LiteralOf Term) → AreBeliefs (kept s) → at_slot s k ≡ Some b → AreBeliefs (kept (slice_set s k None))
 sound_gone s k b a e = subst AreBeliefs (sym (kept_set s k b None e)) (sound_remove (kept s) (rank s k) a)

@@ -8,13 +8,13 @@ use Rattle.asl_term.specs.declared.syntax.Term.{Term}
 use Rattle.asl_term.specs.declared.syntax.Trigger.{Trigger}
 use Rattle.asl_unify.specs.declared.subst.Pair.{Pair}
 use Rattle.asl_unify.specs.Compare.{same_frame}
-use Rattle.asl_places.specs.Slots.{kept, places, at_slot, rank}
-use Rattle.asl_places.proofs.Slots.{nth_slot, nth_none}
+use Rattle.asl_index_tables.specs.Slots.{kept, places, at_slot, rank}
+use Rattle.asl_index_tables.proofs.Slots.{nth_slot, nth_none}
 use Rattle.asl_beliefs.specs.Changes.{is_match, minus, first_match}
 use Rattle.asl_beliefs.specs.Bases.{AreBeliefs}
 use Rattle.asl_beliefs.specs.inner.Places.{hit_from}
 use Rattle.asl_index.specs.Hits.{IsHitAt}
-use Rattle.asl_index.proofs.Filing.{Slots}
+use Rattle.asl_index.proofs.Filing.{BeliefSlots}
 use Rattle.asl_index.proofs.Changes.{Unmatched, none_hits, hit_slot}
 use Rattle.asl_index.proofs.Steps.{Apart, all_apart, gone_slot, sound_gone}
 
@@ -40,7 +40,7 @@ get_within [] k x e = cc
 get_within (y ∷ xs) zero x e = omega arith
 get_within (y ∷ xs) (suc k) x e = let more = get_within xs k x e in omega (arith, more)
 
-module _ (p : LiteralOf Term) (s : List Pair) (slots : Slots) where
+module _ (p : LiteralOf Term) (s : List Pair) (slots : BeliefSlots) where
   -- the next belief of the frame has no match
   pub unmatched_next : (k j : ℕ) (b : LiteralOf Term) → slice_get (places (same_frame p) 0 slots) k ≡ Some j → at_slot slots j ≡ Some b → first_match p b s ≡ None
       → Unmatched p s (take k (filter (same_frame p) (kept slots))) → Unmatched p s (take (k + 1) (filter (same_frame p) (kept slots)))
@@ -70,13 +70,13 @@ module _ (p : LiteralOf Term) (s : List Pair) (slots : Slots) where
       none_hits p s 0 (kept slots) (subst (Unmatched p s) (take_all n xs e) a)
 
 -- a place in the list of places is that of a slot with something, and is there for each of the frame
-pub slot_filled : (p : LiteralOf Term) (slots : Slots) (k j : ℕ) → slice_get (places (same_frame p) 0 slots) k ≡ Some j → at_slot slots j ≡ None → ⊥
+pub slot_filled : (p : LiteralOf Term) (slots : BeliefSlots) (k j : ℕ) → slice_get (places (same_frame p) 0 slots) k ≡ Some j → at_slot slots j ≡ None → ⊥
 slot_filled p slots k j e at =
     let q = nth_slot (same_frame p) slots k j e in
     let both : None ≡ Some q.here = sym at ∙ q.at in
     cc
 
-pub not_beyond : (p : LiteralOf Term) (slots : Slots) (k : ℕ) → slice_get (places (same_frame p) 0 slots) k ≡ None
+pub not_beyond : (p : LiteralOf Term) (slots : BeliefSlots) (k : ℕ) → slice_get (places (same_frame p) 0 slots) k ≡ None
     → k < length (filter (same_frame p) (kept slots)) → ⊥
 not_beyond p slots k e l =
     let past = get_past (filter (same_frame p) (kept slots)) k (nth_none (same_frame p) slots k e) in
@@ -84,16 +84,16 @@ not_beyond p slots k e l =
 
 -- a walk that takes out what a pattern matches
 module _ (p : LiteralOf Term) where
-  pub record Walked (slots : Slots) (k : ℕ) (events : List Trigger) (first : Slots) : Type 0 where
+  pub record Walked (slots : BeliefSlots) (k : ℕ) (events : List Trigger) (first : BeliefSlots) : Type 0 where
     pub within : k ≤ length (filter (same_frame p) (kept slots))
     pub sound : AreBeliefs (kept slots)
     pub before : Apart p (take k (filter (same_frame p) (kept slots)))
     pub beliefs : filter (λ b. not (is_match p b)) (kept slots) ≡ filter (λ b. not (is_match p b)) (kept first)
     pub told : events ++ map minus (filter (is_match p) (kept slots)) ≡ map minus (filter (is_match p) (kept first))
 
-  module _ (slots : Slots) (k : ℕ) (told : List Trigger) (first : Slots) (w : Walked slots k told first) (j : ℕ) (b : LiteralOf Term)
+  module _ (slots : BeliefSlots) (k : ℕ) (told : List Trigger) (first : BeliefSlots) (w : Walked slots k told first) (j : ℕ) (b : LiteralOf Term)
       (e : slice_get (places (same_frame p) 0 slots) k ≡ Some j) (at : at_slot slots j ≡ Some b) where
-    pub going_on : is_match p b ≡ true → (new : Slots) → new ≡ slice_set slots j None → (more : List Trigger) → more ≡ told ++ minus b ∷ [] → Walked new k more first
+    pub going_on : is_match p b ≡ true → (new : BeliefSlots) → new ≡ slice_set slots j None → (more : List Trigger) → more ≡ told ++ minus b ∷ [] → Walked new k more first
     going_on h new is more tell =
         let q = gone_slot p slots k j e in
         let same = same_content slots j b q.here at q.at in
@@ -114,7 +114,7 @@ module _ (p : LiteralOf Term) where
               ∙ w.told;
         })
 
-    pub going_smaller : is_match p b ≡ true → (new : Slots) → new ≡ slice_set slots j None
+    pub going_smaller : is_match p b ≡ true → (new : BeliefSlots) → new ≡ slice_set slots j None
         → length (filter (same_frame p) (kept new)) - k < length (filter (same_frame p) (kept slots)) - k
     going_smaller h new is =
         let q = gone_slot p slots k j e in
@@ -145,7 +145,7 @@ module _ (p : LiteralOf Term) where
         omega (arith, inside)
 
   -- the walk is over
-  pub walked_all : (slots : Slots) (k : ℕ) (told : List Trigger) (first : Slots) → Walked slots k told first → slice_get (places (same_frame p) 0 slots) k ≡ None
+  pub walked_all : (slots : BeliefSlots) (k : ℕ) (told : List Trigger) (first : BeliefSlots) → Walked slots k told first → slice_get (places (same_frame p) 0 slots) k ≡ None
       → (kept slots ≡ filter (λ b. not (is_match p b)) (kept first)) × (told ≡ map minus (filter (is_match p) (kept first)))
   walked_all slots k told first w e =
       let xs = filter (same_frame p) (kept slots) in
@@ -154,9 +154,9 @@ module _ (p : LiteralOf Term) where
       (sym none.0 ∙ w.beliefs, sym (append-nil told) ∙ ap (λ z. told ++ map minus z) (sym none.1) ∙ w.told)
 
 -- what stands from a slot on
-pub kept_from : (s : Slots) (k : ℕ) (x : Option (LiteralOf Term)) → slice_get s k ≡ Some x → kept (drop k s) ≡ option_to_list x ++ kept (drop (k + 1) s)
+pub kept_from : (s : BeliefSlots) (k : ℕ) (x : Option (LiteralOf Term)) → slice_get s k ≡ Some x → kept (drop k s) ≡ option_to_list x ++ kept (drop (k + 1) s)
 kept_from s k x e = let next : suc k ≡ k + 1 = omega arith in go s k x e ∙ ap (λ m. option_to_list x ++ kept (drop m s)) next where
-  go : (s : Slots) (k : ℕ) (x : Option (LiteralOf Term)) → slice_get s k ≡ Some x → kept (drop k s) ≡ option_to_list x ++ kept (drop (suc k) s)
+  go : (s : BeliefSlots) (k : ℕ) (x : Option (LiteralOf Term)) → slice_get s k ≡ Some x → kept (drop k s) ≡ option_to_list x ++ kept (drop (suc k) s)
   go [] k x e = cc
   go (None ∷ s) zero x e = let is : None ≡ x = cc in ap (λ z. option_to_list z ++ kept s) is
   go (Some b ∷ s) zero x e = let is : Some b ≡ x = cc in ap (λ z. option_to_list z ++ kept s) is

@@ -9,7 +9,7 @@ use Rattle.asl_beliefs.specs.Changes.{is_held, is_unseen}
 use Rattle.asl_beliefs.specs.Laws.{are_perceived}
 use Rattle.asl_beliefs.specs.inner.Places.{hit_from}
 use Rattle.asl_index.specs.declared.taking.Hit.{Hit}
-use Rattle.asl_places.specs.Slots.{at_slot, kept, rank}
+use Rattle.asl_index_tables.specs.Slots.{at_slot, kept, rank}
 
 -- what is left in a slot whose belief loses the annotations of a list
 abbrev pub left_slot : List Term → LiteralOf Term → Option (LiteralOf Term)

@@ -10,7 +10,7 @@ use Rattle.asl_term.specs.declared.syntax.Term.TheOpen as layer
 use Rattle.asl_term.specs.declared.syntax.Term.TheViews.{out-Term}
 use Rattle.asl_beliefs.specs.Sources.{source_percept}
 use Rattle.asl_beliefs.specs.Changes.{is_held}
-use Rattle.asl_places.specs.Slots.{places}
+use Rattle.asl_index_tables.specs.Slots.{places}
 
 abbrev pub is_perceived : LiteralOf Term → Bool
 is_perceived b = is_held b.annots source_percept

@@ -2,9 +2,9 @@
 use Rattle.std.specs.Prelude.{◌≡◌, ℕ, List, map, take, Option, Some}
 use Rattle.asl_term.specs.declared.syntax.LiteralOf.{LiteralOf}
 use Rattle.asl_term.specs.declared.syntax.Term.{Term}
-use Rattle.asl_places.specs.declared.frames.Frames.{Frames}
-use Rattle.asl_places.specs.declared.keys.Keys.{Keys}
-use Rattle.asl_places.specs.Slots.{kept, rank}
+use Rattle.asl_index_tables.specs.declared.frames.Frames.{Frames}
+use Rattle.asl_index_tables.specs.declared.keys.Keys.{Keys}
+use Rattle.asl_index_tables.specs.Slots.{kept, rank}
 use Rattle.asl_index.specs.Store.{AreFiled, AreListed}
 
 -- the beliefs of the first k slots, of which there are n, are filed and listed

@@ -13,7 +13,7 @@ use asl_beliefs::base::BeliefBase;
 use asl_beliefs::clauses::{are_ground, copy_clauses};
 use asl_beliefs::removed::{BeliefFault, Removed};
 use asl_beliefs::updating::as_percepts;
-use asl_places::frames::Frames;
+use asl_index_tables::frames::Frames;
 use asl_term::measure::ground_literal;
 use asl_term::sequence::{Seq, Starved};
 use asl_term::syntax::{AgentText, Clauses, Expr, Literal, Literals, Trigger, Triggers};
@@ -46,7 +46,7 @@ impl Model for Indexed {
     ghost use Rattle.asl_beliefs.specs.Bases.{Base, AreBeliefs};
     ghost use Rattle.asl_term.specs.contracts.syntax.Term as term;
     ghost use Rattle.asl_term.specs.contracts.syntax.Expr as expr;
-    ghost use Rattle.asl_places.specs.Slots.{kept};
+    ghost use Rattle.asl_index_tables.specs.Slots.{kept};
     ghost use Rattle.asl_index.specs.Rules.{AreFiledRules};
     ghost use Rattle.std.specs.Coded.{codes};
 

@@ -1,4 +1,9 @@
-//! A belief base that finds its beliefs and rules by what they are.
+//! `Indexed`, a belief base with the calls of `Beliefs`: it finds beliefs and rules by their frame, and equal beliefs by a number made of functor and
+//! arguments.
+//!
+//! May stand on: asl_term, asl_unify, asl_beliefs, asl_index
+//!
+//! Must not: search for solutions, know of plans or intentions, start a thread, read or write a file.
 #![tactic(auto)]
 
 pub mod adding;

@@ -6,7 +6,7 @@ ghost use Rattle.asl_beliefs.specs.Changes.{is_held};
 ghost use Rattle.asl_beliefs.specs.Sources.{source_percept};
 ghost use Rattle.asl_index.specs.Noted as spec;
 ghost use Rattle.asl_index.specs.Noted.{is_perceived};
-ghost use Rattle.asl_places.specs.Slots.{at_slot, places};
+ghost use Rattle.asl_index_tables.specs.Slots.{at_slot, places};
 
 use crate::slots::held;
 use asl_beliefs::same::is_held;

@@ -5,7 +5,7 @@ ghost use Rattle.std.specs.Option.{option_copied};
 ghost use Rattle.asl_unify.specs.Compare.{same_frame};
 ghost use Rattle.asl_index.specs.Rules.{AreFiledRules};
 
-use asl_places::frames::Frames;
+use asl_index_tables::frames::Frames;
 use asl_term::sequence::Starved;
 use asl_term::syntax::{Clause, Clauses, Literal};
 use std::alloc::Global;

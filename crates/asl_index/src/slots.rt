@@ -2,19 +2,19 @@
 
 ghost use Rattle.std.specs.Prelude.{◌≡◌, ◌<◌, ◌+◌, ◌-◌, ◌^◌, IfOk};
 ghost use Rattle.std.specs.Option.{option_copied};
-ghost use Rattle.asl_places.specs.Slots.{at_slot, packed};
+ghost use Rattle.asl_index_tables.specs.Slots.{at_slot, packed};
 ghost use Rattle.asl_index.specs.Packing.{AreFiledFirst};
 ghost use Rattle.asl_index.specs.Store.{AreFiled, AreListed};
 
-use asl_places::frames::Frames;
-use asl_places::keys::Keys;
-use asl_places::prints::literal_print;
+use asl_index_tables::frames::Frames;
+use asl_index_tables::keys::Keys;
+use asl_index_tables::prints::literal_print;
 use asl_term::sequence::{Seq, Starved};
 use asl_term::syntax::Literal;
 use std::alloc::Global;
 use std::mem;
 
-pub type Slots = Seq<Option<Literal>>;
+pub type BeliefSlots = Seq<Option<Literal>>;
 
 /// The belief of a slot.
 pub fn held(slots: &[Option<Literal>], k: u64) -> Option<&Literal>
@@ -62,7 +62,7 @@ pub fn filed_again(alloc: Global, slots: &[Option<Literal>]) -> Result<(Frames, 
 }
 
 /// Takes the empty slots out.
-pub fn pack(alloc: Global, slots: &mut Slots)
+pub fn pack(alloc: Global, slots: &mut BeliefSlots)
     ensures { slots.new ≡ packed slots.old }
 {
     let mut all = mem::replace(slots, Seq::new(alloc)).into_vec();

@@ -7,16 +7,16 @@ ghost use Rattle.asl_term.specs.declared.syntax.Term.{Term};
 ghost use Rattle.asl_unify.specs.Compare.{same_frame};
 ghost use Rattle.asl_beliefs.specs.Changes as spec;
 ghost use Rattle.asl_beliefs.specs.Sources.{with_annots};
-ghost use Rattle.asl_places.specs.Slots.{at_slot, kept, places};
+ghost use Rattle.asl_index_tables.specs.Slots.{at_slot, kept, places};
 ghost use Rattle.asl_index.specs.Store.{AreFiled, AreListed, IsHeld};
 ghost use Rattle.asl_index.specs.Noted.{is_perceived};
 
 use crate::noted::{either, may_be_perceived, may_hold, perceived_places, unless};
-use crate::slots::{Slots, filed_again, held, pack};
+use crate::slots::{BeliefSlots, filed_again, held, pack};
 use asl_beliefs::same::same_belief;
-use asl_places::frames::Frames;
-use asl_places::keys::Keys;
-use asl_places::prints::literal_print;
+use asl_index_tables::frames::Frames;
+use asl_index_tables::keys::Keys;
+use asl_index_tables::prints::literal_print;
 use asl_term::sequence::{Seq, Starved};
 use asl_term::syntax::{Literal, Numbers, Terms};
 use std::alloc::Global;
@@ -27,7 +27,7 @@ const FEW: u64 = 64;
 
 /// Slots in the order in which the beliefs were added, and how many were emptied since they were last packed.
 pub struct Store {
-    slots: Slots,
+    slots: BeliefSlots,
     frames: Frames,
     keys: Keys,
     emptied: u64,

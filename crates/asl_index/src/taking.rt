@@ -7,7 +7,7 @@ ghost use Rattle.asl_term.specs.declared.syntax.Term.{Term};
 ghost use Rattle.asl_beliefs.specs.Bases.{AreBeliefs};
 ghost use Rattle.asl_beliefs.specs.Changes as spec;
 ghost use Rattle.asl_beliefs.specs.Laws.{NoMatch};
-ghost use Rattle.asl_places.specs.Slots.{at_slot, kept};
+ghost use Rattle.asl_index_tables.specs.Slots.{at_slot, kept};
 ghost use Rattle.asl_index.specs.Hits.{IsHit, left_slot};
 
 use crate::store::Store;

@@ -26,7 +26,7 @@ use Rattle.asl_unify.specs.Turns.{value_in}
 use Rattle.asl_unify.proofs.Twice.{formula-last, trigger-last}
 use Rattle.asl_intend.specs.declared.entry.Means.{Means}
 use Rattle.asl_intend.specs.declared.entry.First.{First}
-use Rattle.asl_intend.specs.declared.entry.Entry.{Entry}
+use Rattle.asl_intend.specs.declared.entry.StackEntry.{StackEntry}
 use Rattle.asl_intend.specs.Means.{applied_means}
 use Rattle.asl_intend.specs.Entries as entry
 use Rattle.asl_intend.specs.Entries.{seen, seen_first, Since, FirstSince}
@@ -55,7 +55,7 @@ module _ (log : List (List Pair)) (s : List Pair) where
   first_bound (Some f) h = formulas_bound [] f.since h (f.formula ∷ [])
 
   -- one more substitution is bound
-  seen_bound : (e : Entry) → Since (length log) e → seen more e ≡ applied_means s (seen log e)
+  seen_bound : (e : StackEntry) → Since (length log) e → seen more e ≡ applied_means s (seen log e)
   seen_bound e h =
       let first = first_bound e.first h.1 in
       let after = formulas_bound e.own e.since h.0 e.body in
@@ -64,7 +64,7 @@ module _ (log : List (List Pair)) (s : List Pair) where
       (drop e.since log))) e.body)) in
       λ i. record { trigger = trigger i; body = body i }
 
-  pub all_bound : (es : List Entry) → AllByRecursion (Since (length log)) es → map (seen more) es ≡ map (applied_means s) (map (seen log) es)
+  pub all_bound : (es : List StackEntry) → AllByRecursion (Since (length log)) es → map (seen more) es ≡ map (applied_means s) (map (seen log) es)
   all_bound [] a = refl
   all_bound (e ∷ es) a = λ i. seen_bound e a.0 i ∷ all_bound es a.1 i
 
@@ -75,7 +75,7 @@ module _ (log : List (List Pair)) (s : List Pair) where
   first_since None h = h
   first_since (Some f) h = longer f.since h
 
-  pub all_since : (es : List Entry) → AllByRecursion (Since (length log)) es → AllByRecursion (Since (length more)) es
+  pub all_since : (es : List StackEntry) → AllByRecursion (Since (length log)) es → AllByRecursion (Since (length more)) es
   all_since [] a = a
   all_since (e ∷ es) a = ((longer e.since a.0.0, first_since e.first a.0.1), all_since es a.1)
 
@@ -98,7 +98,7 @@ get_last ys y d = ap (λ k. get_or (ys ++ y ∷ []) k d) (let e = length-append 
   go (x ∷ ys) = go ys
 
 -- a change of the last entry, as one of the top
-pub top_changed : (f : Entry → Entry) (xs : List Entry) (k : ℕ) (d new : Entry) → 0 < length xs → k ≡ length xs - 1 → new ≡ f (get_or xs k d)
+pub top_changed : (f : StackEntry → StackEntry) (xs : List StackEntry) (k : ℕ) (d new : StackEntry) → 0 < length xs → k ≡ length xs - 1 → new ≡ f (get_or xs k d)
     → reverse (slice_set xs k new) ≡ entry.on_top f (reverse xs)
 top_changed f [] k d new h e g = absurd (omega (arith, h))
 top_changed f (x ∷ xs) k d new h e g =
@@ -109,7 +109,7 @@ top_changed f (x ∷ xs) k d new h e g =
     ∙ set_last r.0 r.1 new in
     ap reverse set ∙ reverse-append r.0 (new ∷ []) ∙ ap (λ z. z ∷ reverse r.0) new_is ∙ ap (entry.on_top f) (sym old)
 
-pub top_tested : (xs : List Entry) (k : ℕ) (d : Entry) → 0 < length xs → k ≡ length xs - 1 → entry.has_first (get_or xs k d) ≡ entry.top_has (reverse xs)
+pub top_tested : (xs : List StackEntry) (k : ℕ) (d : StackEntry) → 0 < length xs → k ≡ length xs - 1 → entry.has_first (get_or xs k d) ≡ entry.top_has (reverse xs)
 top_tested [] k d h e = absurd (omega (arith, h))
 top_tested (x ∷ xs) k d h e =
     let r = last_of x xs in
@@ -119,7 +119,7 @@ top_tested (x ∷ xs) k d h e =
 
 -- what a stack shows
 
-abbrev pub shown : List (List Pair) → List Entry → List Means
+abbrev pub shown : List (List Pair) → List StackEntry → List Means
 shown log es = map (seen log) es
 
 map_drop : {A B : Type 0} (f : A → B) (xs : List A) → drop 1 (map f xs) ≡ map f (drop 1 xs)
@@ -131,7 +131,7 @@ some_first f [] = refl
 some_first f (x ∷ xs) = refl
 
 module _ (log : List (List Pair)) where
-  without_by : (e : Entry) (o : Option First) → e.first ≡ o → seen log (entry.without_in e o) ≡ stacks.without_first (seen log e)
+  without_by : (e : StackEntry) (o : Option First) → e.first ≡ o → seen log (entry.without_in e o) ≡ stacks.without_first (seen log e)
   without_by e (Some f) p = λ i. record {
     trigger = (seen log e).trigger;
     body = drop 1 (seen_first log (sym p i) ++ map (put_formula
@@ -143,16 +143,16 @@ module _ (log : List (List Pair)) where
       let after : seen_first log e.first ++ map g (drop 1 e.body) ≡ map g (drop 1 e.body) = ap (λ o. seen_first log o ++ map g (drop 1 e.body)) p in
       λ i. record { trigger = (seen log e).trigger; body = (after ∙ sym (map_drop g e.body) ∙ ap (drop 1) (sym now)) i }
 
-  seen_without : (e : Entry) → seen log (entry.without_first e) ≡ stacks.without_first (seen log e)
+  seen_without : (e : StackEntry) → seen log (entry.without_first e) ≡ stacks.without_first (seen log e)
   seen_without e = without_by e e.first refl
 
-  has_by : (e : Entry) (o : Option First) → e.first ≡ o → (is_some o || is_some (slice_get e.body 0)) ≡ stacks.has_first (seen log e)
+  has_by : (e : StackEntry) (o : Option First) → e.first ≡ o → (is_some o || is_some (slice_get e.body 0)) ≡ stacks.has_first (seen log e)
   has_by e (Some f) p = ap (λ o. is_some (slice_get (seen_first log o ++ map (put_formula (value_in e.own (drop e.since log))) e.body) 0)) (sym p)
   has_by e None p =
       let g = put_formula (value_in e.own (drop e.since log)) in
       sym (some_first g e.body) ∙ ap (λ o. is_some (slice_get (seen_first log o ++ map g e.body) 0)) (sym p)
 
-  seen_has : (e : Entry) → entry.has_first e ≡ stacks.has_first (seen log e)
+  seen_has : (e : StackEntry) → entry.has_first e ≡ stacks.has_first (seen log e)
   seen_has e = has_by e e.first refl
 
   none_replaced : (f : Formula) (fs : List Formula) → is_some (slice_get fs 0) ≡ false → fs ≡ stacks.replaced f fs
@@ -167,14 +167,14 @@ module _ (log : List (List Pair)) where
   fresh_first : (f : Formula) → put_formula (value_in [] (drop (length log) log)) f ≡ put_formula term.Var f
   fresh_first f = ap (λ l. put_formula (value_in [] l) f) (drop-length log)
 
-  module _ (f : Formula) (e : Entry) where
+  module _ (f : Formula) (e : StackEntry) where
     abbrev g : Formula → Formula
     g = put_formula (value_in e.own (drop e.since log))
 
     abbrev done : Formula
     done = put_formula term.Var f
 
-    abbrev remade : Option First → Entry
+    abbrev remade : Option First → StackEntry
     remade o = record (entry.without_in e o) { first = Some (record { formula = f; since = length log }) }
 
     as_seen : (o : Option First) → e.first ≡ o → stacks.replaced done (seen_first log o ++ map g e.body) ≡ stacks.replaced done (seen log e).body
@@ -193,43 +193,43 @@ module _ (log : List (List Pair)) where
               ∙ ap (λ l. done ∷ l) (sym (map_drop g e.body)) ∙ some_replaced done (map g e.body) (some_first g e.body ∙ has) ∙ as_seen None q) i;
         })
 
-  with_by : (f : Formula) (e : Entry) (b : Bool) → entry.has_first e ≡ b
+  with_by : (f : Formula) (e : StackEntry) (b : Bool) → entry.has_first e ≡ b
       → seen log (cond b (record (entry.without_first e) { first = Some (record { formula = f; since = length log }) }) e) ≡ stacks.with_first f (seen log e)
   with_by f e false p = λ i. record { trigger = (seen log e).trigger; body = none_replaced (put_formula term.Var f) (seen log e).body (sym (seen_has e) ∙ p) i }
   with_by f e true p = with_some f e p e.first refl
 
-  pub shown_without : (es : List Entry) → shown log (entry.on_top entry.without_first es) ≡ stacks.without_head (shown log es)
+  pub shown_without : (es : List StackEntry) → shown log (entry.on_top entry.without_first es) ≡ stacks.without_head (shown log es)
   shown_without [] = refl
   shown_without (e ∷ es) = λ i. seen_without e i ∷ map (seen log) es
 
-  pub shown_has : (es : List Entry) → entry.top_has es ≡ stacks.has_head (shown log es)
+  pub shown_has : (es : List StackEntry) → entry.top_has es ≡ stacks.has_head (shown log es)
   shown_has [] = refl
   shown_has (e ∷ es) = seen_has e
 
-  pub shown_with : (f : Formula) (es : List Entry) → shown log (entry.on_top (entry.with_first f (length log)) es) ≡ stacks.with_head f (shown log es)
+  pub shown_with : (f : Formula) (es : List StackEntry) → shown log (entry.on_top (entry.with_first f (length log)) es) ≡ stacks.with_head f (shown log es)
   shown_with f [] = refl
   shown_with f (e ∷ es) = λ i. with_by f e (entry.has_first e) refl i ∷ map (seen log) es
 
-since_in : (n : ℕ) (e : Entry) (o : Option First) → Since n e → Since n (entry.without_in e o)
+since_in : (n : ℕ) (e : StackEntry) (o : Option First) → Since n e → Since n (entry.without_in e o)
 since_in n e (Some f) h = (h.0, tt)
 since_in n e None h = h
 
-pub since_without : (n : ℕ) (es : List Entry) → AllByRecursion (Since n) es → AllByRecursion (Since n) (entry.on_top entry.without_first es)
+pub since_without : (n : ℕ) (es : List StackEntry) → AllByRecursion (Since n) es → AllByRecursion (Since n) (entry.on_top entry.without_first es)
 since_without n [] a = a
 since_without n (e ∷ es) a = (since_in n e e.first a.0, a.1)
 
-with_in : (n : ℕ) (f : Formula) (e : Entry) (b : Bool) → Since n e → Since n (cond b (record (entry.without_first e) {
+with_in : (n : ℕ) (f : Formula) (e : StackEntry) (b : Bool) → Since n e → Since n (cond b (record (entry.without_first e) {
   first = Some
       (record { formula = f; since = n });
 }) e)
 with_in n f e false h = h
 with_in n f e true h = ((since_in n e e.first h).0, omega arith)
 
-pub since_with : (n : ℕ) (f : Formula) (es : List Entry) → AllByRecursion (Since n) es → AllByRecursion (Since n) (entry.on_top (entry.with_first f n) es)
+pub since_with : (n : ℕ) (f : Formula) (es : List StackEntry) → AllByRecursion (Since n) es → AllByRecursion (Since n) (entry.on_top (entry.with_first f n) es)
 since_with n f [] a = a
 since_with n f (e ∷ es) a = (with_in n f e (entry.has_first e) a.0, a.1)
 
-pub pushed : (log : List (List Pair)) (xs ys : List Entry) (e : Entry) → ys ≡ xs ++ e ∷ [] → shown log (reverse ys) ≡ seen log e ∷ shown log (reverse xs)
+pub pushed : (log : List (List Pair)) (xs ys : List StackEntry) (e : StackEntry) → ys ≡ xs ++ e ∷ [] → shown log (reverse ys) ≡ seen log e ∷ shown log (reverse xs)
 pushed log xs ys e h = ap (λ l. shown log (reverse l)) h ∙ ap (shown log) (reverse-append xs (e ∷ []))
 
 pub seen_pushed : (log : List (List Pair)) (own s : List Pair) (n : ℕ) (m : Means) → n ≡ length log → own ≡ s
@@ -238,11 +238,11 @@ seen_pushed log own s n m h q =
     let rest = ap (λ k. drop k log) h ∙ drop-length log in
     λ i. record { trigger = put_trigger (value_in (q i) (rest i)) m.trigger; body = map (put_formula (value_in (q i) (rest i))) m.body }
 
-pub head_shown : (log : List (List Pair)) (xs : List Entry) (e : Entry) → slice_get xs 0 ≡ Some e → stacks.head (shown log xs) ≡ stacks.first (seen log e)
+pub head_shown : (log : List (List Pair)) (xs : List StackEntry) (e : StackEntry) → slice_get xs 0 ≡ Some e → stacks.head (shown log xs) ≡ stacks.first (seen log e)
 head_shown log [] e h = cc
 head_shown log (x ∷ xs) e h = let same : x ≡ e = cc in ap (λ z. stacks.first (seen log z)) same
 
-pub trigger_shown : (log : List (List Pair)) (xs : List Entry) (k : ℕ) (e : Entry) → slice_get xs k ≡ Some e
+pub trigger_shown : (log : List (List Pair)) (xs : List StackEntry) (k : ℕ) (e : StackEntry) → slice_get xs k ≡ Some e
     → stacks.trigger_at (shown log xs) k ≡ Some (seen log e).trigger
 trigger_shown log xs k e h = ap (option_map (λ m. m.trigger)) (slice_get-map (seen log) xs k)
     ∙ ap (λ o. option_map (λ m. m.trigger) (option_map (seen log) o)) h
@@ -281,7 +281,7 @@ goal_missed g l h true kind.Achieve e =
     (frame_put g l h ∙ e)
 
 -- where no literal may name it, what becomes of the trigger is not named
-pub not_named : (log : List (List Pair)) (e : Entry) (g : LiteralOf Term) → entry.can_name g e.trigger ≡ false
+pub not_named : (log : List (List Pair)) (e : StackEntry) (g : LiteralOf Term) → entry.can_name g e.trigger ≡ false
     → stacks.names_goal g (seen log e).trigger ≡ false
 not_named log e g h = goal_missed g e.trigger.lit (value_in e.own (drop e.since log)) e.trigger.add e.trigger.kind h
 
@@ -295,7 +295,7 @@ match_missed g l h true kind.Achieve e =
     (frame_put g l h ∙ e)
 
 -- what may be named is named where the literals match
-pub named_by_match : (log : List (List Pair)) (e : Entry) (g : LiteralOf Term) → entry.can_name g e.trigger ≡ true
+pub named_by_match : (log : List (List Pair)) (e : StackEntry) (g : LiteralOf Term) → entry.can_name g e.trigger ≡ true
     → stacks.matched_at g [] (Some (seen log e).trigger) ≡ stacks.names_goal g (seen log e).trigger
 named_by_match log e g h =
     let l = put_literal (value_in e.own (drop e.since log)) e.trigger.lit in
@@ -313,7 +313,7 @@ none_first : (ms : List (List Pair)) → stacks.any_match ms ≡ false → slice
 none_first [] e = refl
 none_first (m ∷ ms) e = cc
 
-pub none_matched : (log : List (List Pair)) (e : Entry) (g : LiteralOf Term) → stacks.matched_at g [] (Some (seen log e).trigger) ≡ false
+pub none_matched : (log : List (List Pair)) (e : StackEntry) (g : LiteralOf Term) → stacks.matched_at g [] (Some (seen log e).trigger) ≡ false
     → stacks.goal_match g (seen log e).trigger ≡ None
 none_matched log e g h = go (e.trigger.add && entry.is_achieve e.trigger.kind) where
   l : LiteralOf Term
@@ -327,7 +327,7 @@ none_matched log e g h = go (e.trigger.add && entry.is_achieve e.trigger.kind) w
   go false = refl
 
 -- and no match is found
-pub not_matched : (log : List (List Pair)) (e : Entry) (g : LiteralOf Term) → entry.can_name g e.trigger ≡ false
+pub not_matched : (log : List (List Pair)) (e : StackEntry) (g : LiteralOf Term) → entry.can_name g e.trigger ≡ false
     → stacks.goal_match g (seen log e).trigger ≡ None
 not_matched log e g h = match_missed g e.trigger.lit (value_in e.own (drop e.since log)) e.trigger.add e.trigger.kind h
 
@@ -344,22 +344,22 @@ module _ (g : LiteralOf Term) where
       ap (stacks.has_goal g) (reverse-append (x ∷ []) xs) ∙ has_joined (reverse xs) (x ∷ []) ∙ (λ i. has_reversed xs i || or_right one i)
       ∙ or_swap (stacks.has_goal g xs) one
 
-  pub has_shown : (log : List (List Pair)) (es : List Entry) → stacks.has_goal g (shown log es) ≡ stacks.has_goal g (shown log (reverse es))
+  pub has_shown : (log : List (List Pair)) (es : List StackEntry) → stacks.has_goal g (shown log es) ≡ stacks.has_goal g (shown log (reverse es))
   has_shown log es = sym (has_reversed (shown log es)) ∙ ap (stacks.has_goal g) (sym (map_reversed (seen log) es))
 
   -- the next entry decides, or the others do
-  pub next_names : (log : List (List Pair)) (es : List Entry) (k : ℕ) (d u : Entry) → k < length es → u ≡ get_or es k d
+  pub next_names : (log : List (List Pair)) (es : List StackEntry) (k : ℕ) (d u : StackEntry) → k < length es → u ≡ get_or es k d
       → stacks.has_goal g (shown log (drop k es)) ≡ (stacks.names_goal g (seen log u).trigger || stacks.has_goal g (shown log (drop (k + 1) es)))
   next_names log es k d u h e = ap (stacks.has_goal g) (at_drop_more (map (seen log)) es k d h)
       ∙ ap (λ z. stacks.names_goal g (seen log z).trigger || stacks.has_goal g (shown log (drop (k + 1) es))) (sym e)
 
 -- the top, where an entry is there or not
 
-pub top_at : (es : List Entry) (e : Entry) → slice_get es 0 ≡ Some e → entry.has_first e ≡ entry.top_has es
+pub top_at : (es : List StackEntry) (e : StackEntry) → slice_get es 0 ≡ Some e → entry.has_first e ≡ entry.top_has es
 top_at [] e h = cc
 top_at (x ∷ es) e h = let same : x ≡ e = cc in ap entry.has_first (sym same)
 
-pub no_top : (es : List Entry) → slice_get es 0 ≡ None → false ≡ entry.top_has es
+pub no_top : (es : List StackEntry) → slice_get es 0 ≡ None → false ≡ entry.top_has es
 no_top [] h = refl
 no_top (x ∷ es) h = cc
 
@@ -370,11 +370,11 @@ first_is_any (s ∷ ss) = refl
 
 -- the first formula that means show
 
-pub first_put : (log : List (List Pair)) (e : Entry) (f : First) → e.first ≡ Some f
+pub first_put : (log : List (List Pair)) (e : StackEntry) (f : First) → e.first ≡ Some f
     → stacks.first (seen log e) ≡ Some (put_formula (value_in [] (drop f.since log)) f.formula)
 first_put log e f h = ap (λ o. slice_get (entry.seen_first log o ++ map (put_formula (value_in e.own (drop e.since log))) e.body) 0) h
 
-pub first_own : (log : List (List Pair)) (e : Entry) → e.first ≡ None → stacks.first (seen log e) ≡ entry.first_of_body log e
+pub first_own : (log : List (List Pair)) (e : StackEntry) → e.first ≡ None → stacks.first (seen log e) ≡ entry.first_of_body log e
 first_own log e h =
     let f = put_formula (value_in e.own (drop e.since log)) in
     ap (λ o. slice_get (entry.seen_first log o ++ map f e.body) 0) h ∙ slice_get-map f e.body 0

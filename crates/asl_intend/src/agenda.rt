@@ -5,9 +5,9 @@ ghost use Rattle.asl_intend.specs.Agendas as spec;
 
 use crate::dropping::{drop_named, drop_named_events, drop_wanted_events};
 use crate::stack::Stack;
-use asl_queue::queue::Queue;
 use asl_term::sequence::{Seq, Starved};
 use asl_term::syntax::{Literal, Term, Trigger};
+use asl_term_queue::queue::Queue;
 use std::alloc::Global;
 
 /// Why a goal failed.

@@ -33,7 +33,7 @@ pub struct First {
 
 /// Means as they were pushed, but for the formulas that were taken away.
 #[derive(Drop)]
-pub struct Entry {
+pub struct StackEntry {
     pub trigger: Trigger,
     /// Put into these means alone, before what is bound later.
     pub own: Subst,
@@ -61,7 +61,7 @@ fn bound_since(log: &[Subst], n: u64) -> &[Subst]
     }
 }
 
-impl Entry {
+impl StackEntry {
     /// Whether there is a first formula.
     pub fn has_first(&self) -> bool
         ensures { result ≡ spec.has_first self.now }

@@ -6,7 +6,7 @@ ghost use Rattle.asl_intend.specs.Entries as spec;
 ghost use Rattle.asl_intend.specs.Means as means;
 ghost use Rattle.asl_intend.specs.Stacks as stacks;
 
-use crate::entry::{Entry, Means};
+use crate::entry::{Means, StackEntry};
 use asl_term::sequence::{Seq, Starved};
 use asl_term::syntax::{Formula, Literal, Term, Trigger};
 use asl_unify::limits::TermFault;
@@ -18,7 +18,7 @@ use std::marker::Model;
 pub struct Stack {
     /// What was bound, the oldest first.
     log: Seq<Subst>,
-    entries: Vec<Entry>,
+    entries: Vec<StackEntry>,
 }
 
 /// By hand, so that a crate above that lets one go proves nothing of its parts.
@@ -47,7 +47,7 @@ impl Model for Stack {
 }
 
 /// The entry at a place, the last being 0.
-fn from_top(entries: &[Entry], k: u64) -> Option<&Entry>
+fn from_top(entries: &[StackEntry], k: u64) -> Option<&StackEntry>
     ensures { MatchOption result (slice_get (reverse entries.now) k ≡ None) (λ e. slice_get (reverse entries.now) k ≡ Some e.now) }
 {
     let n = entries.len() as u64;
@@ -59,7 +59,7 @@ fn from_top(entries: &[Entry], k: u64) -> Option<&Entry>
 }
 
 /// Puts an entry last.
-fn put_last(entries: &mut Vec<Entry>, e: Entry) -> Result<(), Starved>
+fn put_last(entries: &mut Vec<StackEntry>, e: StackEntry) -> Result<(), Starved>
     ensures ok { OnOk result (entries.new.items ≡ entries.old.items ++ e ∷ []) }
     ensures err { OnErr result (entries.new.items ≡ entries.old.items) }
 {
@@ -74,7 +74,7 @@ fn put_last(entries: &mut Vec<Entry>, e: Entry) -> Result<(), Starved>
 }
 
 /// Takes away the first formula of the last entry. False where there is none.
-fn remove_last_first(entries: &mut Vec<Entry>) -> bool
+fn remove_last_first(entries: &mut Vec<StackEntry>) -> bool
     ensures value { result ≡ spec.top_has (reverse entries.old.items) }
     ensures rest { reverse entries.new.items ≡ spec.on_top spec.without_first (reverse entries.old.items) }
 {
@@ -86,7 +86,7 @@ fn remove_last_first(entries: &mut Vec<Entry>) -> bool
 }
 
 /// Puts a formula in the place of the first one of the last entry. False where there is none.
-fn set_last_first(entries: &mut Vec<Entry>, f: Formula, since: u64) -> bool
+fn set_last_first(entries: &mut Vec<StackEntry>, f: Formula, since: u64) -> bool
     ensures value { result ≡ spec.top_has (reverse entries.old.items) }
     ensures rest { reverse entries.new.items ≡ spec.on_top (spec.with_first f since) (reverse entries.old.items) }
 {
@@ -99,7 +99,12 @@ fn set_last_first(entries: &mut Vec<Entry>, f: Formula, since: u64) -> bool
 }
 
 /// Whether the literal names the goal of some entry.
-fn any_names(alloc: Global, entries: &[Entry], log: &[Subst], g: &Literal) -> Result<bool, Starved>
+fn any_names(
+    alloc: Global,
+    entries: &[StackEntry],
+    log: &[Subst],
+    g: &Literal,
+) -> Result<bool, Starved>
     ensures { IfOk result (λ r. r ≡ stacks.has_goal g.now (map (spec.seen log.now) entries.now)) }
 {
     for e in entries {
@@ -137,7 +142,7 @@ impl Stack {
         let own = copy_subst(self.log.alloc(), s)?;
         let Means { trigger, body } = m;
         let since = self.log.len();
-        let entry = Entry {
+        let entry = StackEntry {
             trigger,
             own,
             since,

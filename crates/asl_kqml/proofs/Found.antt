@@ -9,8 +9,8 @@ use Rattle.asl_unify.specs.Applied.{applied_literal, within_literal}
 use Rattle.asl_unify.specs.Limits.{within}
 use Rattle.asl_unify.specs.Puts.{nil, value_of, apply}
 use Rattle.asl_unify.proofs.General.{put-lit}
-use Rattle.asl_state.specs.Parts.{Parts}
-use Rattle.asl_state.specs.declared.rows.Row.TheVariants as row
+use Rattle.asl_exec_circumstance.specs.Circumstance.{Circumstance}
+use Rattle.asl_exec_circumstance.specs.declared.rows.Row.TheVariants as row
 use Rattle.asl_resolve.specs.Calls.{listed}
 use Rattle.asl_resolve.specs.Listed.{list_of}
 use Rattle.asl_resolve.specs.declared.answers.Answers.{Answers}
@@ -48,7 +48,7 @@ items_of g (s ∷ more) =
 same_list : (g : LiteralOf Term) (found : List (List Pair)) → listed (term.Lit g) found ≡ list (ones g found)
 same_list g found = ap (λ xs. closed xs) (items_of g found)
 
-module _ (me : ℕ) (m : Message) (p : Parts) (g : LiteralOf Term) where
+module _ (me : ℕ) (m : Message) (p : Circumstance) (g : LiteralOf Term) where
   by_list : (t : Term) (b : Bool) → ask_listed me m p (cond b (given.List t) given.TermLimit) ≡ replies row.AskAll p (reply me m (cond b t nil))
   by_list t true = refl
   by_list t false = refl

@@ -16,7 +16,7 @@ use Rattle.asl_beliefs.specs.Bases.{all_ground}
 use Rattle.asl_beliefs.specs.Sources.{is_source, source}
 use Rattle.asl_beliefs.proofs.Initial.{source_ground, all_ground_map}
 use Rattle.asl_beliefs.proofs.Sound.{both_true, true_both, ground_parts, ground_with, ground_append, ground_filter}
-use Rattle.asl_state.specs.Contents.{literal_layer, before, all_literals, literals_layer, literals_of, ground_literals}
+use Rattle.asl_exec_circumstance.specs.Contents.{literal_layer, before, all_literals, literals_layer, literals_of, ground_literals}
 use Rattle.asl_kqml.specs.Receive.{sourced}
 
 -- literals without variables, where there are literals

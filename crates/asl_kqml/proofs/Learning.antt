@@ -5,7 +5,7 @@ use Rattle.asl_term.specs.declared.syntax.Term.{Term}
 use Rattle.asl_unify.specs.Renamed.{renamed}
 use Rattle.mas_mind.specs.declared.mind.Verb.{Verb}
 use Rattle.mas_mind.specs.declared.mind.Verb.TheVariants as verb
-use Rattle.asl_plans.specs.declared.entry.Entry.{Entry}
+use Rattle.asl_plans.specs.declared.entry.OwnedPlan.{OwnedPlan}
 use Rattle.asl_plans.specs.declared.entry.Which.{Which}
 use Rattle.asl_plans.specs.Laws.{KeepsOwner}
 use Rattle.asl_plans.specs.Libraries.{added, all_added}
@@ -14,11 +14,11 @@ use Rattle.asl_kqml.specs.Contents.{plans_of, which_of}
 use Rattle.asl_kqml.specs.Receive.{tell_how, untell_how, learns, learned}
 use Rattle.asl_kqml.specs.Laws.{MessagesKeep}
 
-all_keep : (ps : List Plan) (from o : ℕ) (lib : List Entry) → KeepsOwner o lib (all_added ps from lib)
+all_keep : (ps : List Plan) (from o : ℕ) (lib : List OwnedPlan) → KeepsOwner o lib (all_added ps from lib)
 all_keep [] from o lib p h = h
 all_keep (q ∷ more) from o lib p h = all_keep more from o (added q from lib) p (adding_keeps q from o lib p h)
 
-module _ (lib : List Entry) (from o : ℕ) (other : o ≡ from → ⊥) where
+module _ (lib : List OwnedPlan) (from o : ℕ) (other : o ≡ from → ⊥) where
   tells : (ps : Option (List Plan)) → KeepsOwner o lib (tell_how from lib ps).plans
   tells None p h = h
   tells (Some ps) p h = all_keep ps from o lib p h

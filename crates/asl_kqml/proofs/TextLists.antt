@@ -11,7 +11,7 @@ use Rattle.asl_unify.specs.Limits.{within}
 use Rattle.asl_unify.specs.Puts.{nil}
 use Rattle.asl_unify.specs.inner.Leaves.{sizes, depths}
 use Rattle.asl_unify.proofs.Sizes.{sizes_cons, fits_within, passes_within}
-use Rattle.asl_plans.specs.declared.entry.Entry.{Entry}
+use Rattle.asl_plans.specs.declared.entry.OwnedPlan.{OwnedPlan}
 use Rattle.asl_plans.specs.declared.library.Choice.{Choice}
 use Rattle.asl_kqml.specs.Receive.{choice_text, texts_of, string_items, string_list, limited_strings}
 
@@ -54,7 +54,7 @@ many_texts texts h =
 -- ---- one more text
 
 -- where the first texts are too many, all are
-pub too_many : (lib : List Entry) (cs : List Choice) (k : ℕ) (c : Choice) (found : List Term) → k < length cs
+pub too_many : (lib : List OwnedPlan) (cs : List Choice) (k : ℕ) (c : Choice) (found : List Term) → k < length cs
     → found ≡ string_items (texts_of lib (take k cs)) ++ string_items (option_to_list (choice_text lib (get_or cs k c)))
     → 9999 < length found → 9999 < length (texts_of lib cs)
 too_many lib cs k c found lt is h =

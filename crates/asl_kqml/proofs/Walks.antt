@@ -7,7 +7,7 @@ use Rattle.asl_term.specs.declared.syntax.Trigger.{Trigger}
 use Rattle.asl_beliefs.specs.Changes.{Changed, followed}
 use Rattle.asl_intend.specs.declared.agenda.Agenda.{Agenda}
 use Rattle.asl_intend.specs.Agendas.{external_event, external}
-use Rattle.asl_state.specs.Parts.{told}
+use Rattle.asl_exec_circumstance.specs.Circumstance.{told}
 
 told_none : (a : Agenda) → told a [] ≡ a
 told_none a = ap (λ v. record a { events = v }) (append-nil a.events)

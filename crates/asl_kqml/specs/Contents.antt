@@ -9,8 +9,8 @@ use Rattle.asl_term.specs.declared.syntax.Term.TheViews.{out-Term}
 use Rattle.asl_term.specs.declared.syntax.Plan.{Plan}
 use Rattle.asl_plans.specs.declared.entry.Which.{Which}
 use Rattle.asl_plans.specs.declared.entry.Which.TheVariants as which
-use Rattle.asl_plan_text.specs.Plans.{plan_in}
-use Rattle.asl_state.specs.Contents.{before, is_atom}
+use Rattle.asl_print_plan.specs.Plans.{plan_in}
+use Rattle.asl_exec_circumstance.specs.Contents.{before, is_atom}
 
 abbrev pub plan_layer : Term-F Term → Option Plan
 plan_layer (layer.Str s) = plan_in s

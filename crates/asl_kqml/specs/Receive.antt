@@ -33,39 +33,39 @@ use Rattle.asl_intend.specs.declared.agenda.Error.TheVariants as error
 use Rattle.asl_intend.specs.Stacks.{bound, without_head}
 use Rattle.asl_intend.specs.Agendas.{external_event, ask_of, without_ask, without_desires}
 use Rattle.asl_fail.specs.Fails.{fails}
-use Rattle.asl_state.specs.declared.rows.Row.{Row}
-use Rattle.asl_state.specs.declared.rows.Row.TheVariants as row
-use Rattle.asl_state.specs.Parts.{Around, Parts, with_agenda, with_number, post, running, goal_trigger, believing}
-use Rattle.asl_state.specs.Sought.{sought}
+use Rattle.asl_exec_circumstance.specs.declared.rows.Row.{Row}
+use Rattle.asl_exec_circumstance.specs.declared.rows.Row.TheVariants as row
+use Rattle.asl_exec_circumstance.specs.Circumstance.{Surroundings, Circumstance, with_agenda, with_number, post, running, goal_trigger, believing}
+use Rattle.asl_exec_circumstance.specs.Sought.{sought}
 use Rattle.mas_mind.specs.declared.mind.Message.{Message}
 use Rattle.mas_mind.specs.declared.mind.Verb.{Verb}
 use Rattle.mas_mind.specs.declared.mind.Verb.TheVariants as verb
-use Rattle.asl_state.specs.declared.peers.Peers.{Peers}
+use Rattle.asl_exec_circumstance.specs.declared.peers.Peers.{Peers}
 use Rattle.asl_kqml.specs.declared.took.Took.{Took}
 use Rattle.asl_kqml.specs.declared.took.Took.TheVariants as took
-use Rattle.asl_plans.specs.declared.entry.Entry.{Entry}
+use Rattle.asl_plans.specs.declared.entry.OwnedPlan.{OwnedPlan}
 use Rattle.asl_plans.specs.declared.entry.Which.{Which}
 use Rattle.asl_plans.specs.declared.library.Choice.{Choice}
 use Rattle.asl_plans.specs.Plans.{relevant}
 use Rattle.asl_plans.specs.Libraries.{plan_at}
 use Rattle.asl_plans.specs.Libraries as plans
 use Rattle.asl_print.specs.Agents.{plan_line}
-use Rattle.asl_state.specs.Contents.{agent_name, literal_of, literals_of, ground_literals}
+use Rattle.asl_exec_circumstance.specs.Contents.{agent_name, literal_of, literals_of, ground_literals}
 use Rattle.asl_kqml.specs.Contents.{is_nothing, plans_of, which_of}
 
 -- what a message leaves, and what it did
 pub record Received : Type 0 where
-  pub parts : Parts
+  pub parts : Circumstance
   pub took : Took
 
-abbrev pub received : Parts → Took → Received
+abbrev pub received : Circumstance → Took → Received
 received p t = record { parts = p; took = t }
 
 -- a row with neither a reply nor a failure
-abbrev pub by : Row → Parts → Received
+abbrev pub by : Row → Circumstance → Received
 by r p = received p (took.Row r None [])
 
-abbrev pub ignored : Parts → Received
+abbrev pub ignored : Circumstance → Received
 ignored = by row.Ignore
 
 -- ---- Tell and Untell
@@ -83,24 +83,24 @@ abbrev pub all_removed : List (LiteralOf Term) → List (LiteralOf Term) → Cha
 all_removed [] bs = record { beliefs = bs; events = [] }
 all_removed (l ∷ more) bs = followed (without_match (removed l [] bs)) (all_removed more)
 
-abbrev pub changed : Row → Parts → Changed → Received
+abbrev pub changed : Row → Circumstance → Changed → Received
 changed r p c = by r (believing p c.beliefs c.events)
 
-abbrev pub tell : List ℕ → Parts → Option (List (LiteralOf Term)) → Received
+abbrev pub tell : List ℕ → Circumstance → Option (List (LiteralOf Term)) → Received
 tell name p None = ignored p
 tell name p (Some ls) = changed row.Tell p (all_added (map (sourced name) ls) p.beliefs)
 
-abbrev pub untell : List ℕ → Parts → Option (List (LiteralOf Term)) → Received
+abbrev pub untell : List ℕ → Circumstance → Option (List (LiteralOf Term)) → Received
 untell name p None = ignored p
 untell name p (Some ls) = changed row.Untell p (all_removed (map (only_from name) ls) p.beliefs)
 
 -- ---- Achieve and Unachieve
 
-abbrev pub achieve : List ℕ → Parts → Option (LiteralOf Term) → Received
+abbrev pub achieve : List ℕ → Circumstance → Option (LiteralOf Term) → Received
 achieve name p None = ignored p
 achieve name p (Some g) = by row.Achieve (post p (external_event (goal_trigger kind.Achieve (sourced name g))))
 
-abbrev pub unachieve : Parts → Option (LiteralOf Term) → Received
+abbrev pub unachieve : Circumstance → Option (LiteralOf Term) → Received
 unachieve p None = ignored p
 unachieve p (Some g) = by row.Unachieve (with_agenda p (without_desires g p.agenda))
 
@@ -114,7 +114,7 @@ reply_by v me m t = cond (eqb m.ask 0 && is_nothing t) None
 abbrev pub reply : ℕ → Message → Term → Option Message
 reply = reply_by verb.Tell
 
-abbrev pub replies : Row → Parts → Option Message → Received
+abbrev pub replies : Row → Circumstance → Option Message → Received
 replies r p m = received p (took.Row r m [])
 
 -- `false`
@@ -126,7 +126,7 @@ abbrev pub one_answer : LiteralOf Term → Answer → Term
 one_answer g (answer.Found s n) = cond (within_literal (applied_literal s g)) (term.Lit (applied_literal s g)) no
 one_answer g other = no
 
-abbrev pub ask_one : ℕ → Message → Parts → LiteralOf Term → Answer → Received
+abbrev pub ask_one : ℕ → Message → Circumstance → LiteralOf Term → Answer → Received
 ask_one me m p g (answer.Spent b) = received p (took.Spent b)
 ask_one me m p g other = replies row.AskOne p (reply me m (one_answer g other))
 
@@ -140,32 +140,32 @@ abbrev pub all_answer : LiteralOf Term → Answers → Term
 all_answer g (answers.All found) = limited_list (map (λ s. applied_literal s g) found)
 all_answer g other = nil
 
-abbrev pub ask_all : ℕ → Message → Parts → LiteralOf Term → Answers → Received
+abbrev pub ask_all : ℕ → Message → Circumstance → LiteralOf Term → Answers → Received
 ask_all me m p g (answers.Spent b) = received p (took.Spent b)
 ask_all me m p g other = replies row.AskAll p (reply me m (all_answer g other))
 
 -- what the search for all solutions answers
-abbrev pub sought_all : Around → Parts → LiteralOf Term → Answers
+abbrev pub sought_all : Surroundings → Circumstance → LiteralOf Term → Answers
 sought_all k p g = every k.budgets.tries [] (marks (base (facts_of p.beliefs k.rules) k.solve) k.budgets.depth (expr.Holds g) [] p.number)
 
-abbrev pub asks_one : Around → ℕ → Message → Parts → Option (LiteralOf Term) → Received
+abbrev pub asks_one : Surroundings → ℕ → Message → Circumstance → Option (LiteralOf Term) → Received
 asks_one k me m p None = ignored p
 asks_one k me m p (Some g) = ask_one me m p g (sought k p (expr.Holds g))
 
-abbrev pub asks_all : Around → ℕ → Message → Parts → Option (LiteralOf Term) → Received
+abbrev pub asks_all : Surroundings → ℕ → Message → Circumstance → Option (LiteralOf Term) → Received
 asks_all k me m p None = ignored p
 asks_all k me m p (Some g) = ask_all me m p g (sought_all k p g)
 
 -- ---- Reply and ReplyFail
 
-abbrev pub answered : Around → Parts → List Means → Option (List Pair) → Received
+abbrev pub answered : Surroundings → Circumstance → List Means → Option (List Pair) → Received
 answered k p stack (Some s) = by row.Reply (running p (without_head (bound s stack)))
 answered k p stack None =
     let f = fails k.plans p.number error.IaFailed p.agenda stack in
     received (with_agenda p f.agenda) (took.Row row.ReplyFail None (record { error = error.IaFailed; fell = f.fell } ∷ []))
 
 -- the ask is answered: the term that takes the answer is the left one
-abbrev pub answers_ask : Around → Parts → ℕ → Term → Option Ask → Received
+abbrev pub answers_ask : Surroundings → Circumstance → ℕ → Term → Option Ask → Received
 answers_ask k p n content None = ignored p
 answers_ask k p n content (Some a) =
     answered k (with_agenda p (record p.agenda { asks = without_ask n p.agenda.asks })) a.stack (agreed (unified [] (ask a.answer content ∷ [])))
@@ -174,38 +174,38 @@ answers_ask k p n content (Some a) =
 
 -- what a message makes of the plans, and its row
 pub record Learned : Type 0 where
-  pub plans : List Entry
+  pub plans : List OwnedPlan
   pub row : Row
 
-abbrev pub learned_by : Row → List Entry → Learned
+abbrev pub learned_by : Row → List OwnedPlan → Learned
 learned_by r lib = record { plans = lib; row = r }
 
 -- plans that the sender tells are added one after another, from it
-abbrev pub tell_how : ℕ → List Entry → Option (List Plan) → Learned
+abbrev pub tell_how : ℕ → List OwnedPlan → Option (List Plan) → Learned
 tell_how from lib None = learned_by row.Ignore lib
 tell_how from lib (Some ps) = learned_by row.TellHow (plans.all_added ps from lib)
 
 -- plans that it takes back are no longer from it
-abbrev pub untell_how : ℕ → List Entry → Option Which → Learned
+abbrev pub untell_how : ℕ → List OwnedPlan → Option Which → Learned
 untell_how from lib None = learned_by row.Ignore lib
 untell_how from lib (Some w) = learned_by row.UntellHow (plans.dropped w from lib)
 
-abbrev pub learns : List Entry → ℕ → Term → Verb → Learned
+abbrev pub learns : List OwnedPlan → ℕ → Term → Verb → Learned
 learns lib from content verb.TellHow = tell_how from lib (plans_of content)
 learns lib from content verb.UntellHow = untell_how from lib (which_of content)
 learns lib from content other = learned_by row.Ignore lib
 
 -- the plans after a message (no other verb changes them)
-unfoldable pub learned : List Entry → ℕ → Message → List Entry
+unfoldable pub learned : List OwnedPlan → ℕ → Message → List OwnedPlan
 learned lib n m = (learns lib m.from (renamed n m.content) m.verb).plans
 
 -- ---- AskHow
 
 -- the text of a chosen plan
-abbrev pub choice_text : List Entry → Choice → Option (List ℕ)
+abbrev pub choice_text : List OwnedPlan → Choice → Option (List ℕ)
 choice_text lib c = option_map plan_line (plan_at lib c.plan)
 
-abbrev pub texts_of : List Entry → List Choice → List (List ℕ)
+abbrev pub texts_of : List OwnedPlan → List Choice → List (List ℕ)
 texts_of lib choices = flat_map (λ c. option_to_list (choice_text lib c)) choices
 
 abbrev pub string_items : List (List ℕ) → List Term
@@ -219,23 +219,23 @@ abbrev pub limited_strings : List (List ℕ) → Term
 limited_strings texts = cond (within (string_list texts)) (string_list texts) nil
 
 -- the texts of the plans that are relevant for +!g, in order
-abbrev pub how_answer : List Entry → ℕ → LiteralOf Term → Term
+abbrev pub how_answer : List OwnedPlan → ℕ → LiteralOf Term → Term
 how_answer lib n g = limited_strings (texts_of lib (relevant lib n (goal_trigger kind.Achieve g)))
 
 -- to an ask without a number they are told as plans
 abbrev pub how_verb : Message → Verb
 how_verb m = cond (eqb m.ask 0) verb.TellHow verb.Tell
 
-abbrev pub asks_how : Around → ℕ → Message → Parts → Option (LiteralOf Term) → Received
+abbrev pub asks_how : Surroundings → ℕ → Message → Circumstance → Option (LiteralOf Term) → Received
 asks_how k me m p None = ignored p
 asks_how k me m p (Some g) = replies row.AskHow p (reply_by (how_verb m) me m (how_answer k.plans p.number g))
 
 -- ---- the row of a message
 
-abbrev pub tells : Around → List ℕ → Parts → Message → Term → Received
+abbrev pub tells : Surroundings → List ℕ → Circumstance → Message → Term → Received
 tells k name p m content = cond (eqb m.reply 0) (tell name p (ground_literals content)) (answers_ask k p m.reply content (ask_of m.reply p.agenda.asks))
 
-abbrev pub of_verb : Around → ℕ → List ℕ → Parts → Message → Term → Verb → Received
+abbrev pub of_verb : Surroundings → ℕ → List ℕ → Circumstance → Message → Term → Verb → Received
 of_verb k me name p m content verb.Tell = tells k name p m content
 of_verb k me name p m content verb.Untell = untell name p (literals_of content)
 of_verb k me name p m content verb.Achieve = achieve name p (literal_of content)
@@ -247,5 +247,5 @@ of_verb k me name p m content verb.UntellHow = by (learns k.plans m.from content
 of_verb k me name p m content verb.AskHow = asks_how k me m p (literal_of content)
 
 -- the content is renamed by the counter, which rises by one (shut, so that proofs above do not look inside)
-unfoldable pub receive : Around → Peers → Parts → Message → Received
+unfoldable pub receive : Surroundings → Peers → Circumstance → Message → Received
 receive k peers p m = of_verb k peers.me (agent_name peers.names m.from) (with_number p (p.number + 1)) m (renamed p.number m.content) m.verb

@@ -4,8 +4,8 @@ ghost use Rattle.std.specs.Prelude.{◌≡◌, ◌+◌, ◌<◌, ◌^◌, ◌-�
 ghost use Rattle.asl_term.specs.declared.syntax.Expr.TheVariants as expr;
 ghost use Rattle.asl_term.specs.declared.syntax.Term.TheVariants as term;
 ghost use Rattle.asl_unify.specs.Applied.{applied_literal, within_literal};
-ghost use Rattle.asl_state.specs.Parts as parts;
-ghost use Rattle.asl_state.specs.Sought as searches;
+ghost use Rattle.asl_exec_circumstance.specs.Circumstance as parts;
+ghost use Rattle.asl_exec_circumstance.specs.Sought as searches;
 ghost use Rattle.asl_resolve.specs.Listed.{list_of};
 ghost use Rattle.asl_kqml.specs.Receive as spec;
 ghost use Rattle.asl_kqml.specs.inner.Asks as inner;
@@ -13,12 +13,12 @@ ghost use Rattle.asl_kqml.specs.inner.Asks as inner;
 use crate::content::is_nothing;
 use crate::took::{Took, by};
 use asl_beliefs::base::BeliefBase;
+use asl_exec_circumstance::parts::{Circumstance, Surroundings};
+use asl_exec_circumstance::rows::Row;
+use asl_exec_circumstance::sought::sought;
 use asl_resolve::actions::Actions;
 use asl_resolve::all::all_listed;
 use asl_resolve::answers::{Answer, Listed};
-use asl_state::parts::{Around, Parts};
-use asl_state::rows::Row;
-use asl_state::sought::sought;
 use asl_term::copying::{copy_literal, text_of};
 use asl_term::sequence::{Seq, Starved};
 use asl_term::syntax::{Expr, ListingOf, Literal, LiteralOf, Term, Terms};
@@ -55,7 +55,7 @@ pub fn reply_by(
 
 /// A row with this reply.
 fn replies(alloc: Global, row: Row, me: u32, m: &Message, t: &Term) -> Result<Took, Starved>
-    ensures { IfOk result (λ took. (p : parts.Parts) → spec.replies row p (spec.reply me m.now t.now) ≡ spec.received p took) }
+    ensures { IfOk result (λ took. (p : parts.Circumstance) → spec.replies row p (spec.reply me m.now t.now) ≡ spec.received p took) }
 {
     let reply = reply_by(alloc, Verb::Tell, me, m, t)?;
     Ok(Took::Row {
@@ -97,7 +97,7 @@ fn ask_one(
     g: &Literal,
     answer: &Answer,
 ) -> Result<Took, Starved>
-    ensures { IfOk result (λ t. (p : parts.Parts) → spec.ask_one me m.now p g.now answer.now ≡ spec.received p t) }
+    ensures { IfOk result (λ t. (p : parts.Circumstance) → spec.ask_one me m.now p g.now answer.now ≡ spec.received p t) }
 {
     match answer {
         Answer::Spent(b) => Ok(Took::Spent(*b)),
@@ -126,7 +126,7 @@ pub fn list(items: Terms) -> Term
 /// AskAll or AskSpent, by the list of the goal over all solutions. Where the search or the list passes the limits, it is
 /// empty.
 fn ask_all(alloc: Global, me: u32, m: &Message, answer: &Listed) -> Result<Took, Starved>
-    ensures { IfOk result (λ t. (p : parts.Parts) → inner.ask_listed me m.now p answer.now ≡ spec.received p t) }
+    ensures { IfOk result (λ t. (p : parts.Circumstance) → inner.ask_listed me m.now p answer.now ≡ spec.received p t) }
 {
     match answer {
         Listed::Spent(b) => Ok(Took::Spent(*b)),
@@ -143,8 +143,8 @@ fn ask_all(alloc: Global, me: u32, m: &Message, answer: &Listed) -> Result<Took,
 /// What the search for one solution of a goal answers.
 fn sought_one<B: BeliefBase, A: Actions>(
     alloc: Global,
-    k: &Around<A>,
-    p: &Parts<B>,
+    k: &Surroundings<A>,
+    p: &Circumstance<B>,
     g: &Literal,
 ) -> Result<Answer, Starved>
     requires { p.now.number + k.now.budgets.tries < 2 ^ 64 - 1 }
@@ -159,8 +159,8 @@ fn sought_one<B: BeliefBase, A: Actions>(
 /// The list of a term over all solutions of a goal.
 fn listed_by<B: BeliefBase, A: Actions>(
     alloc: Global,
-    k: &Around<A>,
-    p: &Parts<B>,
+    k: &Surroundings<A>,
+    p: &Circumstance<B>,
     g: &Literal,
     item: &Term,
 ) -> Result<Listed, Starved>
@@ -178,8 +178,8 @@ fn listed_by<B: BeliefBase, A: Actions>(
 /// The list of a goal over all its solutions. No more of it is kept than a reply may have.
 fn listed_all<B: BeliefBase, A: Actions>(
     alloc: Global,
-    k: &Around<A>,
-    p: &Parts<B>,
+    k: &Surroundings<A>,
+    p: &Circumstance<B>,
     g: &Literal,
 ) -> Result<Listed, Starved>
     requires { p.now.number + k.now.budgets.tries < 2 ^ 64 - 1 }
@@ -195,9 +195,9 @@ fn listed_all<B: BeliefBase, A: Actions>(
 /// AskOne or AskSpent, or Ignore where there is no goal.
 pub fn asks_one<B: BeliefBase, A: Actions>(
     alloc: Global,
-    k: &Around<A>,
+    k: &Surroundings<A>,
     me: u32,
-    p: &Parts<B>,
+    p: &Circumstance<B>,
     m: &Message,
     g: &Option<Literal>,
 ) -> Result<Took, Starved>
@@ -220,9 +220,9 @@ pub fn asks_one<B: BeliefBase, A: Actions>(
 /// AskAll or AskSpent, or Ignore where there is no goal.
 pub fn asks_all<B: BeliefBase, A: Actions>(
     alloc: Global,
-    k: &Around<A>,
+    k: &Surroundings<A>,
     me: u32,
-    p: &Parts<B>,
+    p: &Circumstance<B>,
     m: &Message,
     g: &Option<Literal>,
 ) -> Result<Took, Starved>

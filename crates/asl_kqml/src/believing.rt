@@ -3,22 +3,26 @@
 ghost use Rattle.std.specs.Prelude.{◌≡◌, true, IfOk, IfSome, OnOk};
 ghost use Rattle.asl_beliefs.specs.Bases.{all_ground};
 ghost use Rattle.asl_beliefs.specs.Changes as changes;
-ghost use Rattle.asl_state.specs.Parts as parts;
+ghost use Rattle.asl_exec_circumstance.specs.Circumstance as parts;
 ghost use Rattle.asl_kqml.specs.Receive as spec;
 
 use crate::sourced::{all_only_from, all_sourced};
 use crate::took::{Took, by};
 use asl_beliefs::base::BeliefBase;
 use asl_beliefs::removed::BeliefFault;
-use asl_state::parts::{Parts, event_of, tell_one};
-use asl_state::rows::Row;
+use asl_exec_circumstance::parts::{Circumstance, event_of, tell_one};
+use asl_exec_circumstance::rows::Row;
 use asl_term::sequence::Starved;
 use asl_term::syntax::{Literal, Literals, Text};
 use asl_unify::subst::no_subst;
 use std::alloc::Global;
 
 /// Adds literals one after another, and posts their events.
-fn add_all<B: BeliefBase>(alloc: Global, p: &mut Parts<B>, ls: &[Literal]) -> Result<(), Starved>
+fn add_all<B: BeliefBase>(
+    alloc: Global,
+    p: &mut Circumstance<B>,
+    ls: &[Literal],
+) -> Result<(), Starved>
     requires { all_ground ls.now ≡ true }
     ensures beliefs { OnOk result (B.beliefs p.new.beliefs ≡ (changes.all_added ls.now (B.beliefs p.old.beliefs)).beliefs) }
     ensures agenda { OnOk result (p.new.agenda
@@ -37,7 +41,11 @@ fn add_all<B: BeliefBase>(alloc: Global, p: &mut Parts<B>, ls: &[Literal]) -> Re
 }
 
 /// Removes literals one after another, and posts their events.
-fn remove_all<B: BeliefBase>(alloc: Global, p: &mut Parts<B>, ls: &[Literal]) -> Result<(), Starved>
+fn remove_all<B: BeliefBase>(
+    alloc: Global,
+    p: &mut Circumstance<B>,
+    ls: &[Literal],
+) -> Result<(), Starved>
     ensures beliefs { OnOk result (B.beliefs p.new.beliefs ≡ (spec.all_removed ls.now (B.beliefs p.old.beliefs)).beliefs) }
     ensures agenda { OnOk result (p.new.agenda
         ≡ parts.told p.old.agenda (spec.all_removed ls.now (B.beliefs p.old.beliefs)).events) }
@@ -55,7 +63,7 @@ fn remove_all<B: BeliefBase>(alloc: Global, p: &mut Parts<B>, ls: &[Literal]) ->
 pub fn tell<B: BeliefBase>(
     alloc: Global,
     name: &Text,
-    p: &mut Parts<B>,
+    p: &mut Circumstance<B>,
     ls: Option<Literals>,
 ) -> Result<Took, Starved>
     requires { IfSome ls (λ held. all_ground held ≡ true) }
@@ -79,7 +87,7 @@ pub fn tell<B: BeliefBase>(
 pub fn untell<B: BeliefBase>(
     alloc: Global,
     name: &Text,
-    p: &mut Parts<B>,
+    p: &mut Circumstance<B>,
     ls: Option<Literals>,
 ) -> Result<Took, Starved>
     ensures made { IfOk result (λ t. spec.untell name.now (parts.seen B.beliefs p.old) ls ≡ spec.received (parts.seen B.beliefs p.new) t) }

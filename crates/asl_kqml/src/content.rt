@@ -3,8 +3,8 @@
 ghost use Rattle.std.specs.Prelude.{◌≡◌, IfOk};
 ghost use Rattle.asl_kqml.specs.Contents as spec;
 
-use asl_plan_text::reading::plan_of;
 use asl_plans::entry::Which;
+use asl_print_plan::reading::plan_of;
 use asl_term::copying::copy_text;
 use asl_term::sequence::{Seq, Starved};
 use asl_term::syntax::{Plan, Plans, Term};

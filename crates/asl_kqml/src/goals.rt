@@ -1,14 +1,14 @@
 //! The rows Achieve and Unachieve.
 
 ghost use Rattle.std.specs.Prelude.{◌≡◌, IfOk};
-ghost use Rattle.asl_state.specs.Parts as parts;
+ghost use Rattle.asl_exec_circumstance.specs.Circumstance as parts;
 ghost use Rattle.asl_kqml.specs.Receive as spec;
 
 use crate::sourced::sourced;
 use crate::took::{Took, by};
 use asl_beliefs::base::BeliefBase;
-use asl_state::parts::{Parts, external_event, goal_trigger};
-use asl_state::rows::Row;
+use asl_exec_circumstance::parts::{Circumstance, external_event, goal_trigger};
+use asl_exec_circumstance::rows::Row;
 use asl_term::sequence::Starved;
 use asl_term::syntax::{Kind, Literal, Text};
 use std::alloc::Global;
@@ -17,7 +17,7 @@ use std::alloc::Global;
 pub fn achieve<B: BeliefBase>(
     alloc: Global,
     name: &Text,
-    p: &mut Parts<B>,
+    p: &mut Circumstance<B>,
     g: Option<Literal>,
 ) -> Result<Took, Starved>
     ensures made { IfOk result (λ t. spec.achieve name.now (parts.seen B.beliefs p.old) g ≡ spec.received (parts.seen B.beliefs p.new) t) }
@@ -38,7 +38,7 @@ pub fn achieve<B: BeliefBase>(
 /// Unachieve, or Ignore where there is no goal: the desire is dropped.
 pub fn unachieve<B: BeliefBase>(
     alloc: Global,
-    p: &mut Parts<B>,
+    p: &mut Circumstance<B>,
     g: &Option<Literal>,
 ) -> Result<Took, Starved>
     ensures made { IfOk result (λ t. spec.unachieve (parts.seen B.beliefs p.old) g.now ≡ spec.received (parts.seen B.beliefs p.new) t) }

@@ -1,7 +1,7 @@
 //! The rows TellHow, UntellHow and AskHow: messages about plans.
 
 ghost use Rattle.std.specs.Prelude.{◌≡◌, ◌++◌, IfOk, OnOk, option_to_list};
-ghost use Rattle.asl_state.specs.Parts as parts;
+ghost use Rattle.asl_exec_circumstance.specs.Circumstance as parts;
 ghost use Rattle.asl_kqml.specs.Contents as contents;
 ghost use Rattle.asl_kqml.specs.Receive as spec;
 ghost use Rattle.asl_kqml.specs.inner.Hows as inner;
@@ -10,11 +10,11 @@ use crate::asks::{list, reply_by};
 use crate::content::{plans_of, which_of};
 use crate::took::{Took, by};
 use asl_beliefs::base::BeliefBase;
+use asl_exec_circumstance::parts::{Circumstance, Surroundings, goal_trigger};
+use asl_exec_circumstance::rows::Row;
 use asl_plans::library::{Choice, Library};
 use asl_print::printing::plan_line;
 use asl_resolve::actions::Actions;
-use asl_state::parts::{Around, Parts, goal_trigger};
-use asl_state::rows::Row;
 use asl_term::copying::copy_literal;
 use asl_term::sequence::{Seq, Starved};
 use asl_term::syntax::{Kind, Literal, Term, Terms};
@@ -123,9 +123,9 @@ fn how_verb(m: &Message) -> Verb
 /// AskHow, or Ignore where there is no goal.
 pub fn asks_how<B: BeliefBase, A: Actions>(
     alloc: Global,
-    k: &Around<A>,
+    k: &Surroundings<A>,
     me: u32,
-    p: &Parts<B>,
+    p: &Circumstance<B>,
     m: &Message,
     g: &Option<Literal>,
 ) -> Result<Took, Starved>

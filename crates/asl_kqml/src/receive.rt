@@ -1,7 +1,7 @@
 //! The row of a message.
 
 ghost use Rattle.std.specs.Prelude.{◌≡◌, ◌+◌, ◌<◌, ◌^◌, ◌-◌, IfOk, OnOk};
-ghost use Rattle.asl_state.specs.Parts as parts;
+ghost use Rattle.asl_exec_circumstance.specs.Circumstance as parts;
 ghost use Rattle.asl_kqml.specs.Receive as spec;
 
 use crate::asks::{asks_all, asks_one};
@@ -11,10 +11,10 @@ use crate::how::{asks_how, tell_how, untell_how};
 use crate::replies::answers_ask;
 use crate::took::{Took, by};
 use asl_beliefs::base::BeliefBase;
+use asl_exec_circumstance::content::{ground_literals, literal_of, literals_of};
+use asl_exec_circumstance::parts::{Circumstance, Surroundings};
+use asl_exec_circumstance::peers::{Peers, agent_name};
 use asl_resolve::actions::Actions;
-use asl_state::content::{ground_literals, literal_of, literals_of};
-use asl_state::parts::{Around, Parts};
-use asl_state::peers::{Peers, agent_name};
 use asl_term::sequence::Starved;
 use asl_term::syntax::{Term, Text};
 use asl_unify::rename::rename_term;
@@ -24,9 +24,9 @@ use std::alloc::Global;
 /// The row of what is told: Tell, Reply, ReplyFail or Ignore.
 fn tells<B: BeliefBase, A: Actions>(
     alloc: Global,
-    k: &Around<A>,
+    k: &Surroundings<A>,
     name: &Text,
-    p: &mut Parts<B>,
+    p: &mut Circumstance<B>,
     m: &Message,
     content: &Term,
 ) -> Result<Took, Starved>
@@ -45,10 +45,10 @@ fn tells<B: BeliefBase, A: Actions>(
 /// The row of a message, by its verb. The content is renamed already.
 fn of_verb<B: BeliefBase, A: Actions>(
     alloc: Global,
-    k: &mut Around<A>,
+    k: &mut Surroundings<A>,
     me: u32,
     name: &Text,
-    p: &mut Parts<B>,
+    p: &mut Circumstance<B>,
     m: &Message,
     content: &Term,
 ) -> Result<Took, Starved>
@@ -99,9 +99,9 @@ fn of_verb<B: BeliefBase, A: Actions>(
 #[tactic(auto, unfolding(crate::specs::Receive::receive, crate::specs::Receive::learned))]
 pub fn receive<B: BeliefBase, A: Actions>(
     alloc: Global,
-    k: &mut Around<A>,
+    k: &mut Surroundings<A>,
     peers: &Peers,
-    p: &mut Parts<B>,
+    p: &mut Circumstance<B>,
     m: &Message,
 ) -> Result<Took, Starved>
     requires { p.old.number + k.old.budgets.tries + 1 < 2 ^ 64 - 1 }

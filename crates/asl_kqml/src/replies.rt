@@ -3,17 +3,17 @@
 ghost use Rattle.std.specs.Prelude.{◌≡◌, IfOk};
 ghost use Rattle.asl_intend.specs.Agendas.{ask_of};
 ghost use Rattle.asl_intend.specs.Stacks.{bound, without_head};
-ghost use Rattle.asl_state.specs.Parts as parts;
+ghost use Rattle.asl_exec_circumstance.specs.Circumstance as parts;
 ghost use Rattle.asl_kqml.specs.Receive as spec;
 
 use crate::took::{Took, by};
 use asl_beliefs::base::BeliefBase;
+use asl_exec_circumstance::parts::{Circumstance, Surroundings};
+use asl_exec_circumstance::rows::{Fall, Row};
 use asl_fail::fail::fail;
 use asl_intend::agenda::{Ask, Error};
 use asl_intend::stack::Stack;
 use asl_resolve::actions::Actions;
-use asl_state::parts::{Around, Parts};
-use asl_state::rows::{Fall, Row};
 use asl_term::sequence::{Seq, Starved};
 use asl_term::syntax::Term;
 use asl_unify::matching::attempt;
@@ -24,7 +24,7 @@ use std::alloc::Global;
 /// Reply: the stack is bound and goes on behind its ask.
 fn goes_on<B: BeliefBase>(
     alloc: Global,
-    p: &mut Parts<B>,
+    p: &mut Circumstance<B>,
     mut stack: Stack,
     s: &Subst,
 ) -> Result<Took, Starved>
@@ -49,8 +49,8 @@ fn goes_on<B: BeliefBase>(
 /// Reply or ReplyFail, by what unifies the answer with what takes it.
 fn answered<B: BeliefBase, A: Actions>(
     alloc: Global,
-    k: &Around<A>,
-    p: &mut Parts<B>,
+    k: &Surroundings<A>,
+    p: &mut Circumstance<B>,
     mut stack: Stack,
     s: &Option<Subst>,
 ) -> Result<Took, Starved>
@@ -82,8 +82,8 @@ fn answered<B: BeliefBase, A: Actions>(
 /// Reply or ReplyFail of the ask of a number, or Ignore where no ask has it.
 pub fn answers_ask<B: BeliefBase, A: Actions>(
     alloc: Global,
-    k: &Around<A>,
-    p: &mut Parts<B>,
+    k: &Surroundings<A>,
+    p: &mut Circumstance<B>,
     number: u64,
     content: &Term,
 ) -> Result<Took, Starved>

@@ -2,8 +2,8 @@
 
 ghost use Rattle.std.specs.Prelude.{◌≡◌, [], None};
 
+use asl_exec_circumstance::rows::{Falls, Row};
 use asl_resolve::answers::Spent;
-use asl_state::rows::{Falls, Row};
 use asl_term::sequence::Seq;
 use mas_mind::mind::Message;
 use std::alloc::Global;

@@ -1,4 +1,9 @@
-//! The tokens of sources: of agents, worlds and projects alike.
+//! The tokens of the sources of agents, worlds and projects, their words, and the pieces into which grammars cut them; laws of the tokens that texts
+//! give.
+//!
+//! May stand on: asl_term
+//!
+//! Must not: judge whether tokens form a clause, change what it is lent, start a thread, read or write a file.
 #![tactic(auto)]
 
 pub mod blanks;

@@ -19,9 +19,9 @@ pub trait Ends {
 }
 
 /// Each End ends a clause.
-pub struct Clauses;
+pub struct ClausePieces;
 
-impl Ends for Clauses {
+impl Ends for ClausePieces {
     ghost ends = { spec.is_end };
 
     fn ends_piece(word: Word) -> bool {

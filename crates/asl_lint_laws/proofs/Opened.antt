@@ -8,11 +8,11 @@ use Rattle.asl_term.specs.declared.syntax.LiteralOf.{LiteralOf}
 use Rattle.asl_term.specs.declared.syntax.Plan.{Plan}
 use Rattle.asl_term.specs.declared.syntax.Term.{Term}
 use Rattle.asl_unify.proofs.General.{and_true}
-use Rattle.asl_plans.specs.declared.entry.Entry.{Entry}
+use Rattle.asl_plans.specs.declared.entry.OwnedPlan.{OwnedPlan}
 use Rattle.asl_plans.specs.Plans.{same_kind}
 use Rattle.asl_plans.specs.Same.{same_plan}
 use Rattle.asl_plans.specs.Libraries.{owns, with_owner, entry, added, all_added, opened}
-use Rattle.asl_plans.proofs.Entries.{owner_plan}
+use Rattle.asl_plans.proofs.OwnedPlans.{owner_plan}
 use Rattle.asl_plans.proofs.SamePlans.{plan_true}
 use Rattle.asl_lint.specs.Covers.{covers}
 use Rattle.asl_lint.specs.Goals.{is_achieve, is_test, achieves, tests}
@@ -24,14 +24,14 @@ use Rattle.asl_lint_laws.specs.Served.{SomeEntry, here, further, HasWritten, Are
 -- ---- what holds of plans holds of the entries that begin with them
 
 module _ (P : Plan → Type 0) where
-  abbrev Some : List Entry → Type 0
+  abbrev Some : List OwnedPlan → Type 0
   Some = SomeEntry (λ e. P e.plan)
 
-  abbrev Each : List Entry → Type 0
+  abbrev Each : List OwnedPlan → Type 0
   Each = AllByRecursion (λ e. P e.plan)
 
   -- a plan that is added is there
-  some_new : (p : Plan) (o : ℕ) (lib : List Entry) → P p → Some (added p o lib)
+  some_new : (p : Plan) (o : ℕ) (lib : List OwnedPlan) → P p → Some (added p o lib)
   some_new p o [] h = here h
   some_new p o (e ∷ more) h = go (same_plan p e.plan) refl (some_new p o more h) where
     go : (b : Bool) → same_plan p e.plan ≡ b → Some (added p o more) → Some (cond b (with_owner o e ∷ more) (e ∷ added p o more))
@@ -39,7 +39,7 @@ module _ (P : Plan → Type 0) where
     go false same s = further s
 
   -- and the others stay
-  some_added : (p : Plan) (o : ℕ) (lib : List Entry) → Some lib → Some (added p o lib)
+  some_added : (p : Plan) (o : ℕ) (lib : List OwnedPlan) → Some lib → Some (added p o lib)
   some_added p o [] s = elim s [ ]
   some_added p o (e ∷ more) (here h) = go (same_plan p e.plan) where
     go : (b : Bool) → Some (cond b (with_owner o e ∷ more) (e ∷ added p o more))
@@ -50,12 +50,12 @@ module _ (P : Plan → Type 0) where
     go true later = further s
     go false later = further later
 
-  some_stays : (ps : List Plan) (o : ℕ) (lib : List Entry) → Some lib → Some (all_added ps o lib)
+  some_stays : (ps : List Plan) (o : ℕ) (lib : List OwnedPlan) → Some lib → Some (all_added ps o lib)
   some_stays [] o lib s = s
   some_stays (p ∷ ps) o lib s = some_stays ps o (added p o lib) (some_added p o lib s)
 
   -- a plan that passes a test is there once all are added
-  some_opened : (f : Plan → Bool) → ((p : Plan) → HasWritten p → f p ≡ true → P p) → (ps : List Plan) (o : ℕ) (lib : List Entry) → AllByRecursion HasWritten ps
+  some_opened : (f : Plan → Bool) → ((p : Plan) → HasWritten p → f p ≡ true → P p) → (ps : List Plan) (o : ℕ) (lib : List OwnedPlan) → AllByRecursion HasWritten ps
       → list_any f ps ≡ true → Some (all_added ps o lib)
   some_opened f serve [] o lib a e = absurd (false≢true e)
   some_opened f serve (p ∷ ps) o lib a e = go (f p) refl (some_opened f serve ps o (added p o lib) a.1) e where
@@ -64,14 +64,14 @@ module _ (P : Plan → Type 0) where
     go true d more e = some_stays ps o (added p o lib) (some_new p o lib (serve p a.0 d))
     go false d more e = more e
 
-  each_added : (p : Plan) (o : ℕ) (lib : List Entry) → P p → Each lib → Each (added p o lib)
+  each_added : (p : Plan) (o : ℕ) (lib : List OwnedPlan) → P p → Each lib → Each (added p o lib)
   each_added p o [] h a = (h, tt)
   each_added p o (e ∷ more) h a = go (same_plan p e.plan) (each_added p o more h a.1) where
     go : (b : Bool) → Each (added p o more) → Each (cond b (with_owner o e ∷ more) (e ∷ added p o more))
     go true later = (subst P (sym (owner_plan o e)) a.0, a.1)
     go false later = (a.0, later)
 
-  each_opened : (ps : List Plan) (o : ℕ) (lib : List Entry) → AllByRecursion P ps → Each lib → Each (all_added ps o lib)
+  each_opened : (ps : List Plan) (o : ℕ) (lib : List OwnedPlan) → AllByRecursion P ps → Each lib → Each (all_added ps o lib)
   each_opened [] o lib a e = e
   each_opened (p ∷ ps) o lib a e = each_opened ps o (added p o lib) a.1 (each_added p o lib a.0 e)
 

@@ -22,7 +22,7 @@ use Rattle.asl_unify.proofs.General.{and_true, flat-value}
 use Rattle.asl_unify.proofs.Laws.{Flat, FlatValues, Solves}
 use Rattle.asl_unify.proofs.Matched.{matches-general}
 use Rattle.asl_unify.proofs.Unified.{unified_leads, unified_reaches}
-use Rattle.asl_plans.specs.declared.entry.Entry.{Entry}
+use Rattle.asl_plans.specs.declared.entry.OwnedPlan.{OwnedPlan}
 use Rattle.asl_plans.specs.declared.library.Choice.{Choice}
 use Rattle.asl_plans.specs.Plans.{alike, ways, kept, relevant_from, relevant}
 use Rattle.asl_lint.specs.Instances.{AreMerged}
@@ -179,7 +179,7 @@ kept_some k [] P more s f g = g s
 kept_some k (w ∷ ws) P more s f g = f tt
 
 -- a plan whose trigger matches, where some plan is relevant
-some_way : (k n : ℕ) (plans : List Entry) (event : Trigger) → IsSome (relevant_from k plans n event) → SomeEntry (λ e. Has (ways n e.plan.trigger event)) plans
+some_way : (k n : ℕ) (plans : List OwnedPlan) (event : Trigger) → IsSome (relevant_from k plans n event) → SomeEntry (λ e. Has (ways n e.plan.trigger event)) plans
 some_way k n [] event s = absurd s
 some_way k n (p ∷ ps) event s =
     kept_some k (ways n p.plan.trigger event) (SomeEntry (λ e. Has (ways n e.plan.trigger event)) (p ∷ ps)) (relevant_from (k + 1) ps n event) s
@@ -191,7 +191,7 @@ way_stays n m p event w o = go (alike p.trigger event) where
   go true h = match_stays n m p.trigger.lit event.lit w.args w.annots o h
   go false h = h
 
-some_stays : (n m : ℕ) (event : Trigger) → IsApart m event.lit → (plans : List Entry) → AreSource plans → SomeEntry (λ e. Has (ways n e.plan.trigger event)) plans
+some_stays : (n m : ℕ) (event : Trigger) → IsApart m event.lit → (plans : List OwnedPlan) → AreSource plans → SomeEntry (λ e. Has (ways n e.plan.trigger event)) plans
     → SomeEntry (λ e. Has (ways m e.plan.trigger event)) plans
 some_stays n m event o [] a s = elim s [ ]
 some_stays n m event o (p ∷ ps) a (here h) = here (way_stays n m p.plan event a.0 o h)

@@ -10,7 +10,7 @@ use Rattle.asl_unify.specs.declared.subst.Pair.{Pair}
 use Rattle.asl_unify.specs.Compare.{same_sign}
 use Rattle.asl_unify.specs.Renamed.{renamed_literal}
 use Rattle.asl_unify.specs.Matches.{matches}
-use Rattle.asl_plans.specs.declared.entry.Entry.{Entry}
+use Rattle.asl_plans.specs.declared.entry.OwnedPlan.{OwnedPlan}
 use Rattle.asl_plans.specs.declared.library.Choice.{Choice}
 use Rattle.asl_plans.specs.Plans.{alike, ways, first_way, kept, relevant_from}
 use Rattle.asl_lint_laws.specs.Written.{IsApart, IsSourced}
@@ -27,7 +27,7 @@ kept_rest k None more h = h
 kept_rest k (Some s) more h = tt
 
 -- the first plan whose trigger matches is relevant
-pub some_relevant : (k n : ℕ) (plans : List Entry) (event : Trigger) → SomeEntry (λ e. Has (ways n e.plan.trigger event)) plans → IsSome (relevant_from k plans n event)
+pub some_relevant : (k n : ℕ) (plans : List OwnedPlan) (event : Trigger) → SomeEntry (λ e. Has (ways n e.plan.trigger event)) plans → IsSome (relevant_from k plans n event)
 some_relevant k n [] event h = elim h [ ]
 some_relevant k n (p ∷ ps) event (here h) = kept_first k (ways n p.plan.trigger event) (relevant_from (k + 1) ps n event) h
 some_relevant k n (p ∷ ps) event (further h) = kept_rest k (first_way n p.plan.trigger event) (relevant_from (k + 1) ps n event) (some_relevant (k + 1) n ps event h)
@@ -47,7 +47,7 @@ module _ (n : ℕ) (k : Kind) (g : LiteralOf Term) (f : IsApart n g) (sourced : 
       subst (λ b. Has (if b then matches (renamed_literal n p.trigger.lit) g [] else [])) (sym same)
       (has_match n p.trigger.lit g (values_of p.trigger.lit g i) w.args f sourced (frame_of p.trigger.lit g i) w.annots s.covered.any_source)
 
-  some_ways : (plans : List Entry) → AreSource plans → IsServed k plans g → SomeEntry (λ e. Has (ways n e.plan.trigger (goal_trigger k g))) plans
+  some_ways : (plans : List OwnedPlan) → AreSource plans → IsServed k plans g → SomeEntry (λ e. Has (ways n e.plan.trigger (goal_trigger k g))) plans
   some_ways [] a s = elim s [ ]
   some_ways (p ∷ ps) a (here s) = here (has_ways p.plan s a.0)
   some_ways (p ∷ ps) a (further s) = further (some_ways ps a.1 s)

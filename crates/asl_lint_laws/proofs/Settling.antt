@@ -20,7 +20,7 @@ use Rattle.asl_unify.proofs.Views.{by_layers}
 use Rattle.asl_unify.proofs.Puts.{put-nil, put-list, put-merged, list_of-made}
 use Rattle.asl_unify.proofs.General.{and_true, put-lit}
 use Rattle.asl_unify.proofs.Laws.{put-var, flat-var, flat-put, FlatValues}
-use Rattle.asl_meaning.specs.Plain.{plain_step, is_plain}
+use Rattle.asl_parser_tree.specs.Plain.{plain_step, is_plain}
 
 -- ---- settled values
 

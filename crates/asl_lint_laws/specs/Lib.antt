@@ -1,3 +1,15 @@
 pub mod Written
 pub mod Served
 pub mod Stays
+pub mod Fresh
+pub mod Linted
+pub mod Agendas
+pub mod Keeps
+pub mod Read
+pub mod RowsServed
+pub mod Rows
+pub mod Messages
+pub mod Mail
+pub mod Deeds
+pub mod Cycles
+pub mod Opening

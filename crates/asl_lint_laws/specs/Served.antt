@@ -7,7 +7,7 @@ use Rattle.asl_term.specs.declared.syntax.LiteralOf.{LiteralOf}
 use Rattle.asl_term.specs.declared.syntax.Plan.{Plan}
 use Rattle.asl_term.specs.declared.syntax.Term.{Term}
 use Rattle.asl_term.specs.declared.syntax.Trigger.{Trigger}
-use Rattle.asl_plans.specs.declared.entry.Entry.{Entry}
+use Rattle.asl_plans.specs.declared.entry.OwnedPlan.{OwnedPlan}
 use Rattle.asl_plans.specs.declared.library.Choice.{Choice}
 use Rattle.asl_plans.specs.Plans.{same_kind, relevant}
 use Rattle.asl_plans.specs.Libraries.{opened}
@@ -18,9 +18,9 @@ use Rattle.asl_lint_laws.specs.Written.{AreWritten, IsApart, IsSourced}
 -- ---- plans
 
 -- some entry of a library
-pub data SomeEntry (P : Entry → Type 0) : List Entry → Type 0 where
-  here : {e : Entry} {es : List Entry} → P e → SomeEntry P (e ∷ es)
-  further : {e : Entry} {es : List Entry} → SomeEntry P es → SomeEntry P (e ∷ es)
+pub data SomeEntry (P : OwnedPlan → Type 0) : List OwnedPlan → Type 0 where
+  here : {e : OwnedPlan} {es : List OwnedPlan} → P e → SomeEntry P (e ∷ es)
+  further : {e : OwnedPlan} {es : List OwnedPlan} → SomeEntry P es → SomeEntry P (e ∷ es)
 
 -- the trigger of a plan as a reader makes it
 pub record HasWritten (p : Plan) : Type 0 where
@@ -28,7 +28,7 @@ pub record HasWritten (p : Plan) : Type 0 where
   pub annots : AreWritten p.trigger.lit.annots
 
 -- the plans of a library have such triggers
-abbrev pub AreSource : List Entry → Type 0
+abbrev pub AreSource : List OwnedPlan → Type 0
 AreSource = AllByRecursion (λ e. HasWritten e.plan)
 
 -- a plan for +!h or +?h, with an h that covers a goal
@@ -37,7 +37,7 @@ pub record Serves (k : Kind) (g : LiteralOf Term) (p : Plan) : Type 0 where
   pub kind : same_kind p.trigger.kind k ≡ true
   pub covered : IsCovered p.trigger.lit g
 
-abbrev pub IsServed : Kind → List Entry → LiteralOf Term → Type 0
+abbrev pub IsServed : Kind → List OwnedPlan → LiteralOf Term → Type 0
 IsServed k plans g = SomeEntry (λ e. Serves k g e.plan) plans
 
 -- ---- relevance
@@ -52,13 +52,13 @@ goal_trigger k g = record { add = true; kind = k; lit = g }
 -- some plan is relevant for the event of a goal that a plan serves
 abbrev pub ServedIsRelevant : Type 0
 ServedIsRelevant =
-    (plans : List Entry) (k : Kind) (g : LiteralOf Term) (n : ℕ) → AreSource plans → IsServed k plans g → IsApart n g → IsSourced g →
+    (plans : List OwnedPlan) (k : Kind) (g : LiteralOf Term) (n : ℕ) → AreSource plans → IsServed k plans g → IsApart n g → IsSourced g →
     IsSome (relevant plans n (goal_trigger k g))
 
 -- where some plan is relevant for an event under one number, some plan is under another
 abbrev pub RelevanceStays : Type 0
 RelevanceStays =
-    (plans : List Entry) (t : Trigger) (n m : ℕ) → AreSource plans → IsApart m t.lit → IsSome (relevant plans n t) → IsSome (relevant plans m t)
+    (plans : List OwnedPlan) (t : Trigger) (n m : ℕ) → AreSource plans → IsApart m t.lit → IsSome (relevant plans n t) → IsSome (relevant plans m t)
 
 -- ---- the plans of a source
 

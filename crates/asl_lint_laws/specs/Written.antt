@@ -5,7 +5,7 @@ use Rattle.asl_term.specs.declared.syntax.Var.{Var}
 use Rattle.asl_term.specs.declared.syntax.LiteralOf.{LiteralOf}
 use Rattle.asl_term.specs.declared.syntax.Term.{Term}
 use Rattle.asl_term.specs.Variables.{occurs}
-use Rattle.asl_meaning.specs.Plain.{is_plain}
+use Rattle.asl_parser_tree.specs.Plain.{is_plain}
 use Rattle.asl_unify.specs.Unifiers.{is_tidy}
 use Rattle.asl_beliefs.specs.Sources.{names_source}
 use Rattle.asl_lint.specs.Instances.{AreMerged}

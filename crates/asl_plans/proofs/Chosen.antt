@@ -9,19 +9,19 @@ use Rattle.std.proofs.lemmas.Slice.Eq.{bytes_eq-Decides}
 use Rattle.asl_term.specs.declared.syntax.LiteralOf.{LiteralOf}
 use Rattle.asl_term.specs.declared.syntax.Term.{Term}
 use Rattle.asl_term.specs.declared.syntax.Trigger.{Trigger}
-use Rattle.asl_plans.specs.declared.entry.Entry.{Entry}
+use Rattle.asl_plans.specs.declared.entry.OwnedPlan.{OwnedPlan}
 use Rattle.asl_unify.specs.declared.subst.Pair.{Pair}
 use Rattle.asl_unify.specs.Compare.{same_sign, same_frame, asks}
 use Rattle.asl_unify.specs.Unified.{unified}
 use Rattle.asl_unify.specs.Renamed.{renamed_literal}
 use Rattle.asl_unify.specs.Matches.{matches, on_unified, annots}
-use Rattle.asl_places.specs.declared.frames.Frames.{Frames}
-use Rattle.asl_places.specs.Frames.{has_frame, filed}
-use Rattle.asl_places.specs.Slots.{places}
+use Rattle.asl_index_tables.specs.declared.frames.Frames.{Frames}
+use Rattle.asl_index_tables.specs.Frames.{has_frame, filed}
+use Rattle.asl_index_tables.specs.Slots.{places}
 use Rattle.asl_term.specs.declared.syntax.Kind.{Kind}
 use Rattle.asl_term.specs.declared.syntax.Kind.TheVariants as kind
-use Rattle.asl_plans.specs.Plans.{alike, first_way, kept, relevant_from, same_kind}
-use Rattle.asl_plans.specs.Filed.{AreOf, has_trigger, way_of, way_at, chosen}
+use Rattle.asl_plans.specs.Plans.{alike, first_way, kept, relevant_from, same_kind, ways}
+use Rattle.asl_plans.specs.FiledPlaces.{AreOf, has_trigger, way_of, way_at, chosen}
 use Rattle.asl_plans.specs.declared.library.Choice.{Choice}
 
 sign_same : (a b : Bool) → same_sign a b ≡ true → a ≡ b
@@ -79,7 +79,7 @@ two true b e = (refl, e)
 two false b e = absurd (false≢true e)
 
 -- a trigger of another sign, kind or frame has no way
-no_way : (n : ℕ) (p : Trigger) (t : Trigger) → has_trigger t.add t.kind t.lit.neg t.lit.functor (length t.lit.args) p ≡ false → first_way n p t ≡ None
+pub no_way : (n : ℕ) (p : Trigger) (t : Trigger) → has_trigger t.add t.kind t.lit.neg t.lit.functor (length t.lit.args) p ≡ false → first_way n p t ≡ None
 no_way n p t e = go (alike p t) refl (same_frame (renamed_literal n p.lit) t.lit) refl where
   go : (a : Bool) → alike p t ≡ a → (s : Bool) → same_frame (renamed_literal n p.lit) t.lit ≡ s
       → slice_get (cond a (matches (renamed_literal n p.lit) t.lit []) []) 0 ≡ None
@@ -92,12 +92,20 @@ no_way n p t e = go (alike p t) refl (same_frame (renamed_literal n p.lit) t.lit
       (unified [] (asks (renamed_literal n p.lit).args t.lit.args []))) []) 0) u
   go false a s u = refl
 
+-- one of the same has those in which its literal matches
+pub filed_ways : (n : ℕ) (p t : Trigger) → has_trigger t.add t.kind t.lit.neg t.lit.functor (length t.lit.args) p ≡ true
+    → ways n p t ≡ matches (renamed_literal n p.lit) t.lit []
+filed_ways n p t e =
+    let both = three (same_sign t.add p.add) (same_kind t.kind p.kind) (has_frame t.lit.neg t.lit.functor (length t.lit.args) p.lit) e in
+    ap (λ b. cond (b && same_kind p.kind t.kind) (matches (renamed_literal n p.lit) t.lit []) []) (sign_turned p.add t.add ∙ both.0)
+    ∙ ap (λ b. cond b (matches (renamed_literal n p.lit) t.lit []) []) (kind_turned p.kind t.kind ∙ both.1)
+
 module _ (n : ℕ) (t : Trigger) where
-  abbrev own : Entry → Bool
+  abbrev own : OwnedPlan → Bool
   own e = has_trigger t.add t.kind t.lit.neg t.lit.functor (length t.lit.args) e.plan.trigger
 
-  pub chosen_from : (way : ℕ → Option (List Pair)) (i : ℕ) (lib : List Entry)
-      → ((j : ℕ) (e : Entry) → slice_get lib j ≡ Some e → way (i + j) ≡ first_way n e.plan.trigger t)
+  pub chosen_from : (way : ℕ → Option (List Pair)) (i : ℕ) (lib : List OwnedPlan)
+      → ((j : ℕ) (e : OwnedPlan) → slice_get lib j ≡ Some e → way (i + j) ≡ first_way n e.plan.trigger t)
       → relevant_from i lib n t ≡ chosen way (places own i (map Some lib))
   chosen_from way i [] h = refl
   chosen_from way i (e ∷ more) h =
@@ -118,7 +126,7 @@ module _ (n : ℕ) (t : Trigger) where
           ap (λ z. kept i z (chosen way (places own (suc i) (map Some more)))) (no_way n e.plan.trigger t u)
           ∙ sym (ap (λ z. chosen way (cond z (i ∷ places own (suc i) (map Some more)) (places own (suc i) (map Some more)))) u)
 
-  pub all_chosen : (lib : List Entry) (frames : Frames) → AreOf t.add t.kind lib frames
+  pub all_chosen : (lib : List OwnedPlan) (frames : Frames) → AreOf t.add t.kind lib frames
       → relevant_from 0 lib n t ≡ chosen (way_at lib n t) (filed frames t.lit.neg t.lit.functor (length t.lit.args))
   all_chosen lib frames a =
       chosen_from (way_at lib n t) 0 lib

@@ -5,16 +5,16 @@ use Rattle.std.specs.List.{slice_get, slice_set, list_any}
 use Rattle.std.proofs.lemmas.Bool.{false≢true, true≢false, eqb-true, eq-eqb}
 use Rattle.std.proofs.lemmas.List.{take_all}
 use Rattle.asl_term.specs.declared.syntax.Plan.{Plan}
-use Rattle.asl_places.specs.declared.keys.Keys.{Keys}
-use Rattle.asl_places.specs.Frames.{without}
-use Rattle.asl_places.specs.Keys.{listed}
-use Rattle.asl_places.specs.Keys as keyed
-use Rattle.asl_places.specs.Slots.{places}
-use Rattle.asl_plans.specs.declared.entry.Entry.{Entry}
-use Rattle.asl_plans.specs.declared.filing.Filed.{Filed}
+use Rattle.asl_index_tables.specs.declared.keys.Keys.{Keys}
+use Rattle.asl_index_tables.specs.Frames.{without}
+use Rattle.asl_index_tables.specs.Keys.{listed}
+use Rattle.asl_index_tables.specs.Keys as keyed
+use Rattle.asl_index_tables.specs.Slots.{places}
+use Rattle.asl_plans.specs.declared.entry.OwnedPlan.{OwnedPlan}
+use Rattle.asl_plans.specs.declared.filing.FiledPlaces.{FiledPlaces}
 use Rattle.asl_plans.specs.Same.{same_plan}
 use Rattle.asl_plans.specs.Libraries.{has_plan}
-use Rattle.asl_plans.specs.Filed.{has_trigger, IsPut, IsTaken, AreFiled, AreListed, IsIndex, plan_key, is_plan, IsFound}
+use Rattle.asl_plans.specs.FiledPlaces.{has_trigger, IsPut, IsTaken, AreFiled, AreListed, IsIndex, plan_key, is_plan, IsFound}
 use Rattle.asl_plans.proofs.SamePlans.{plan_true}
 
 -- ---- places in a list without empty slots
@@ -66,10 +66,10 @@ module _ {A : Type 0} (test : A → Bool) where
 
 -- ---- one more plan
 
-module _ (lib : List Entry) (e : Entry) where
-  pub filed_more : (old new : Filed) → AreFiled lib old → IsPut e.plan.trigger (length lib) old new → AreFiled (lib ++ e ∷ []) new
+module _ (lib : List OwnedPlan) (e : OwnedPlan) where
+  pub filed_more : (old new : FiledPlaces) → AreFiled lib old → IsPut e.plan.trigger (length lib) old new → AreFiled (lib ++ e ∷ []) new
   filed_more old new a put add k neg functor count =
-      let test : Entry → Bool = λ d. has_trigger add k neg functor count d.plan.trigger in
+      let test : OwnedPlan → Bool = λ d. has_trigger add k neg functor count d.plan.trigger in
       put add k neg functor count
       ∙ ap (λ z. cond (test e) (z ++ length lib ∷ []) z) (a add k neg functor count)
       ∙ sym (places_last test lib e)
@@ -77,17 +77,17 @@ module _ (lib : List Entry) (e : Entry) where
   pub listed_more : (old new : Keys) (key : ℕ) → key ≡ plan_key e.plan → AreListed lib old → keyed.IsPut key (length lib) old new
       → AreListed (lib ++ e ∷ []) new
   listed_more old new key is a put n =
-      let test : Entry → Bool = λ d. n == plan_key d.plan in
+      let test : OwnedPlan → Bool = λ d. n == plan_key d.plan in
       put n
       ∙ ap (λ z. cond (n == key) (z ++ length lib ∷ []) z) (a n)
       ∙ ap (λ z. cond (n == z) (places test 0 (map Some lib) ++ length lib ∷ []) (places test 0 (map Some lib))) is
       ∙ sym (places_last test lib e)
 
   -- and taken out again
-  pub filed_undone : (old mid new : Filed) → AreFiled lib old → IsPut e.plan.trigger (length lib) old mid → IsTaken e.plan.trigger (length lib) mid new
+  pub filed_undone : (old mid new : FiledPlaces) → AreFiled lib old → IsPut e.plan.trigger (length lib) old mid → IsTaken e.plan.trigger (length lib) mid new
       → AreFiled lib new
   filed_undone old mid new a put take_it add k neg functor count =
-      let test : Entry → Bool = λ d. has_trigger add k neg functor count d.plan.trigger in
+      let test : OwnedPlan → Bool = λ d. has_trigger add k neg functor count d.plan.trigger in
       let here = places test 0 (map Some lib) in
       take_it add k neg functor count
       ∙ ap (λ z. cond (test e) (without (length lib) z) z)
@@ -99,10 +99,10 @@ module _ (lib : List Entry) (e : Entry) where
       go true h = h
       go false h = refl
 
-pub listed_same : (lib : List Entry) (old new : Keys) → AreListed lib old → keyed.IsSame old new → AreListed lib new
+pub listed_same : (lib : List OwnedPlan) (old new : Keys) → AreListed lib old → keyed.IsSame old new → AreListed lib new
 listed_same lib old new a same n = same n ∙ a n
 
-pub index_more : (lib : List Entry) (e : Entry) (old new : Filed) (before after : Keys) (key : ℕ) → key ≡ plan_key e.plan
+pub index_more : (lib : List OwnedPlan) (e : OwnedPlan) (old new : FiledPlaces) (before after : Keys) (key : ℕ) → key ≡ plan_key e.plan
     → IsIndex lib old before → IsPut e.plan.trigger (length lib) old new → keyed.IsPut key (length lib) before after → IsIndex (lib ++ e ∷ []) new after
 index_more lib e old new before after key is a f l = record {
   filed = filed_more lib e old new a.filed f;
@@ -110,7 +110,7 @@ index_more lib e old new before after key is a f l = record {
 }
 
 -- the same plan with other owners
-pub index_set : (lib : List Entry) (k : ℕ) (d e : Entry) (f : Filed) (keys : Keys) → slice_get lib k ≡ Some d → e.plan ≡ d.plan → IsIndex lib f keys
+pub index_set : (lib : List OwnedPlan) (k : ℕ) (d e : OwnedPlan) (f : FiledPlaces) (keys : Keys) → slice_get lib k ≡ Some d → e.plan ≡ d.plan → IsIndex lib f keys
     → IsIndex (slice_set lib k e) f keys
 index_set lib k d e f keys at is a = record {
   filed = λ add kind neg functor count.
@@ -136,9 +136,9 @@ length_front (x ∷ xs) (suc k) h = ap suc (length_front xs k (omega (arith, h))
 -- ---- what is found
 
 -- a place where the plan is
-pub found_at : (p : Plan) (lib : List Entry) (k : ℕ) → is_plan p (slice_get lib k) ≡ true → IsFound p lib (Some k)
+pub found_at : (p : Plan) (lib : List OwnedPlan) (k : ℕ) → is_plan p (slice_get lib k) ≡ true → IsFound p lib (Some k)
 found_at p lib k h = go (slice_get lib k) refl h where
-  go : (o : Option Entry) → slice_get lib k ≡ o → is_plan p o ≡ true → IsFound p lib (Some k)
+  go : (o : Option OwnedPlan) → slice_get lib k ≡ o → is_plan p o ≡ true → IsFound p lib (Some k)
   go None e h = absurd (false≢true h)
   go (Some d) e h = (d, e, h)
 
@@ -150,8 +150,8 @@ right_false : (a b : Bool) → (a || b) ≡ false → b ≡ false
 right_false true b e = cc
 right_false false b e = e
 
-none_from : (p : Plan) (key : ℕ) → key ≡ plan_key p → (at : ℕ → Bool) (n : ℕ) (lib : List Entry)
-    → ((j : ℕ) (e : Entry) → slice_get lib j ≡ Some e → at (n + j) ≡ same_plan p e.plan)
+none_from : (p : Plan) (key : ℕ) → key ≡ plan_key p → (at : ℕ → Bool) (n : ℕ) (lib : List OwnedPlan)
+    → ((j : ℕ) (e : OwnedPlan) → slice_get lib j ≡ Some e → at (n + j) ≡ same_plan p e.plan)
     → list_any at (places (λ e. key == plan_key e.plan) n (map Some lib)) ≡ false → has_plan p lib ≡ false
 none_from p key is at n [] h none = refl
 none_from p key is at n (e ∷ more) h none =
@@ -179,7 +179,7 @@ looked at (y ∷ xs) (suc k) j e f h = go (at y) (looked at xs k j e f) h where
   go true more w = w
   go false more w = more w
 
-pub looked_next : (p : Plan) (lib : List Entry) (xs : List ℕ) (k j : ℕ) → slice_get xs k ≡ Some j → is_plan p (slice_get lib j) ≡ false
+pub looked_next : (p : Plan) (lib : List OwnedPlan) (xs : List ℕ) (k j : ℕ) → slice_get xs k ≡ Some j → is_plan p (slice_get lib j) ≡ false
     → list_any (λ i. is_plan p (slice_get lib i)) (take k xs) ≡ false → list_any (λ i. is_plan p (slice_get lib i)) (take (k + 1) xs) ≡ false
 looked_next p lib xs k j e f h =
     let next : suc k ≡ k + 1 = omega arith in
@@ -190,7 +190,7 @@ not_past [] k l e = omega (arith, l)
 not_past (x ∷ xs) zero l e = cc
 not_past (x ∷ xs) (suc k) l e = not_past xs k (omega (arith, l)) e
 
-none_found : (p : Plan) (lib : List Entry) (keys : Keys) (key : ℕ) → key ≡ plan_key p → AreListed lib keys
+none_found : (p : Plan) (lib : List OwnedPlan) (keys : Keys) (key : ℕ) → key ≡ plan_key p → AreListed lib keys
     → list_any (λ k. is_plan p (slice_get lib k)) (listed keys key) ≡ false → has_plan p lib ≡ false
 none_found p lib keys key is a none =
     none_from p key is (λ k. is_plan p (slice_get lib k)) 0 lib
@@ -198,7 +198,7 @@ none_found p lib keys key is a none =
     (sym (ap (list_any (λ k. is_plan p (slice_get lib k))) (a key)) ∙ none)
 
 -- all places are looked at
-pub none_left : (p : Plan) (lib : List Entry) (keys : Keys) (key k : ℕ) → key ≡ plan_key p → AreListed lib keys → length (listed keys key) ≤ k
+pub none_left : (p : Plan) (lib : List OwnedPlan) (keys : Keys) (key k : ℕ) → key ≡ plan_key p → AreListed lib keys → length (listed keys key) ≤ k
     → list_any (λ i. is_plan p (slice_get lib i)) (take k (listed keys key)) ≡ false → has_plan p lib ≡ false
 none_left p lib keys key k is a long none =
     none_found p lib keys key is a
@@ -206,7 +206,7 @@ none_left p lib keys key k is a long none =
 
 -- ---- the last plan is filed and listed
 
-pub put_behind : (lib : List Entry) (e : Entry) (k : ℕ) (old new : Filed) (before after : Keys) (key : ℕ) → length lib ≡ suc k → slice_get lib k ≡ Some e
+pub put_behind : (lib : List OwnedPlan) (e : OwnedPlan) (k : ℕ) (old new : FiledPlaces) (before after : Keys) (key : ℕ) → length lib ≡ suc k → slice_get lib k ≡ Some e
     → key ≡ plan_key e.plan → IsIndex (take k lib) old before → IsPut e.plan.trigger k old new → keyed.IsPut key k before after → IsIndex lib new after
 put_behind lib e k old new before after key long at is a f l =
     let front : k ≡ length (take k lib) = sym (length_front lib k long) in
@@ -214,7 +214,7 @@ put_behind lib e k old new before after key long at is a f l =
     (index_more (take k lib) e old new before after key is a
     (subst (λ n. IsPut e.plan.trigger n old new) front f) (subst (λ n. keyed.IsPut key n before after) front l))
 
-pub put_undone : (lib : List Entry) (e : Entry) (k : ℕ) (old mid new : Filed) (before after : Keys) → length lib ≡ suc k
+pub put_undone : (lib : List OwnedPlan) (e : OwnedPlan) (k : ℕ) (old mid new : FiledPlaces) (before after : Keys) → length lib ≡ suc k
     → IsIndex (take k lib) old before → IsPut e.plan.trigger k old mid → IsTaken e.plan.trigger k mid new → keyed.IsSame before after
     → IsIndex (take k lib) new after
 put_undone lib e k old mid new before after long a f t same =

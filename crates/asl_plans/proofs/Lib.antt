@@ -1,7 +1,8 @@
 pub mod SamePlans
 pub mod Chosen
+pub mod FiledPlans
 pub mod Filings
-pub mod Entries
+pub mod OwnedPlans
 pub mod Owning
 pub mod Countings
 pub mod Changes

@@ -4,13 +4,13 @@ use Rattle.std.specs.Prelude.{◌==◌, not}
 use Rattle.std.specs.List.{slice_get, list_any, filter}
 use Rattle.std.proofs.lemmas.Bool.{false≢true, eqb-true, eq-eqb}
 use Rattle.asl_term.specs.declared.syntax.Plan.{Plan}
-use Rattle.asl_plans.specs.declared.entry.Entry.{Entry}
+use Rattle.asl_plans.specs.declared.entry.OwnedPlan.{OwnedPlan}
 use Rattle.asl_plans.specs.declared.entry.Which.{Which}
 use Rattle.asl_plans.specs.Same.{same_plan}
 use Rattle.asl_plans.specs.Libraries.{owns, is_owned, with_owner, added, all_added, is_meant, without_owner, lost, has_owner, dropped}
 use Rattle.asl_plans.specs.Laws.{KeepsOwner, AddingKeeps, DroppingKeeps, SourceOwns}
 use Rattle.asl_plans.proofs.SamePlans.{plan_self}
-use Rattle.asl_plans.proofs.Entries.{owner_plan, lost_plan}
+use Rattle.asl_plans.proofs.OwnedPlans.{owner_plan, lost_plan}
 
 any_append : (f : ℕ → Bool) (xs ys : List ℕ) → list_any f xs ≡ true → list_any f (xs ++ ys) ≡ true
 any_append f [] ys h = absurd (false≢true h)
@@ -40,13 +40,13 @@ any_some : (f : ℕ → Bool) (xs : List ℕ) → list_any f xs ≡ true → lis
 any_some f [] h = absurd (false≢true h)
 any_some f (x ∷ xs) h = refl
 
-owns_more : (o r : ℕ) (e : Entry) → owns o e ≡ true → owns o (with_owner r e) ≡ true
+owns_more : (o r : ℕ) (e : OwnedPlan) → owns o e ≡ true → owns o (with_owner r e) ≡ true
 owns_more o r e h = go (owns r e) where
   go : (b : Bool) → owns o (cond b e (record { plan = e.plan; owners = e.owners ++ r ∷ [] })) ≡ true
   go true = h
   go false = any_append (λ x. x == o) e.owners (r ∷ []) h
 
-owns_new : (r : ℕ) (e : Entry) → owns r (with_owner r e) ≡ true
+owns_new : (r : ℕ) (e : OwnedPlan) → owns r (with_owner r e) ≡ true
 owns_new r e = go (owns r e) refl where
   go : (b : Bool) → owns r e ≡ b → owns r (cond b e (record { plan = e.plan; owners = e.owners ++ r ∷ [] })) ≡ true
   go true u = u
@@ -84,7 +84,7 @@ other_owner o r h x e = go (x == r) refl where
   go true u = absurd (h (sym (eqb-true x o e) ∙ eqb-true x r u))
   go false u = refl
 
-owns_lost : (w : Which) (o r : ℕ) → (o ≡ r → ⊥) → (e : Entry) → owns o e ≡ true → owns o (lost w r e) ≡ true
+owns_lost : (w : Which) (o r : ℕ) → (o ≡ r → ⊥) → (e : OwnedPlan) → owns o e ≡ true → owns o (lost w r e) ≡ true
 owns_lost w o r h e is = go (is_meant w e.plan) where
   go : (b : Bool) → owns o (cond b (record { plan = e.plan; owners = filter (λ x. not (x == r)) e.owners }) e) ≡ true
   go true = any_filter (λ x. x == o) (λ x. not (x == r)) (other_owner o r h) e.owners is
@@ -112,7 +112,7 @@ dropping_keeps w r o (e ∷ more) h p is = go (same_plan p e.plan && owns o e) r
   go false s false u i later = later i
 
 -- what was added is from whom it was added
-added_owned : (p : Plan) (r : ℕ) (lib : List Entry) → is_owned p r (added p r lib) ≡ true
+added_owned : (p : Plan) (r : ℕ) (lib : List OwnedPlan) → is_owned p r (added p r lib) ≡ true
 added_owned p r [] = both (same_plan p p) (r == r) (plan_self p) (owns_new r (record { plan = p; owners = [] })) where
   both : (a b : Bool) → a ≡ true → (b || false) ≡ true → ((a && (b || false)) || false) ≡ true
   both a b x y = ap (λ z. (z && (b || false)) || false) x ∙ ap (λ z. z || false) y
@@ -123,11 +123,11 @@ added_owned p r (e ∷ more) = go (same_plan p e.plan) refl (added_owned p r mor
       ∙ ap (λ x. x || is_owned p r more) (owns_new r e)
   go false s later = ap (λ x. (x && owns r e) || is_owned p r (added p r more)) s ∙ later
 
-all_keep : (plans : List Plan) (r o : ℕ) (lib : List Entry) → KeepsOwner o lib (all_added plans r lib)
+all_keep : (plans : List Plan) (r o : ℕ) (lib : List OwnedPlan) → KeepsOwner o lib (all_added plans r lib)
 all_keep [] r o lib p h = h
 all_keep (q ∷ more) r o lib p h = all_keep more r o (added q r lib) p (adding_keeps q r o lib p h)
 
-from_any : (plans : List Plan) (r : ℕ) (lib : List Entry) (k : ℕ) (p : Plan) → slice_get plans k ≡ Some p → is_owned p r (all_added plans r lib) ≡ true
+from_any : (plans : List Plan) (r : ℕ) (lib : List OwnedPlan) (k : ℕ) (p : Plan) → slice_get plans k ≡ Some p → is_owned p r (all_added plans r lib) ≡ true
 from_any [] r lib k p e = cc
 from_any (q ∷ more) r lib zero p e =
     let is : q ≡ p = cc in all_keep more r r (added q r lib) p (ap (λ x. is_owned x r (added q r lib)) (sym is) ∙ added_owned q r lib)
@@ -153,5 +153,5 @@ another f (x ∷ xs) = go (f x) (another f xs) where
   go false later = later
 
 -- what is meant has an owner left exactly where it has another one
-pub kept_lost : (w : Which) (o : ℕ) (e : Entry) → is_meant w e.plan ≡ true → list_any (λ x. not (x == o)) e.owners ≡ has_owner (lost w o e)
+pub kept_lost : (w : Which) (o : ℕ) (e : OwnedPlan) → is_meant w e.plan ≡ true → list_any (λ x. not (x == o)) e.owners ≡ has_owner (lost w o e)
 kept_lost w o e h = another (λ x. not (x == o)) e.owners ∙ sym (ap (λ b. has_owner (cond b (without_owner o e) e)) h)

@@ -1,22 +1,22 @@
 //! What is added to the plans of a library and dropped from them, with where they are found.
 
 ghost use Rattle.std.specs.Prelude.{◌≡◌, ◌<◌, ◌++◌, ◌∷◌, ◌-◌, [], Some, length, not, slice_get, slice_set, IfOk, OnOk, OnErr};
-ghost use Rattle.asl_plans.specs.declared.entry.Entry.{Entry as Held};
-ghost use Rattle.asl_plans.specs.Filed.{IsIndex};
+ghost use Rattle.asl_plans.specs.declared.entry.OwnedPlan.{OwnedPlan as Held};
+ghost use Rattle.asl_plans.specs.FiledPlaces.{IsIndex};
 ghost use Rattle.asl_plans.specs.Libraries as spec;
 ghost use Rattle.asl_plans.specs.Libraries.{AreEntries};
 
-use crate::entry::{Entries, Entry, Which};
-use crate::filing::Filed;
+use crate::entry::{OwnedPlan, OwnedPlans, Which};
+use crate::filing::FiledPlaces;
 use crate::index::{find, index_left, put_last};
 use crate::owners::{put_owner, take_back};
-use asl_places::keys::Keys;
+use asl_index_tables::keys::Keys;
 use asl_term::sequence::{Seq, Starved};
 use asl_term::syntax::Plan;
 use std::mem;
 
 /// One more owner of the plan at a place. Answers whether it is new.
-fn own_at(entries: &mut Entries, k: u64, owner: u32) -> Result<bool, Starved>
+fn own_at(entries: &mut OwnedPlans, k: u64, owner: u32) -> Result<bool, Starved>
     requires { k < length entries.old }
     ensures new { IfOk result (λ new. (e : Held) → slice_get entries.old k ≡ Some e → new ≡ not (spec.owns owner e)) }
     ensures ok { OnOk result ((e : Held) → slice_get entries.old k ≡ Some e → entries.new ≡ slice_set entries.old k (spec.with_owner owner e)) }
@@ -26,12 +26,12 @@ fn own_at(entries: &mut Entries, k: u64, owner: u32) -> Result<bool, Starved>
 }
 
 /// A plan with its first owner.
-fn entry_of(p: Plan, owner: u32) -> Result<Entry, Starved>
+fn entry_of(p: Plan, owner: u32) -> Result<OwnedPlan, Starved>
     ensures { IfOk result (λ e. e ≡ spec.entry p owner) }
 {
     let mut owners = Seq::new(p.body.alloc());
     match owners.push(owner) {
-        Ok(()) => Ok(Entry { plan: p, owners }),
+        Ok(()) => Ok(OwnedPlan { plan: p, owners }),
         Err(starved) => {
             drop(p);
             Err(starved)
@@ -41,8 +41,8 @@ fn entry_of(p: Plan, owner: u32) -> Result<Entry, Starved>
 
 /// Puts a plan last that is not there.
 fn put_new(
-    entries: &mut Entries,
-    filed: &mut Filed,
+    entries: &mut OwnedPlans,
+    filed: &mut FiledPlaces,
     keys: &mut Keys,
     p: Plan,
     owner: u32,
@@ -66,8 +66,8 @@ fn put_new(
 
 /// Adds a plan from an owner. Answers whether it is new.
 pub fn add_to(
-    entries: &mut Entries,
-    filed: &mut Filed,
+    entries: &mut OwnedPlans,
+    filed: &mut FiledPlaces,
     keys: &mut Keys,
     p: Plan,
     owner: u32,
@@ -94,8 +94,8 @@ pub fn add_to(
 
 /// Takes an owner from the plans that are meant. Answers how many had no owner left, and went.
 pub fn drop_from(
-    entries: &mut Entries,
-    filed: &mut Filed,
+    entries: &mut OwnedPlans,
+    filed: &mut FiledPlaces,
     keys: &mut Keys,
     which: &Which,
     owner: u32,

@@ -8,12 +8,12 @@ pub type Owners = Seq<u32>;
 
 /// A plan, with those who it is from.
 #[derive(Drop)]
-pub struct Entry {
+pub struct OwnedPlan {
     pub plan: Plan,
     pub owners: Owners,
 }
 
-pub type Entries = Seq<Entry>;
+pub type OwnedPlans = Seq<OwnedPlan>;
 
 /// What an owner takes back: one plan, or all plans of a label.
 #[derive(Drop)]

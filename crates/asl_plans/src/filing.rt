@@ -1,11 +1,11 @@
 //! Places of plans by the sign and the kind of their triggers, and by the sign, functor and number of arguments of these.
 
 ghost use Rattle.std.specs.Prelude.{◌≡◌, [], ℕ, Bool, List, OnOk, OnErr};
-ghost use Rattle.asl_places.specs.Frames.{filed};
+ghost use Rattle.asl_index_tables.specs.Frames.{filed};
 ghost use Rattle.asl_term.specs.declared.syntax.Kind.{Kind};
-ghost use Rattle.asl_plans.specs.Filed.{IsPut, IsPutOf, IsSame, IsSameOf, IsTaken, IsTakenOf, frames_of, of_kind};
+ghost use Rattle.asl_plans.specs.FiledPlaces.{IsPut, IsPutOf, IsSame, IsSameOf, IsTaken, IsTakenOf, frames_of, of_kind};
 
-use asl_places::frames::Frames;
+use asl_index_tables::frames::Frames;
 use asl_term::sequence::Starved;
 use asl_term::syntax::{Kind, Literal, Trigger};
 use std::alloc::Global;
@@ -20,7 +20,7 @@ pub struct Kinds {
 
 /// Places by whether a trigger adds, and then by its kind and frame.
 #[derive(Drop)]
-pub struct Filed {
+pub struct FiledPlaces {
     pub plus: Kinds,
     pub minus: Kinds,
 }
@@ -70,14 +70,25 @@ impl Kinds {
     }
 }
 
-impl Filed {
+impl FiledPlaces {
     /// No place is filed. It takes no memory before the first is put in.
-    pub fn new(alloc: Global) -> Filed
+    pub fn new(alloc: Global) -> FiledPlaces
         ensures { (add : Bool) (kind : Kind) (neg : Bool) (functor : List ℕ) (count : ℕ) → filed (frames_of add kind result) neg functor count ≡ [] }
     {
-        Filed {
+        FiledPlaces {
             plus: Kinds::new(alloc),
             minus: Kinds::new(alloc),
+        }
+    }
+
+    /// The places of the plans whose triggers have this sign and kind.
+    pub fn under(&self, add: bool, kind: Kind) -> &Frames
+        ensures { result.now ≡ frames_of add kind self.now }
+    {
+        if add {
+            self.plus.of(kind)
+        } else {
+            self.minus.of(kind)
         }
     }
 
@@ -85,11 +96,7 @@ impl Filed {
     pub fn of(&self, event: &Trigger) -> &Frames
         ensures { result.now ≡ frames_of event.now.add event.now.kind self.now }
     {
-        if event.add {
-            self.plus.of(event.kind)
-        } else {
-            self.minus.of(event.kind)
-        }
+        self.under(event.add, event.kind)
     }
 
     /// Puts a place last under a trigger.

@@ -1,24 +1,24 @@
 //! Where the plans of a library are found: filed by their triggers, and listed by a number that is made of these.
 
 ghost use Rattle.std.specs.Prelude.{◌≡◌, ◌<◌, ◌++◌, ◌∷◌, ◌-◌, ◌^◌, [], List, length, slice_get, take, IfOk, OnOk, OnErr};
-ghost use Rattle.asl_places.specs.Keys as keyed;
-ghost use Rattle.asl_plans.specs.declared.entry.Entry.{Entry as Held};
-ghost use Rattle.asl_plans.specs.Filed as spec;
-ghost use Rattle.asl_plans.specs.Filed.{AreListed, IsCounted, IsFound, IsIndex, IsPut, is_plan};
+ghost use Rattle.asl_index_tables.specs.Keys as keyed;
+ghost use Rattle.asl_plans.specs.declared.entry.OwnedPlan.{OwnedPlan as Held};
+ghost use Rattle.asl_plans.specs.FiledPlaces as spec;
+ghost use Rattle.asl_plans.specs.FiledPlaces.{AreListed, IsCounted, IsFound, IsIndex, IsPut, is_plan};
 ghost use Rattle.asl_plans.specs.Libraries.{dropped};
 
-use crate::entry::{Entry, Which};
-use crate::filing::Filed;
+use crate::entry::{OwnedPlan, Which};
+use crate::filing::FiledPlaces;
 use crate::keys::plan_key;
 use crate::owners::is_kept;
 use crate::same::same_plan;
-use asl_places::keys::Keys;
+use asl_index_tables::keys::Keys;
 use asl_term::sequence::Starved;
 use asl_term::syntax::Plan;
 use std::alloc::Global;
 
 /// Whether the plan at a place is this one.
-fn is_at(entries: &[Entry], p: &Plan, k: u64) -> bool
+fn is_at(entries: &[OwnedPlan], p: &Plan, k: u64) -> bool
     ensures { result ≡ is_plan p.now (slice_get entries.now k) }
 {
     match entries.get(k as usize) {
@@ -28,7 +28,7 @@ fn is_at(entries: &[Entry], p: &Plan, k: u64) -> bool
 }
 
 /// The place of a plan, among those that are listed under its number.
-pub fn find(entries: &[Entry], keys: &Keys, p: &Plan) -> Option<u64>
+pub fn find(entries: &[OwnedPlan], keys: &Keys, p: &Plan) -> Option<u64>
     requires { AreListed entries.now keys.now }
     ensures { IsFound p.now entries.now result }
 {
@@ -46,7 +46,7 @@ pub fn find(entries: &[Entry], keys: &Keys, p: &Plan) -> Option<u64>
 /// Files and lists a place for a plan.
 fn put(
     alloc: Global,
-    filed: &mut Filed,
+    filed: &mut FiledPlaces,
     keys: &mut Keys,
     p: &Plan,
     place: u64,
@@ -61,8 +61,8 @@ fn put(
 /// Files and lists the last plan, or leaves all as it was.
 pub fn put_last(
     alloc: Global,
-    entries: &[Entry],
-    filed: &mut Filed,
+    entries: &[OwnedPlan],
+    filed: &mut FiledPlaces,
     keys: &mut Keys,
 ) -> Result<(), Starved>
     requires some { 0 < length entries.now }
@@ -86,11 +86,11 @@ pub fn put_last(
 /// Files and lists a plan behind so many others, where it still has an owner. Answers how many there are then.
 fn put_next(
     alloc: Global,
-    e: &Entry,
+    e: &OwnedPlan,
     which: &Which,
     owner: u32,
     n: u64,
-    filed: &mut Filed,
+    filed: &mut FiledPlaces,
     keys: &mut Keys,
 ) -> Result<u64, Starved>
     requires { n < 2 ^ 64 - 1 }
@@ -107,13 +107,13 @@ fn put_next(
 /// The plans that are left once an owner has taken back what is meant, filed and listed.
 pub fn index_left(
     alloc: Global,
-    entries: &[Entry],
+    entries: &[OwnedPlan],
     which: &Which,
     owner: u32,
-) -> Result<(Filed, Keys), Starved>
+) -> Result<(FiledPlaces, Keys), Starved>
     ensures { IfOk result (λ r. IsIndex (dropped which.now owner entries.now) r.0 r.1) }
 {
-    let mut filed = Filed::new(alloc);
+    let mut filed = FiledPlaces::new(alloc);
     let mut keys = Keys::new(alloc);
     let mut n = 0u64;
     for k in 0..entries.len() {

@@ -1,10 +1,10 @@
 //! A number for each plan, which is the same for the same plans, and seldom so for others.
 
 ghost use Rattle.std.specs.Prelude.{◌≡◌, map};
-ghost use Rattle.asl_places.specs.Prints as prints;
-ghost use Rattle.asl_plans.specs.Filed as spec;
+ghost use Rattle.asl_index_tables.specs.Prints as prints;
+ghost use Rattle.asl_plans.specs.FiledPlaces as spec;
 
-use asl_places::prints::{literal_print, term_print};
+use asl_index_tables::prints::{literal_print, term_print};
 use asl_term::syntax::{Arg, ArgOf, Formula, Plan};
 
 /// One number of two: the first is spread by a prime before the second is added.

@@ -2,18 +2,18 @@
 
 ghost use Rattle.std.specs.Prelude.{◌≡◌, ◌++◌, ◌-◌, [], None, Some, MatchOption, IfOk, OnOk, OnErr, length, not, option_to_list, slice_get};
 ghost use Rattle.std.specs.Option.{option_copied};
-ghost use Rattle.asl_places.specs.Frames.{filed};
-ghost use Rattle.asl_plans.specs.Filed.{AreOf, chosen, way_at};
+ghost use Rattle.asl_index_tables.specs.Frames.{filed};
+ghost use Rattle.asl_plans.specs.FiledPlaces.{AreOf, chosen, filed_plans, way_at};
 ghost use Rattle.asl_plans.specs.Libraries as libraries;
 ghost use Rattle.asl_plans.specs.Plans as spec;
 
 use crate::changing::{add_to, drop_from};
-use crate::entry::{Entries, Entry, Which};
-use crate::filing::Filed;
-use asl_places::frames::Frames;
-use asl_places::keys::Keys;
+use crate::entry::{OwnedPlan, OwnedPlans, Which};
+use crate::filing::FiledPlaces;
+use asl_index_tables::frames::Frames;
+use asl_index_tables::keys::Keys;
 use asl_term::sequence::{Seq, Starved};
-use asl_term::syntax::{Kind, Plan, Plans, Trigger};
+use asl_term::syntax::{Kind, Literal, Plan, Plans, Trigger};
 use asl_unify::layers::same_frames;
 use asl_unify::matching::first_match;
 use asl_unify::rename::rename_literal;
@@ -33,8 +33,8 @@ pub type Choices = Seq<Choice>;
 /// Plans in order, no two of them equal, each with those who it is from. They are found by the sign and the kind of their triggers,
 /// and by the sign, functor and number of arguments of these; an equal plan by a number that is made of its trigger.
 pub struct Library {
-    entries: Entries,
-    filed: Filed,
+    entries: OwnedPlans,
+    filed: FiledPlaces,
     keys: Keys,
 }
 
@@ -51,7 +51,7 @@ impl Drop for Library {
 
 impl Model for Library {
     ghost use Rattle.asl_term.specs.contracts.syntax.Plan as plan;
-    ghost use Rattle.asl_plans.specs.Filed.{Held, IsIndex};
+    ghost use Rattle.asl_plans.specs.FiledPlaces.{Held, IsIndex};
     ghost use Rattle.asl_plans.specs.Libraries.{AreEntries};
     ghost use Rattle.std.specs.Coded.{codes};
 
@@ -104,7 +104,7 @@ fn first_way(
 /// Puts the plan at a place last among the choices, with its first match, where it has one.
 fn put_choice(
     alloc: Global,
-    entries: &Entries,
+    entries: &OwnedPlans,
     place: u64,
     t: &Trigger,
     number: u64,
@@ -124,7 +124,7 @@ fn put_choice(
 /// The same of the k-th plan that is filed under the frame of the event.
 fn put_kth(
     alloc: Global,
-    entries: &Entries,
+    entries: &OwnedPlans,
     frames: &Frames,
     t: &Trigger,
     number: u64,
@@ -143,7 +143,7 @@ fn put_kth(
 /// The relevant plans, among those of the sign and the kind of the event.
 fn relevant_of(
     alloc: Global,
-    entries: &Entries,
+    entries: &OwnedPlans,
     frames: &Frames,
     t: &Trigger,
     number: u64,
@@ -165,7 +165,7 @@ impl Library {
     {
         Library {
             entries: Seq::new(alloc),
-            filed: Filed::new(alloc),
+            filed: FiledPlaces::new(alloc),
             keys: Keys::new(alloc),
         }
     }
@@ -187,8 +187,19 @@ impl Library {
         relevant_of(alloc, &self.entries, self.filed.of(t), t, number)
     }
 
+    /// The k-th of the plans, in order, whose triggers have this sign and kind, and the sign, functor and number of arguments of
+    /// a literal. No other plan is relevant for an event that has these.
+    pub fn filed_plan(&self, add: bool, kind: Kind, l: &Literal, k: u64) -> Option<&OwnedPlan>
+        ensures { option_copied result ≡ slice_get (filed_plans add kind l.now self.now.plans) k }
+    {
+        match self.filed.under(add, kind).at(l, k) {
+            None => None,
+            Some(place) => self.entries.at(place),
+        }
+    }
+
     /// All plans, in order.
-    pub fn all(&self) -> &[Entry]
+    pub fn all(&self) -> &[OwnedPlan]
         ensures { result.now ≡ self.now.plans }
     {
         self.entries.as_slice()

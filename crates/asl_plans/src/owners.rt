@@ -4,7 +4,7 @@ ghost use Rattle.std.specs.Prelude.{◌≡◌, ◌==◌, not, filter, map, IfOk,
 ghost use Rattle.std.specs.List.{list_any};
 ghost use Rattle.asl_plans.specs.Libraries as spec;
 
-use crate::entry::{Entries, Entry, Owners, Which};
+use crate::entry::{OwnedPlan, OwnedPlans, Owners, Which};
 use crate::same::is_meant;
 use asl_term::sequence::{Seq, Starved};
 use std::alloc::Global;
@@ -34,7 +34,7 @@ fn has_another(owners: &[u32], owner: u32) -> bool
 }
 
 /// Puts an owner last, unless it is there already. Answers whether it was put.
-pub fn put_owner(e: &mut Entry, owner: u32) -> Result<bool, Starved>
+pub fn put_owner(e: &mut OwnedPlan, owner: u32) -> Result<bool, Starved>
     ensures new { IfOk result (λ new. new ≡ not (spec.owns owner e.old)) }
     ensures ok { OnOk result (e.new ≡ spec.with_owner owner e.old) }
     ensures err { OnErr result (e.new ≡ e.old) }
@@ -56,7 +56,7 @@ fn lose_owner(alloc: Global, owners: &mut Owners, owner: u32)
 }
 
 /// Takes an owner out where the plan is meant.
-fn lose(alloc: Global, e: &mut Entry, which: &Which, owner: u32)
+fn lose(alloc: Global, e: &mut OwnedPlan, which: &Which, owner: u32)
     ensures { e.new ≡ spec.lost which.now owner e.old }
 {
     if is_meant(which, &e.plan) {
@@ -65,7 +65,7 @@ fn lose(alloc: Global, e: &mut Entry, which: &Which, owner: u32)
 }
 
 /// Takes an owner out of all plans that are meant.
-fn lose_all(alloc: Global, entries: &mut Entries, which: &Which, owner: u32)
+fn lose_all(alloc: Global, entries: &mut OwnedPlans, which: &Which, owner: u32)
     ensures { entries.new ≡ map (spec.lost which.now owner) entries.old }
 {
     for k in 0..entries.len() {
@@ -73,14 +73,14 @@ fn lose_all(alloc: Global, entries: &mut Entries, which: &Which, owner: u32)
     }
 }
 
-fn has_owner(e: &Entry) -> bool
+fn has_owner(e: &OwnedPlan) -> bool
     ensures { result ≡ spec.has_owner e.now }
 {
     e.owners.len() != 0
 }
 
 /// Whether a plan still has an owner once this one has taken back what is meant.
-pub fn is_kept(e: &Entry, which: &Which, owner: u32) -> bool
+pub fn is_kept(e: &OwnedPlan, which: &Which, owner: u32) -> bool
     ensures { result ≡ spec.has_owner (spec.lost which.now owner e.now) }
 {
     if is_meant(which, &e.plan) {
@@ -90,7 +90,7 @@ pub fn is_kept(e: &Entry, which: &Which, owner: u32) -> bool
 }
 
 /// Keeps the plans that have an owner.
-fn keep_owned(alloc: Global, entries: &mut Entries)
+fn keep_owned(alloc: Global, entries: &mut OwnedPlans)
     ensures { entries.new ≡ filter spec.has_owner entries.old }
 {
     let mut all = mem::replace(entries, Seq::new(alloc)).into_vec();
@@ -99,7 +99,7 @@ fn keep_owned(alloc: Global, entries: &mut Entries)
 }
 
 /// Takes an owner out of all plans that are meant, and then those plans that have none left.
-pub fn take_back(alloc: Global, entries: &mut Entries, which: &Which, owner: u32)
+pub fn take_back(alloc: Global, entries: &mut OwnedPlans, which: &Which, owner: u32)
     ensures { entries.new ≡ spec.dropped which.now owner entries.old }
 {
     lose_all(alloc, entries, which, owner);

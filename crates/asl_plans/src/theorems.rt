@@ -11,7 +11,7 @@ pub fn owners_are_kept()
 {}
 
 /// No two plans of a library are the same, and each is from someone.
-#[tactic(auto, using(crate::proofs::Entries::opened_sound, crate::proofs::Entries::entries_added, crate::proofs::Entries::entries_dropped))]
+#[tactic(auto, using(crate::proofs::OwnedPlans::opened_sound, crate::proofs::OwnedPlans::entries_added, crate::proofs::OwnedPlans::entries_dropped))]
 pub fn plans_differ()
     ensures opened { OpenedAreEntries }
     ensures added { AddedAreEntries }

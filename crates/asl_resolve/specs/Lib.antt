@@ -1,6 +1,6 @@
 pub mod Calls
 pub mod Base
-pub mod Given
+pub mod GivenPairs
 pub mod Marks
 pub mod Listed
 pub mod Solves

@@ -9,9 +9,9 @@ use Rattle.asl_unify.specs.Matches.{agreed, behind, on_unified}
 use Rattle.asl_unify.specs.Puts.{IsSubst}
 use Rattle.asl_unify.specs.Unified.{unified}
 use Rattle.asl_unify.proofs.Cuts.{behind_push}
-use Rattle.asl_resolve.specs.declared.actions.Given.{Given}
-use Rattle.asl_resolve.specs.declared.actions.Given.TheVariants.{Sols, Arith, TermLimit}
-use Rattle.asl_resolve.specs.Given.{AreSound, IsGiven, given}
+use Rattle.asl_resolve.specs.declared.actions.GivenPairs.{GivenPairs}
+use Rattle.asl_resolve.specs.declared.actions.GivenPairs.TheVariants.{Sols, Arith, TermLimit}
+use Rattle.asl_resolve.specs.GivenPairs.{AreSound, IsGiven, given}
 use Rattle.asl_resolve.specs.Solves.{Among}
 use Rattle.asl_stdlib.specs.Findings.{each_met}
 use Rattle.asl_stdlib.specs.Solving.{solve}
@@ -49,7 +49,7 @@ are-sound s [] h = tt
 are-sound s (x ∷ xs) h = (h (s ++ x) (inl refl), are-sound s xs (λ t a. h t (inr a)))
 
 -- what an action gives makes substitutions
-pub given_sound : (me name : List ℕ) (args : List Term) (s : List Pair) (g : Given) → IsSubst s → given s g ≡ solve me name args s → IsGiven s g
+pub given_sound : (me name : List ℕ) (args : List Term) (s : List Pair) (g : GivenPairs) → IsSubst s → given s g ≡ solve me name args s → IsGiven s g
 given_sound me name args s (Sols found) i e = are-sound s found (λ t h. (solve-extends me [] name args s t (behind s found) i (sym e) h).1)
 given_sound me name args s Arith i e = tt
 given_sound me name args s TermLimit i e = tt

@@ -6,7 +6,7 @@ ghost use Rattle.asl_unify.specs.Limits.{Passes, within};
 ghost use Rattle.asl_unify.specs.Puts.{apply};
 ghost use Rattle.asl_unify.specs.Settling.{Faults, each, settle};
 ghost use Rattle.asl_resolve.specs.Calls.{terms};
-ghost use Rattle.asl_resolve.specs.Given.{AreSound, IsGiven, given};
+ghost use Rattle.asl_resolve.specs.GivenPairs.{AreSound, IsGiven, given};
 ghost use Rattle.asl_unify.specs.Matches.{behind};
 ghost use Rattle.asl_stdlib.specs.Findings.{solutions};
 ghost use Rattle.asl_stdlib.specs.Solving as spec;
@@ -15,7 +15,7 @@ use crate::lists::{length_row, member_row, my_name_row, nth_row, reverse_row, te
 use crate::named::{Action, named};
 use crate::numbers::{Extreme, best_row};
 use crate::texts::concat_row;
-use asl_resolve::actions::{Given, Inner};
+use asl_resolve::actions::{GivenPairs, Inner};
 use asl_term::sequence::{Seq, Starved};
 use asl_term::syntax::{Arg, ArgOf, Call, Term, Terms, Text};
 use asl_unify::limits::TermFault;
@@ -110,21 +110,21 @@ fn on_settled(
     name: &Text,
     args: &[Term],
     s: &Subst,
-) -> Result<Given, Starved>
+) -> Result<GivenPairs, Starved>
     ensures { IfOk result (λ r. given s.now r ≡ spec.on_settled me.now name.now s.now (each (map settle args.now))) }
 {
     match settled(alloc, args) {
         Ok(args) => {
             let found = solved_by(alloc, me, name, args.as_slice(), s)?;
-            Ok(Given::Sols(found))
+            Ok(GivenPairs::Sols(found))
         }
         Err(ArithFault::Memory) => Err(Starved),
-        Err(ArithFault::Arith { .. }) => Ok(Given::Arith),
+        Err(ArithFault::Arith { .. }) => Ok(GivenPairs::Arith),
     }
 }
 
 /// What the action of a name comes to on its arguments: they are applied first.
-fn on_applied(alloc: Global, c: &Call, me: &Text, s: &Subst) -> Result<Given, Starved>
+fn on_applied(alloc: Global, c: &Call, me: &Text, s: &Subst) -> Result<GivenPairs, Starved>
     ensures { IfOk result (λ r. given s.now r ≡ spec.solve me.now c.now.name (terms c.now.args) s.now) }
 {
     match applied(alloc, c.args.as_slice(), s) {
@@ -133,14 +133,14 @@ fn on_applied(alloc: Global, c: &Call, me: &Text, s: &Subst) -> Result<Given, St
             Ok(r)
         }
         Err(TermFault::Memory) => Err(Starved),
-        Err(TermFault::TermLimit) => Ok(Given::TermLimit),
+        Err(TermFault::TermLimit) => Ok(GivenPairs::TermLimit),
     }
 }
 
 /// What a call of an internal action comes to for the agent `me`: its solutions in order, each as the pairs that it puts
 /// behind those of the substitution, `TermLimit` where one of the applied arguments passes the limits, else `Arith` where
 /// one of them does not settle. A name that is no action of these has no solutions. The results themselves have no limits.
-pub fn pure_pairs(alloc: Global, c: &Call, me: &Text, s: &Subst) -> Result<Given, Starved>
+pub fn pure_pairs(alloc: Global, c: &Call, me: &Text, s: &Subst) -> Result<GivenPairs, Starved>
     ensures value { IfOk result (λ r. given s.now r ≡ spec.solve me.now c.now.name (terms c.now.args) s.now) }
     ensures sound { IfOk result (λ r. IsGiven s.now r) }
 {
@@ -169,8 +169,8 @@ pub fn pure(alloc: Global, c: &Call, me: &Text, s: &Subst) -> Result<Inner, Star
     ensures { IfOk result (λ r. r ≡ spec.solve me.now c.now.name (terms c.now.args) s.now) }
 {
     match pure_pairs(alloc, c, me, s)? {
-        Given::Sols(found) => Ok(Inner::Sols(whole(alloc, found, s)?)),
-        Given::Arith => Ok(Inner::Arith),
-        Given::TermLimit => Ok(Inner::TermLimit),
+        GivenPairs::Sols(found) => Ok(Inner::Sols(whole(alloc, found, s)?)),
+        GivenPairs::Arith => Ok(Inner::Arith),
+        GivenPairs::TermLimit => Ok(Inner::TermLimit),
     }
 }

@@ -1,4 +1,8 @@
-//! The trees of agents and the lists that hold them.
+//! Lists, lists with room kept in advance, boxes, and the trees of agents: their measures, comparisons, copies, variables and texts. Lists of names.
+//!
+//! May stand on: the kit's `indexmap`
+//!
+//! Must not: unify or evaluate terms, know of a search or a cycle, start a thread, read or write a file.
 #![tactic(auto)]
 
 pub mod boxed;

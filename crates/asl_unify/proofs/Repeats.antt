@@ -19,7 +19,7 @@ use Rattle.asl_unify.specs.declared.solve.Work.TheVariants.{Two, Args, Items}
 use Rattle.asl_unify.specs.declared.solve.Pairing.{Pairing}
 use Rattle.asl_unify.specs.declared.solve.UnifyFault.{UnifyFault}
 use Rattle.asl_unify.specs.declared.solve.UnifyFault.TheVariants as code
-use Rattle.asl_unify.specs.declared.rounds.Begun.{Begun}
+use Rattle.asl_unify.specs.declared.rounds.LongRound.{LongRound}
 use Rattle.asl_unify.specs.declared.rounds.Known.{Known}
 use Rattle.asl_unify.specs.Puts.{IsSubst, apply}
 use Rattle.asl_unify.specs.Compare.{Question, ask, Fault, Clash, Occurs, Move, Go, End, counted, look, var_of, same_head, bind, asks, item_asks, lists, plain, by_vars, with_right, with_left, step, Leads, goes}
@@ -161,7 +161,7 @@ known_later s n m [] h a = tt
 known_later s n m (k ∷ known) h a = (passes_later s n m k.pairs (question k.question ∷ []) [] h a.0, known_later s n m known h a.1)
 
 -- all comparisons that were begun came further
-came_on : (s : List Pair) (begun : List Begun) (n m e : ℕ) (v x : List Question) → Passes s n v e x → m ≡ capped (n + e) → AllCame s begun v n → AllCame s begun x m
+came_on : (s : List Pair) (begun : List LongRound) (n m e : ℕ) (v x : List Question) → Passes s n v e x → m ≡ capped (n + e) → AllCame s begun v n → AllCame s begun x m
 came_on s [] n m e v x p i a = tt
 came_on s (b ∷ up) n m e v x p i a =
     let c = a.0 in (
@@ -174,38 +174,38 @@ came_on s (b ∷ up) n m e v x p i a =
       came_on s up n m e v x p i a.1,
     )
 
-pub kept_on : (s : List Pair) (begun : List Begun) (known : List Known) (n m e : ℕ) (v x : List Question) → Passes s n v e x → m ≡ capped (n + e) → Kept s begun known v n → Kept s begun known x m
+pub kept_on : (s : List Pair) (begun : List LongRound) (known : List Known) (n m e : ℕ) (v x : List Question) → Passes s n v e x → m ≡ capped (n + e) → Kept s begun known v n → Kept s begun known x m
 kept_on s begun known n m e v x p i k = record {
   came = came_on s begun n m e v x p i k.came;
   finished = known_later s n m known (subst (λ z. n ≤ z) (sym i) (capped_more 18446744073709551615 n n e (sym k.fits))) k.finished;
   fits = ap capped i ∙ capped_twice 18446744073709551615 (n + e) ∙ sym i;
 }
 
-under_push : (begun : List Begun) (b : Begun) (behind : List Question) → under (begun ++ b ∷ []) behind ≡ asked b.rest.items (under begun behind)
+under_push : (begun : List LongRound) (b : LongRound) (behind : List Question) → under (begun ++ b ∷ []) behind ≡ asked b.rest.items (under begun behind)
 under_push [] b behind = refl
 under_push (c ∷ up) b behind = under_push up b (asked c.rest.items behind)
 
-pub under_over : (begun : List Begun) (b : Begun) → under (begun ++ b ∷ []) [] ≡ asked b.rest.items [] ++ under begun []
+pub under_over : (begun : List LongRound) (b : LongRound) → under (begun ++ b ∷ []) [] ≡ asked b.rest.items [] ++ under begun []
 under_over begun b = under_push begun b [] ∙ asked_behind b.rest.items (under begun [])
 
 -- what a comparison leads to, with what was set aside for it
-over_last : (up : List Begun) (b : Begun) (v : List Question) → v ++ under (up ++ b ∷ []) [] ≡ (v ++ asked b.rest.items []) ++ under up []
+over_last : (up : List LongRound) (b : LongRound) (v : List Question) → v ++ under (up ++ b ∷ []) [] ≡ (v ++ asked b.rest.items []) ++ under up []
 over_last up b v = ap (λ z. v ++ z) (under_over up b) ∙ sym (append_assoc v (asked b.rest.items []) (under up []))
 
-came_push : (s : List Pair) (n : ℕ) (b : Begun) (v : List Question) (begun : List Begun) → AllCame s begun (v ++ asked b.rest.items []) n → Came s b v n → AllCame s (begun ++ b ∷ []) v n
+came_push : (s : List Pair) (n : ℕ) (b : LongRound) (v : List Question) (begun : List LongRound) → AllCame s begun (v ++ asked b.rest.items []) n → Came s b v n → AllCame s (begun ++ b ∷ []) v n
 came_push s n b v [] a c = (subst (λ z. Came s b z n) (sym (append-nil v)) c, tt)
 came_push s n b v (d ∷ up) a c = (subst (λ z. Came s d z n) (sym (over_last up b v)) a.0, came_push s n b v up a.1 c)
 
-came_under : (s : List Pair) (n : ℕ) (b : Begun) (v : List Question) (begun : List Begun) → AllCame s (begun ++ b ∷ []) v n → AllCame s begun (v ++ asked b.rest.items []) n
+came_under : (s : List Pair) (n : ℕ) (b : LongRound) (v : List Question) (begun : List LongRound) → AllCame s (begun ++ b ∷ []) v n → AllCame s begun (v ++ asked b.rest.items []) n
 came_under s n b v [] a = tt
 came_under s n b v (d ∷ up) a = (subst (λ z. Came s d z n) (over_last up b v) a.0, came_under s n b v up a.1)
 
-came_last : (s : List Pair) (n : ℕ) (b : Begun) (v : List Question) (begun : List Begun) → AllCame s (begun ++ b ∷ []) v n → Came s b v n
+came_last : (s : List Pair) (n : ℕ) (b : LongRound) (v : List Question) (begun : List LongRound) → AllCame s (begun ++ b ∷ []) v n → Came s b v n
 came_last s n b v [] a = subst (λ z. Came s b z n) (append-nil v) a.0
 came_last s n b v (d ∷ up) a = came_last s n b v up a.1
 
 -- a comparison is begun
-pub kept_begin : (s : List Pair) (begun more : List Begun) (known : List Known) (q : Pairing) (b : Begun) (old new : List Work) (n : ℕ)
+pub kept_begin : (s : List Pair) (begun more : List LongRound) (known : List Known) (q : Pairing) (b : LongRound) (old new : List Work) (n : ℕ)
     → b.question ≡ q → b.count ≡ n → b.rest.items ≡ old → more ≡ begun ++ b ∷ [] → new ≡ []
     → Kept s begun known (question q ∷ asked old []) n → Kept s more known (question q ∷ asked new []) n
 kept_begin s begun more known q b old new n eq ec er em en k =
@@ -220,18 +220,18 @@ kept_begin s begun more known q b old new n eq ec er em en k =
       fits = k.fits;
     }))
 
-pub same_begin : (begun more : List Begun) (b : Begun) (old new : List Work) → b.rest.items ≡ old → more ≡ begun ++ b ∷ [] → new ≡ []
+pub same_begin : (begun more : List LongRound) (b : LongRound) (old new : List Work) → b.rest.items ≡ old → more ≡ begun ++ b ∷ [] → new ≡ []
     → asked new [] ++ under more [] ≡ asked old [] ++ under begun []
 same_begin begun more b old new er em en =
     ap (λ z. asked z [] ++ under more []) en ∙ ap (λ z. under z []) em ∙ under_over begun b ∙ ap (λ z. asked z [] ++ under begun []) er
 
 -- a comparison was gone through
-known_last : (s : List Pair) (n : ℕ) (b : Begun) → capped n ≡ n → Came s b [] n → Passes s n (question b.question ∷ []) (n - b.count) []
+known_last : (s : List Pair) (n : ℕ) (b : LongRound) → capped n ≡ n → Came s b [] n → Passes s n (question b.question ∷ []) (n - b.count) []
 known_last s n b f c w k h g o l =
     c.passes w k (let i = c.from in omega (arith, h, i)) g o
     (subst (λ z. Leads w s z o) (capped_rest 18446744073709551615 b.count n k c.pairs c.from c.count h g) l)
 
-pub kept_finish : (s : List Pair) (begun less : List Begun) (known more : List Known) (b : Begun) (k : Known) (new : List Work) (n : ℕ)
+pub kept_finish : (s : List Pair) (begun less : List LongRound) (known more : List Known) (b : LongRound) (k : Known) (new : List Work) (n : ℕ)
     → begun ≡ less ++ b ∷ [] → k.question ≡ b.question → k.pairs ≡ n - b.count → new ≡ b.rest.items
     → (AllByRecursion (IsKnown s n) known → IsKnown s n k → AllByRecursion (IsKnown s n) more)
     → Kept s begun known [] n → Kept s less more (asked new []) n
@@ -245,7 +245,7 @@ kept_finish s begun less known more b k new n eb eq ep en all h =
       fits = h.fits;
     }
 
-pub same_finish : (begun less : List Begun) (b : Begun) (new : List Work) → begun ≡ less ++ b ∷ [] → new ≡ b.rest.items → asked new [] ++ under less [] ≡ under begun []
+pub same_finish : (begun less : List LongRound) (b : LongRound) (new : List Work) → begun ≡ less ++ b ∷ [] → new ≡ b.rest.items → asked new [] ++ under less [] ≡ under begun []
 same_finish begun less b new eb en = ap (λ z. asked z [] ++ under less []) en ∙ sym (under_over less b) ∙ ap (λ z. under z []) (sym eb)
 
 -- a step, with more behind its question
@@ -304,7 +304,7 @@ module _ (q : Question) (v : List Question) (s : List Pair) (n : ℕ) where
       }
     go (off g h) = let is : End (g n) ≡ Go x t m = sym (h v n) ∙ e in cc
 
-  pub kept_step : (begun : List Begun) (known : List Known) (x : List Question) (t : List Pair) (m : ℕ) → step q v s n ≡ Go x t m → t ≡ s
+  pub kept_step : (begun : List LongRound) (known : List Known) (x : List Question) (t : List Pair) (m : ℕ) → step q v s n ≡ Go x t m → t ≡ s
       → Kept s begun known (q ∷ v) n → Kept s begun known x m
   kept_step begun known x t m e d k = let g = went x t m e d k.fits in kept_on s begun known n m g.pairs (q ∷ v) x g.passes g.count k
 
@@ -314,7 +314,7 @@ pub recalled : (known : List Known) (i : ℕ) (k : Known) (q : Pairing) → slic
 recalled known i k q at l r s n a =
     subst (λ z. Passes s n (z ∷ []) k.pairs []) (λ j. ask (l j) (r j)) (all_at (IsKnown s n) known i k a at)
 
-pub kept_recall : (s : List Pair) (begun : List Begun) (known : List Known) (q : Question) (v : List Question) (n m d : ℕ) → Passes s n (q ∷ []) d [] → m ≡ capped (n + d)
+pub kept_recall : (s : List Pair) (begun : List LongRound) (known : List Known) (q : Question) (v : List Question) (n m d : ℕ) → Passes s n (q ∷ []) d [] → m ≡ capped (n + d)
     → Kept s begun known (q ∷ v) n → Kept s begun known v m
 kept_recall s begun known q v n m d p i k = kept_on s begun known n m d (q ∷ v) v (passes_over s n d (q ∷ []) [] v p) i k
 
@@ -323,22 +323,22 @@ pub asked_append : (work more : List Work) (w : List Question) → asked (work +
 asked_append [] more w = refl
 asked_append (q ∷ work) more w = asked_append work more (before q w)
 
-pub back_more : (begun : List Begun) (i : ℕ) (d b : Begun) (all new : List Work) → asked all [] ≡ under (take i begun) [] → i < length begun → b ≡ get_or begun i d
+pub back_more : (begun : List LongRound) (i : ℕ) (d b : LongRound) (all new : List Work) → asked all [] ≡ under (take i begun) [] → i < length begun → b ≡ get_or begun i d
     → asked new [] ≡ asked b.rest.items (asked all []) → asked new [] ≡ under (take (i + 1) begun) []
 back_more begun i d b all new a h e f =
     f ∙ ap (asked b.rest.items) a ∙ ap (λ z. asked z.rest.items (under (take i begun) [])) e ∙ sym (under_push (take i begun) (get_or begun i d) [])
     ∙ ap (λ z. under z []) (sym (take_more begun i d h))
 
-pub back_all : (begun : List Begun) (i : ℕ) (old all new : List Work) → asked all [] ≡ under (take i begun) [] → length begun ≤ i
+pub back_all : (begun : List LongRound) (i : ℕ) (old all new : List Work) → asked all [] ≡ under (take i begun) [] → length begun ≤ i
     → asked new [] ≡ asked old (asked all []) → asked new [] ≡ asked old [] ++ under begun []
 back_all begun i old all new a h f =
     f ∙ asked_behind old (asked all []) ∙ ap (λ z. asked old [] ++ z) (a ∙ ap (λ z. under z []) (take_all i begun h))
 
 -- the start of a long round
-pub led_start : (w : List Question) (s : List Pair) (n : ℕ) (begun : List Begun) → begun ≡ [] → Led w s n (w ++ under begun []) s n
+pub led_start : (w : List Question) (s : List Pair) (n : ℕ) (begun : List LongRound) → begun ≡ [] → Led w s n (w ++ under begun []) s n
 led_start w s n begun e o l = subst (λ z. Leads z s n o) (ap (λ z. w ++ under z []) e ∙ append-nil w) l
 
-pub kept_start : (s : List Pair) (begun : List Begun) (known : List Known) (v : List Question) (n : ℕ) → begun ≡ [] → known ≡ [] → capped n ≡ n → Kept s begun known v n
+pub kept_start : (s : List Pair) (begun : List LongRound) (known : List Known) (v : List Question) (n : ℕ) → begun ≡ [] → known ≡ [] → capped n ≡ n → Kept s begun known v n
 kept_start s begun known v n b k f = record {
   came = subst (λ z. AllCame s z v n) (sym b) tt;
   finished = subst (AllByRecursion (IsKnown s n)) (sym k) tt;
@@ -382,5 +382,5 @@ module _ (w0 : List Question) (s0 : List Pair) (n0 : ℕ) (s : List Pair) (n : �
         pub less_advance : IsSubst s → t ≡ s → question_costs t (y ++ v) < question_costs s (w ++ u)
         less_advance i e = less-step s t n k (w ++ u) (x ++ v) (y ++ v) q i is_before (step_over q x s n y t k g v) e
 
-        pub kept_advance : (begun : List Begun) (known : List Known) → t ≡ s → Kept s begun known (q ∷ x) n → Kept t begun known y k
+        pub kept_advance : (begun : List LongRound) (known : List Known) → t ≡ s → Kept s begun known (q ∷ x) n → Kept t begun known y k
         kept_advance begun known e a = subst (λ z. Kept z begun known y k) (sym e) (kept_step q x s n begun known y t k g e a)

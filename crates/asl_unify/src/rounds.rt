@@ -24,7 +24,7 @@ const KEPT: usize = 4_096;
 
 /// A comparison that is gone through, the work that was set aside for it, and the count of compared pairs before it.
 #[derive(Drop)]
-pub struct Begun<'a> {
+pub struct LongRound<'a> {
     pub question: Pairing<'a>,
     pub rest: Vec<Work<'a>>,
     pub count: u64,
@@ -92,7 +92,7 @@ fn begin<'a>(
     q: Pairing<'a>,
     count: u64,
     work: &mut Vec<Work<'a>>,
-    begun: &mut Vec<Begun<'a>>,
+    begun: &mut Vec<LongRound<'a>>,
 ) -> Result<(), UnifyFault>
     ensures keeps { IfOk result (λ _. (s : List Pair) (known : List Known) → Kept s begun.old.items known (question q.entry ∷ asked work.old.items []) count
         → Kept s begun.new.items known (question q.entry ∷ asked work.new.items []) count) }
@@ -104,7 +104,7 @@ fn begin<'a>(
         return Ok(());
     }
     let rest = replace(work, Vec::new(alloc));
-    let last = Begun {
+    let last = LongRound {
         question: q,
         rest,
         count,
@@ -134,7 +134,7 @@ fn keep<'a>(known: &mut Vec<Known<'a>>, k: Known<'a>) -> Result<(), UnifyFault>
 fn finish<'a>(
     count: u64,
     work: &mut Vec<Work<'a>>,
-    begun: &mut Vec<Begun<'a>>,
+    begun: &mut Vec<LongRound<'a>>,
     known: &mut Vec<Known<'a>>,
 ) -> Result<bool, UnifyFault>
     ensures keeps { IfOk result (λ _. (s : List Pair) → Kept s begun.old.items known.old.items [] count
@@ -171,7 +171,7 @@ fn add_work<'a>(work: &mut Vec<Work<'a>>, more: &[Work<'a>]) -> Result<(), Unify
 /// Puts what was set aside behind the other work.
 fn put_back<'a>(
     alloc: Global,
-    begun: &[Begun<'a>],
+    begun: &[LongRound<'a>],
     work: &mut Vec<Work<'a>>,
 ) -> Result<(), UnifyFault>
     ensures ok { IfOk result (λ _. asked work.new.items [] ≡ asked work.old.items [] ++ under begun.now []) }
@@ -204,7 +204,7 @@ pub fn long_round<'a>(
     let start = fresh.len();
     // Reading the count tells that it fits, which the first turn of the loop needs.
     let _fits = *count;
-    let mut begun: Vec<Begun<'a>> = Vec::new(alloc);
+    let mut begun: Vec<LongRound<'a>> = Vec::new(alloc);
     let mut known: Vec<Known<'a>> = Vec::new(alloc);
     'pairs: loop {
         let Some(q) = next(work)? else {

@@ -4,11 +4,11 @@ ghost use Rattle.std.specs.Prelude.{◌≤◌};
 
 use crate::lines::{number_of, word_of};
 use crate::out::Out;
-use crate::shapes::{Kind, Shape};
+use crate::shapes::{ArgumentKind, Shape};
 use asl_lexer::lexing::tokens;
 use asl_lexer::token::{Sign, Tok, TokKind, Toks, Word};
 use asl_lexer::words::word;
-use asl_reading::places::{Found, Raw, expr_at};
+use asl_parser_expr::places::{Found, Raw, expr_at};
 use asl_term::sequence::{Seq, Starved};
 use asl_term::syntax::{Expr, Literal, RelOp, Relation, Term};
 use asl_unify::subst::Subst;
@@ -18,7 +18,7 @@ use std::alloc::Global;
 
 /// What a call is asked: its shape, its arguments, and what the equations behind them bind.
 #[derive(Clone, Copy)]
-pub struct Asked<'a> {
+pub struct CallAsked<'a> {
     pub shape: Shape,
     pub raws: &'a [Raw],
     pub subst: &'a Subst,
@@ -110,15 +110,15 @@ fn put_raw(toks: &[Tok], is_formula: bool, raws: &mut Seq<Raw>, out: &mut Out) {
 }
 
 /// Puts the arguments of a text, with `;` between them.
-pub fn put_raws(kind: Kind, text: &[u8], raws: &mut Seq<Raw>, out: &mut Out) {
+pub fn put_raws(kind: ArgumentKind, text: &[u8], raws: &mut Seq<Raw>, out: &mut Out) {
     let toks = tokens_of(text, out);
     if toks.len() == 0 {
         return;
     }
     for piece in toks.as_slice().split(is_semicolon) {
         let is_formula = match kind {
-            Kind::Expr => true,
-            Kind::Search => raws.len() > 0,
+            ArgumentKind::Expr => true,
+            ArgumentKind::Search => raws.len() > 0,
             _ => false,
         };
         put_raw(piece, is_formula, raws, out);

@@ -2,11 +2,11 @@
 
 ghost use Rattle.std.specs.Prelude.{◌≤◌, ◌<◌, ◌^◌};
 
-use crate::asked::{Asked, number_at};
+use crate::asked::{CallAsked, number_at};
 use crate::out::Out;
 use crate::shapes::Does;
-use asl_reading::places::Raw;
-use asl_resolve::actions::{Actions, Given};
+use asl_parser_expr::places::Raw;
+use asl_resolve::actions::{Actions, GivenPairs};
 use asl_resolve::all::all;
 use asl_resolve::answers::{Answer, Answers, Budgets};
 use asl_resolve::first::first;
@@ -26,13 +26,18 @@ impl Actions for Twice {
 
     ghost solve = { λ t name args s. gives.Sols (s ∷ s ∷ []) };
 
-    fn solve_call(&self, alloc: Global, _call: &Call, subst: &Subst) -> Result<Given, Starved> {
+    fn solve_call(
+        &self,
+        alloc: Global,
+        _call: &Call,
+        subst: &Subst,
+    ) -> Result<GivenPairs, Starved> {
         // That its pairs are sound is known once they are read.
         subst.pairs();
         let mut found = Seq::new(alloc);
         found.push(Seq::new(alloc))?;
         found.push(Seq::new(alloc))?;
-        Ok(Given::Sols(found))
+        Ok(GivenPairs::Sols(found))
     }
 }
 
@@ -107,7 +112,7 @@ fn budgets_of(raws: &[Raw], out: &mut Out) -> Budgets
 }
 
 /// Searches for the first solution of the second argument, or for all of them; the first argument is what is shown of each.
-pub fn search<F: Facts>(asked: &Asked<'_>, base: &F, out: &mut Out) {
+pub fn search<F: Facts>(asked: &CallAsked<'_>, base: &F, out: &mut Out) {
     let [Raw::Plain(shown), formula, ..] = asked.raws else {
         return out.refuse("an argument is no term");
     };

@@ -1,9 +1,9 @@
 //! The calls of terms, literals and formulas: sizes, texts, copies, comparisons, what is put into them and their values.
 
-use crate::asked::{Asked, number_at};
+use crate::asked::{CallAsked, number_at};
 use crate::out::Out;
-use crate::shapes::{Does, Kind};
-use asl_reading::places::Raw;
+use crate::shapes::{ArgumentKind, Does};
+use asl_parser_expr::places::Raw;
 use asl_term::compare::equal;
 use asl_term::compare_expr::{equal_expr, equal_formula, equal_literal, equal_plan, equal_trigger};
 use asl_term::copying::{copy, copy_expr, copy_formula, copy_literal, copy_plan};
@@ -29,9 +29,9 @@ enum Any<'a> {
 }
 
 /// How many trees a call is asked about. Of a renaming the last argument is the number.
-fn count_of(asked: &Asked<'_>, body: &[Formula]) -> usize {
+fn count_of(asked: &CallAsked<'_>, body: &[Formula]) -> usize {
     match (asked.shape.kind, asked.shape.does) {
-        (Kind::Body, _) => body.len(),
+        (ArgumentKind::Body, _) => body.len(),
         (_, Does::Rename) => 1,
         _ if asked.shape.equations => 1,
         _ => asked.raws.len(),
@@ -40,20 +40,20 @@ fn count_of(asked: &Asked<'_>, body: &[Formula]) -> usize {
 
 /// The tree at a place: an argument of the kind of the call, or a formula of a body.
 fn tree_at<'a>(
-    asked: &Asked<'a>,
+    asked: &CallAsked<'a>,
     body: &'a [Formula],
     place: usize,
     out: &mut Out,
 ) -> Option<Any<'a>> {
     match (asked.shape.kind, asked.raws.get(place), body.get(place)) {
-        (Kind::Body, _, Some(formula)) => return Some(Any::Formula(formula)),
-        (Kind::Term, Some(Raw::Plain(term)), _) => return Some(Any::Term(term)),
-        (Kind::Literal, Some(Raw::Plain(Term::Lit(literal))), _) => {
+        (ArgumentKind::Body, _, Some(formula)) => return Some(Any::Formula(formula)),
+        (ArgumentKind::Term, Some(Raw::Plain(term)), _) => return Some(Any::Term(term)),
+        (ArgumentKind::Literal, Some(Raw::Plain(Term::Lit(literal))), _) => {
             return Some(Any::Literal(literal));
         }
-        (Kind::Expr, Some(Raw::Logic(expr)), _) => return Some(Any::Expr(expr)),
-        (Kind::Term, _, _) => out.refuse("an argument is no term"),
-        (Kind::Literal, _, _) => out.refuse("an argument is no literal"),
+        (ArgumentKind::Expr, Some(Raw::Logic(expr)), _) => return Some(Any::Expr(expr)),
+        (ArgumentKind::Term, _, _) => out.refuse("an argument is no term"),
+        (ArgumentKind::Literal, _, _) => out.refuse("an argument is no literal"),
         _ => out.refuse("an argument is no formula"),
     }
     None
@@ -132,7 +132,7 @@ fn put_copy(tree: Any<'_>, out: &mut Out) {
 }
 
 /// The tree after a substitution, of a term its size where it is asked for.
-fn put_applied(asked: &Asked<'_>, tree: Any<'_>, out: &mut Out) {
+fn put_applied(asked: &CallAsked<'_>, tree: Any<'_>, out: &mut Out) {
     match tree {
         Any::Term(term) => match term.apply(out.alloc, asked.subst) {
             Ok(made) => {
@@ -169,7 +169,7 @@ fn put_applied(asked: &Asked<'_>, tree: Any<'_>, out: &mut Out) {
 }
 
 /// The tree renamed by the last argument.
-fn put_renamed(asked: &Asked<'_>, tree: Any<'_>, out: &mut Out) {
+fn put_renamed(asked: &CallAsked<'_>, tree: Any<'_>, out: &mut Out) {
     let last = asked.raws.len().saturating_sub(1);
     let number = number_at(asked.raws, last, MOST_NUMBER, 1, out);
     match tree {
@@ -263,7 +263,7 @@ fn put_variables(term: &Term, out: &mut Out) {
 }
 
 /// What a call answers about one tree.
-fn put_answer(asked: &Asked<'_>, tree: Any<'_>, out: &mut Out) {
+fn put_answer(asked: &CallAsked<'_>, tree: Any<'_>, out: &mut Out) {
     out.between(b" ; ");
     match (asked.shape.does, tree) {
         (Does::Size, _) => put_size(tree, out),
@@ -289,7 +289,7 @@ fn put_places(one: usize, other: usize, out: &mut Out) {
 
 /// The places of the trees that equal the one at a place.
 fn put_equals<'a>(
-    asked: &Asked<'a>,
+    asked: &CallAsked<'a>,
     body: &'a [Formula],
     place: usize,
     tree: Any<'a>,
@@ -304,7 +304,7 @@ fn put_equals<'a>(
 }
 
 /// A call of two terms or literals.
-fn put_pair(asked: &Asked<'_>, one: Any<'_>, other: Any<'_>, out: &mut Out) {
+fn put_pair(asked: &CallAsked<'_>, one: Any<'_>, other: Any<'_>, out: &mut Out) {
     match (asked.shape.does, one, other) {
         (Does::Same, _, _) => out.yes(is_equal(one, other)),
         (_, Any::Term(Term::Var(var)), Any::Term(term)) => out.yes(occurs(var, term)),
@@ -313,7 +313,7 @@ fn put_pair(asked: &Asked<'_>, one: Any<'_>, other: Any<'_>, out: &mut Out) {
 }
 
 /// A call of arguments, or of the formulas of a body.
-pub fn answer_trees<'a>(asked: &Asked<'a>, body: &'a [Formula], out: &mut Out) {
+pub fn answer_trees<'a>(asked: &CallAsked<'a>, body: &'a [Formula], out: &mut Out) {
     for place in 0..count_of(asked, body) {
         let Some(tree) = tree_at(asked, body, place, out) else {
             return;

@@ -2,7 +2,7 @@
 
 ghost use Rattle.std.specs.Prelude.{◌≡◌, ◌≢◌, ◌+◌, ◌==◌, ◌↔◌, IsNone, IfSome, IsTrue, count_by, take, slice_get};
 
-use crate::form::{Desk, Mode, Place, Plain, Wanted};
+use crate::form::{Desk, Mode, Plain, Wanted, WantedPlace};
 use crate::lines::{is_feed, line_of};
 use asl_term::syntax::{Files, Text};
 
@@ -18,7 +18,7 @@ pub struct Got<'a> {
 /// The first place that differs, with what was wanted there and what came.
 #[derive(Clone, Copy)]
 pub struct Difference<'a> {
-    pub place: Place,
+    pub place: WantedPlace,
     pub wanted: &'a [u8],
     pub got: &'a [u8],
 }
@@ -69,7 +69,7 @@ fn line_difference<'a>(wanted: &'a [u8], got: &'a [u8]) -> Option<Difference<'a>
     };
     let number = line_number(wanted, place);
     Some(Difference {
-        place: Place::Line(number),
+        place: WantedPlace::Line(number),
         wanted: line_at(wanted, number),
         got: line_at(got, number),
     })
@@ -129,7 +129,7 @@ fn order_difference<'a>(lines: &'a [u8], text: &'a [u8]) -> Option<Difference<'a
         return None;
     }
     Some(Difference {
-        place: Place::InOrder(number),
+        place: WantedPlace::InOrder(number),
         wanted,
         got: &[],
     })
@@ -151,7 +151,7 @@ fn disk_difference<'a>(wanted: &'a Files, files: &'a Files) -> Option<Difference
         let found = held(files, file.name.as_slice());
         if found != Some(file.bytes.as_slice()) {
             return Some(Difference {
-                place: Place::Disk,
+                place: WantedPlace::Disk,
                 wanted: file.bytes.as_slice(),
                 got: found.unwrap_or(&[]),
             });
@@ -170,14 +170,14 @@ pub fn first_difference<'a>(
     let output = wanted.output.as_slice();
     if plain.status != got.status {
         return Some(Difference {
-            place: Place::Status,
+            place: WantedPlace::Status,
             wanted: &[],
             got: &[],
         });
     }
     if fault != got.fault {
         return Some(Difference {
-            place: Place::Fault,
+            place: WantedPlace::Fault,
             wanted: fault,
             got: got.fault,
         });
@@ -193,21 +193,21 @@ pub fn first_difference<'a>(
 }
 
 /// Whether two places are the same.
-fn is_same(one: &Place, other: &Place) -> bool
+fn is_same(one: &WantedPlace, other: &WantedPlace) -> bool
     ensures { IsTrue result ↔ (one.now ≡ other.now) }
 {
     match (one, other) {
-        (Place::Status, Place::Status) => true,
-        (Place::Fault, Place::Fault) => true,
-        (Place::Line(m), Place::Line(n)) => *m == *n,
-        (Place::InOrder(m), Place::InOrder(n)) => *m == *n,
-        (Place::Disk, Place::Disk) => true,
+        (WantedPlace::Status, WantedPlace::Status) => true,
+        (WantedPlace::Fault, WantedPlace::Fault) => true,
+        (WantedPlace::Line(m), WantedPlace::Line(n)) => *m == *n,
+        (WantedPlace::InOrder(m), WantedPlace::InOrder(n)) => *m == *n,
+        (WantedPlace::Disk, WantedPlace::Disk) => true,
         _ => false,
     }
 }
 
 /// Whether a case passes: it differs first where it has to, or nowhere where it has not to.
-pub fn passes(found: &Option<Place>, differs: &Option<Place>) -> bool
+pub fn passes(found: &Option<WantedPlace>, differs: &Option<WantedPlace>) -> bool
     ensures { IsTrue result ↔ (found.now ≡ differs.now) }
 {
     match (found, differs) {

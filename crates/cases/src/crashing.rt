@@ -1,12 +1,12 @@
 //! Runs that are recorded on disks that fail, and gone on from what crashes leave.
 
 use crate::comparing::held;
-use crate::form::{Desk, Given};
-use crate::running::{Done, code_of, copy_files, is_again, left, make, sink_of};
+use crate::form::{CaseSetting, Desk};
+use crate::running::{CallEnd, code_of, copy_files, is_again, left, make, sink_of};
 use asl_term::sequence::{Seq, Starved};
 use asl_term::syntax::{Files, Text};
-use mas_disks::memory::{MemoryDisk, memory_disk};
 use mas_io::memory::memory_shelf;
+use mas_record_files::memory::{MemoryDisk, memory_disk};
 use std::sync::Wait;
 use std::thread::Threads;
 
@@ -70,7 +70,7 @@ fn repeats<R: Threads + Wait + Sync>(
     reason: &mut Text,
     desk: &mut Desk,
 ) -> Result<bool, Starved> {
-    let done = Done {
+    let done = CallEnd {
         status: came.status,
         written: came.written.as_slice(),
     };
@@ -112,7 +112,7 @@ fn goes_on<R: Threads + Wait + Sync>(
 /// Whether a run, a call of whose disk failed, goes on from each of the files that a crash may then leave.
 fn outlives<R: Threads + Wait + Sync>(
     rt: &R,
-    given: &Given,
+    given: &CaseSetting,
     resume: &[String],
     came: &Came,
     fails: u64,
@@ -134,7 +134,7 @@ fn outlives<R: Threads + Wait + Sync>(
 /// The same of each call of the disk, one run for each, until none is left that could fail.
 fn outlives_all<R: Threads + Wait + Sync>(
     rt: &R,
-    given: &Given,
+    given: &CaseSetting,
     resume: &[String],
     reason: &mut Text,
     desk: &mut Desk,
@@ -163,7 +163,7 @@ fn outlives_all<R: Threads + Wait + Sync>(
 /// last changes the crash keeps, up to the number that the case tells. If not, why, in `reason`.
 pub fn survives<R: Threads + Wait + Sync>(
     rt: &R,
-    given: &Given,
+    given: &CaseSetting,
     reason: &mut Text,
     desk: &mut Desk,
 ) -> Result<bool, Starved> {

@@ -9,7 +9,7 @@ use std::alloc::Global;
 
 /// A line of a file: its number, from 1, its first word, and what stands behind the blank that ends this word.
 #[derive(Clone, Copy)]
-pub struct Line<'a> {
+pub struct CaseLine<'a> {
     pub number: u64,
     pub word: &'a [u8],
     pub rest: &'a [u8],
@@ -17,10 +17,10 @@ pub struct Line<'a> {
 
 /// What stands under a key: the number of its line, what stands there behind the key, and the lines of its text.
 #[derive(Clone, Copy)]
-pub struct Entry<'a> {
+pub struct CaseEntry<'a> {
     pub number: u64,
     pub rest: &'a [u8],
-    pub pieces: &'a [Line<'a>],
+    pub pieces: &'a [CaseLine<'a>],
 }
 
 /// A case, or a refused file: the number of the line that begins it and names it, and the lines behind it.
@@ -29,12 +29,12 @@ pub struct Section<'a> {
     pub number: u64,
     pub is_case: bool,
     pub name: &'a [u8],
-    pub body: &'a [Line<'a>],
+    pub body: &'a [CaseLine<'a>],
 }
 
 /// Why a file of cases can't be read, and its line; 0 where it is the fault of no line.
 #[derive(Clone, Copy)]
-pub struct Fault {
+pub struct CaseFault {
     pub line: u64,
     pub what: &'static str,
 }
@@ -43,7 +43,7 @@ pub struct Fault {
 #[derive(Clone, Copy)]
 pub struct Desk {
     pub alloc: Global,
-    pub fault: Option<Fault>,
+    pub fault: Option<CaseFault>,
 }
 
 impl Desk {
@@ -55,7 +55,7 @@ impl Desk {
     /// Says why a file can't be read. The first fault stays.
     pub fn refuse(&mut self, line: u64, what: &'static str) {
         if self.fault.is_none() {
-            self.fault = Some(Fault { line, what });
+            self.fault = Some(CaseFault { line, what });
         }
     }
 
@@ -103,7 +103,7 @@ impl Desk {
 
 /// A place of what is wanted: a line of the output, the line of a number among those that stand in order, or the files of the disk.
 #[derive(Clone, Copy)]
-pub enum Place {
+pub enum WantedPlace {
     Status,
     Fault,
     Line(u64),
@@ -127,7 +127,7 @@ pub struct Plain {
     pub room: u64,
     pub status: u64,
     pub mode: Mode,
-    pub differs: Option<Place>,
+    pub differs: Option<WantedPlace>,
     ghost some: { 1 ≤ short },
 }
 
@@ -136,7 +136,7 @@ pub struct Plain {
 /// for each proper prefix of it. Where a line of version 1 is told, the report is renewed from the one that has this line. Where a
 /// number of crashes is told, the run is also recorded on disks that fail, and gone on from what crashes leave.
 #[derive(Drop)]
-pub struct Given {
+pub struct CaseSetting {
     pub files: Files,
     pub disk: Files,
     pub shelf_fails: Numbers,
@@ -149,10 +149,10 @@ pub struct Given {
     pub crashes: u64,
 }
 
-impl Given {
+impl CaseSetting {
     /// What a case gives that gives nothing: no files, no words, no calls that fail.
-    pub fn new(alloc: Global) -> Given {
-        Given {
+    pub fn new(alloc: Global) -> CaseSetting {
+        CaseSetting {
             files: Seq::new(alloc),
             disk: Seq::new(alloc),
             shelf_fails: Seq::new(alloc),

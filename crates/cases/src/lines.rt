@@ -2,7 +2,7 @@
 
 ghost use Rattle.std.specs.Prelude.{◌≡◌, ◌==◌, ◌<◌, length};
 
-use crate::form::{Desk, Entry, Line, Section};
+use crate::form::{CaseEntry, CaseLine, Desk, Section};
 use asl_term::sequence::Starved;
 
 /// The words that begin a line of a text.
@@ -52,17 +52,17 @@ pub fn is_blank(byte: &u8) -> bool
 }
 
 /// A line by its first word.
-pub fn line_of(number: u64, bytes: &[u8]) -> Line<'_> {
+pub fn line_of(number: u64, bytes: &[u8]) -> CaseLine<'_> {
     for at in 0..bytes.len() {
         if bytes[at] == b' ' {
-            return Line {
+            return CaseLine {
                 number,
                 word: &bytes[..at],
                 rest: &bytes[at + 1..],
             };
         }
     }
-    Line {
+    CaseLine {
         number,
         word: bytes,
         rest: &[],
@@ -70,7 +70,7 @@ pub fn line_of(number: u64, bytes: &[u8]) -> Line<'_> {
 }
 
 /// The lines that are neither empty nor comments.
-pub fn read_lines<'a>(text: &'a [u8], lines: &mut Vec<Line<'a>>) -> Result<(), Starved> {
+pub fn read_lines<'a>(text: &'a [u8], lines: &mut Vec<CaseLine<'a>>) -> Result<(), Starved> {
     let mut number = 0u64;
     for bytes in text.split(is_feed) {
         number = number.saturating_add(1);
@@ -91,16 +91,16 @@ fn is_among(word: &[u8], words: &[&str]) -> bool {
 }
 
 /// Whether a line begins a case or a refused file.
-pub fn is_head(line: &Line<'_>) -> bool {
+pub fn is_head(line: &CaseLine<'_>) -> bool {
     line.word == b"case".as_slice() || line.word == b"refused".as_slice()
 }
 
-fn is_key(line: &Line<'_>) -> bool {
+fn is_key(line: &CaseLine<'_>) -> bool {
     !is_among(line.word, &PIECES)
 }
 
 /// These lines up to the first that begins a case or a refused file.
-pub fn before_head<'a>(lines: &'a [Line<'a>]) -> &'a [Line<'a>] {
+pub fn before_head<'a>(lines: &'a [CaseLine<'a>]) -> &'a [CaseLine<'a>] {
     for at in 0..lines.len() {
         if is_head(&lines[at]) {
             return &lines[..at];
@@ -110,7 +110,7 @@ pub fn before_head<'a>(lines: &'a [Line<'a>]) -> &'a [Line<'a>] {
 }
 
 /// These lines up to the first that begins with a key.
-fn before_key<'a>(lines: &'a [Line<'a>]) -> &'a [Line<'a>] {
+fn before_key<'a>(lines: &'a [CaseLine<'a>]) -> &'a [CaseLine<'a>] {
     for at in 0..lines.len() {
         if is_key(&lines[at]) {
             return &lines[..at];
@@ -120,10 +120,10 @@ fn before_key<'a>(lines: &'a [Line<'a>]) -> &'a [Line<'a>] {
 }
 
 /// What stands under the key of the line at this place.
-pub fn entry_at<'a>(lines: &'a [Line<'a>], at: usize) -> Entry<'a>
+pub fn entry_at<'a>(lines: &'a [CaseLine<'a>], at: usize) -> CaseEntry<'a>
     requires { at < length lines.now }
 {
-    Entry {
+    CaseEntry {
         number: lines[at].number,
         rest: lines[at].rest,
         pieces: before_key(&lines[at + 1..]),
@@ -131,7 +131,7 @@ pub fn entry_at<'a>(lines: &'a [Line<'a>], at: usize) -> Entry<'a>
 }
 
 /// The section that the line at this place begins.
-pub fn section_at<'a>(lines: &'a [Line<'a>], at: usize) -> Section<'a>
+pub fn section_at<'a>(lines: &'a [CaseLine<'a>], at: usize) -> Section<'a>
     requires { at < length lines.now }
 {
     Section {
@@ -143,7 +143,7 @@ pub fn section_at<'a>(lines: &'a [Line<'a>], at: usize) -> Section<'a>
 }
 
 /// What stands first under this key.
-pub fn find<'a>(section: &Section<'a>, key: &str) -> Option<Entry<'a>> {
+pub fn find<'a>(section: &Section<'a>, key: &str) -> Option<CaseEntry<'a>> {
     let lines = section.body;
     for at in 0..lines.len() {
         if lines[at].word == key.as_bytes() {
@@ -154,7 +154,7 @@ pub fn find<'a>(section: &Section<'a>, key: &str) -> Option<Entry<'a>> {
 }
 
 /// Whether a word begins one of these lines.
-pub fn has_word(lines: &[Line<'_>], word: &[u8]) -> bool {
+pub fn has_word(lines: &[CaseLine<'_>], word: &[u8]) -> bool {
     for line in lines {
         if line.word == word {
             return true;
@@ -167,7 +167,7 @@ pub fn has_word(lines: &[Line<'_>], word: &[u8]) -> bool {
 const FILE_KEYS: [&str; 3] = ["file", "disk", "kept"];
 
 /// Refuses a line that has no known key and is no part of a text, and a key that stands twice.
-fn check_lines(lines: &[Line<'_>], texts: &[&str], plain: &[&str], desk: &mut Desk) {
+fn check_lines(lines: &[CaseLine<'_>], texts: &[&str], plain: &[&str], desk: &mut Desk) {
     let mut takes_text = false;
     for at in 0..lines.len() {
         let line = lines[at];
@@ -196,7 +196,7 @@ pub fn check_section(section: &Section<'_>, desk: &mut Desk) {
 }
 
 /// Refuses a name that is empty or stands twice.
-pub fn check_name(lines: &[Line<'_>], head: &Line<'_>, desk: &mut Desk) {
+pub fn check_name(lines: &[CaseLine<'_>], head: &CaseLine<'_>, desk: &mut Desk) {
     if head.rest.is_empty() {
         desk.refuse(head.number, "it has no name");
     }

@@ -1,4 +1,9 @@
-//! Runs the cases that stand in the files that the words name, and tells which of them fail.
+//! A program that runs the cases in the files that its words name, such as those in its `data/`: whole calls over a shelf, a sink and a disk in
+//! memory. It reports which of them differ.
+//!
+//! May stand on: asl_term, mas_mind, mas_world, mas_artifact, mas_pool, mas_io, mas_record, mas_report, mas_top
+//!
+//! Must not: write a file, run a case over real files, start a thread of its own, decide a rule of the language.
 #![tactic(auto)]
 
 mod comparing;

@@ -2,7 +2,9 @@
 
 ghost use Rattle.std.specs.Prelude.{◌≡◌, ◌≢◌, ◌++◌, ◌∷◌, [], OnOk};
 
-use crate::form::{Desk, Entry, Fault, Given, Line, Mode, Place, Plain, Section, Wanted};
+use crate::form::{
+    CaseEntry, CaseFault, CaseLine, CaseSetting, Desk, Mode, Plain, Section, Wanted, WantedPlace,
+};
 use crate::lines::{
     check_name, check_section, entry_at, find, has_word, is_feed, is_head, line_of, section_at,
 };
@@ -162,14 +164,14 @@ fn workers_into(section: &Section<'_>, workers: &mut Numbers, desk: &mut Desk) {
 }
 
 /// A file of a usual name.
-fn put_usual(name: &str, entry: &Entry<'_>, files: &mut Files, desk: &mut Desk) {
+fn put_usual(name: &str, entry: &CaseEntry<'_>, files: &mut Files, desk: &mut Desk) {
     let mut bytes = Seq::new(desk.alloc);
     text_into(entry, &mut bytes, desk);
     desk.put_file(name.as_bytes(), bytes, files);
 }
 
 /// A file of the name behind its key.
-fn put_named_file(entry: &Entry<'_>, files: &mut Files, desk: &mut Desk) {
+fn put_named_file(entry: &CaseEntry<'_>, files: &mut Files, desk: &mut Desk) {
     if entry.rest.is_empty() {
         desk.refuse(entry.number, "a file has no name");
     }
@@ -179,7 +181,7 @@ fn put_named_file(entry: &Entry<'_>, files: &mut Files, desk: &mut Desk) {
 }
 
 /// The project of a world, and the world.
-fn put_world(entry: &Entry<'_>, files: &mut Files, desk: &mut Desk) {
+fn put_world(entry: &CaseEntry<'_>, files: &mut Files, desk: &mut Desk) {
     let mut project = Seq::new(desk.alloc);
     desk.put(PROJECT_TEXT.as_bytes(), &mut project);
     desk.put_file(PROJECT_NAME.as_bytes(), project, files);
@@ -249,7 +251,12 @@ fn put_end(section: &Section<'_>, turns: u64, out: &mut Text, desk: &mut Desk) {
 }
 
 /// The lines under `trace`, as a whole report where its turns are told.
-fn trace_into(section: &Section<'_>, trace: &Entry<'_>, out: &mut Text, desk: &mut Desk) -> Mode {
+fn trace_into(
+    section: &Section<'_>,
+    trace: &CaseEntry<'_>,
+    out: &mut Text,
+    desk: &mut Desk,
+) -> Mode {
     let Some(entry) = find(section, "turns") else {
         lines_into(trace, out, desk);
         return Mode::Agents;
@@ -262,7 +269,7 @@ fn trace_into(section: &Section<'_>, trace: &Entry<'_>, out: &mut Text, desk: &m
 }
 
 /// The lines under `has`, of which there is one.
-fn has_into(has: &Entry<'_>, out: &mut Text, desk: &mut Desk) -> Mode {
+fn has_into(has: &CaseEntry<'_>, out: &mut Text, desk: &mut Desk) -> Mode {
     lines_into(has, out, desk);
     if out.len() == 0 {
         desk.refuse(has.number, "no line stands behind this one");
@@ -333,23 +340,23 @@ fn end_line(fault: &mut Text) -> Result<(), Starved>
 }
 
 /// The place at which the call has to differ first, if any.
-fn differs_of(section: &Section<'_>, desk: &mut Desk) -> Option<Place> {
+fn differs_of(section: &Section<'_>, desk: &mut Desk) -> Option<WantedPlace> {
     let entry = find(section, "differs")?;
     let named = line_of(entry.number, entry.rest);
     if entry.rest == b"status".as_slice() {
-        return Some(Place::Status);
+        return Some(WantedPlace::Status);
     }
     if entry.rest == b"fault".as_slice() {
-        return Some(Place::Fault);
+        return Some(WantedPlace::Fault);
     }
     if entry.rest == b"disk".as_slice() {
-        return Some(Place::Disk);
+        return Some(WantedPlace::Disk);
     }
     if named.word == b"line".as_slice() {
-        return Some(Place::Line(number(entry.number, named.rest, 1, 1_000_000_000, desk)));
+        return Some(WantedPlace::Line(number(entry.number, named.rest, 1, 1_000_000_000, desk)));
     }
     if named.word == b"has".as_slice() {
-        return Some(Place::InOrder(number(entry.number, named.rest, 1, 1_000_000_000, desk)));
+        return Some(WantedPlace::InOrder(number(entry.number, named.rest, 1, 1_000_000_000, desk)));
     }
     desk.refuse(entry.number, "unknown place");
     None
@@ -364,7 +371,7 @@ fn check_options(section: &Section<'_>, desk: &mut Desk) {
 /// Reads a case.
 pub fn read_case(
     section: &Section<'_>,
-    given: &mut Given,
+    given: &mut CaseSetting,
     wanted: &mut Wanted,
     desk: &mut Desk,
 ) -> Plain {
@@ -422,7 +429,7 @@ pub fn read_refused(section: &Section<'_>, file: &mut Text, message: &mut Text, 
 
 fn read_section(section: &Section<'_>, desk: &mut Desk) {
     if section.is_case {
-        let (mut given, mut wanted) = (Given::new(desk.alloc), Wanted::new(desk.alloc));
+        let (mut given, mut wanted) = (CaseSetting::new(desk.alloc), Wanted::new(desk.alloc));
         read_case(section, &mut given, &mut wanted, desk);
     } else {
         let (mut file, mut message) = (Seq::new(desk.alloc), Seq::new(desk.alloc));
@@ -431,7 +438,7 @@ fn read_section(section: &Section<'_>, desk: &mut Desk) {
 }
 
 /// The first fault of a file, if any.
-pub fn fault_of(alloc: Global, lines: &[Line<'_>]) -> Option<Fault> {
+pub fn fault_of(alloc: Global, lines: &[CaseLine<'_>]) -> Option<CaseFault> {
     let mut desk = Desk::new(alloc);
     match lines.first() {
         None => desk.refuse(0, "no case"),

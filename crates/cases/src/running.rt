@@ -1,11 +1,11 @@
 //! The call of a case, over a shelf and a sink in memory.
 
 ghost use Rattle.std.specs.Prelude.{◌≡◌, ◌≤◌, true, is_some, IfOk, OnOk};
-ghost use Rattle.mas_keeping.specs.Disks.{IsFree};
+ghost use Rattle.mas_top_record.specs.Disks.{IsFree};
 
 use crate::comparing::{Difference, Got, first_difference, passes, put_shown};
 use crate::crashing::survives;
-use crate::form::{Desk, Given, Place, Plain, Section, Wanted};
+use crate::form::{CaseSetting, Desk, Plain, Section, Wanted, WantedPlace};
 use crate::lines::{is_feed, read_lines};
 use crate::reading::{fault_of, read_case, read_refused};
 use crate::telling::{put_fault, put_reason};
@@ -14,12 +14,12 @@ use asl_term::room::Roomy;
 use asl_term::sequence::{Seq, Starved};
 use asl_term::syntax::{Files, Numbers, Text};
 use mas_artifact::opening::all_kinds;
-use mas_disk::disk::Disk;
-use mas_disks::memory::{MemoryDisk, memory_disk};
-use mas_going::gate::OpenGate;
 use mas_io::memory::{MemoryShelf, MemorySink, memory_shelf, memory_sink};
-use mas_reading::status::{Status, code, fault_line};
+use mas_pool_task::gate::OpenGate;
+use mas_record_disk::disk::Disk;
+use mas_record_files::memory::{MemoryDisk, memory_disk};
 use mas_top::top::run_words;
+use mas_top_status::status::{Status, code, fault_line};
 use mas_world::artifact::Artifact;
 use std::alloc::Global;
 use std::sync::Wait;
@@ -119,7 +119,7 @@ fn all_left(disk: &Option<MemoryDisk>, desk: &mut Desk) -> Files {
     }
 }
 
-fn place_of(found: &Option<Difference<'_>>) -> Option<Place> {
+fn place_of(found: &Option<Difference<'_>>) -> Option<WantedPlace> {
     match found {
         None => None,
         Some(difference) => Some(difference.place),
@@ -158,7 +158,7 @@ fn judge(
 
 /// How a call ended, by its code, and what it wrote.
 #[derive(Clone, Copy)]
-pub struct Done<'a> {
+pub struct CallEnd<'a> {
     pub status: u8,
     pub written: &'a [u8],
 }
@@ -298,7 +298,7 @@ fn writes<R: Threads + Wait + Sync>(
     words: &[String],
     files: &Files,
     extra: Extra<'_>,
-    wanted: &Done<'_>,
+    wanted: &CallEnd<'_>,
     desk: &mut Desk,
 ) -> Result<bool, Starved> {
     let mut disk = Some(memory_disk(desk.alloc, Seq::new(desk.alloc), Seq::new(desk.alloc))?);
@@ -321,7 +321,7 @@ pub fn is_again<R: Threads + Wait + Sync>(
     rt: &R,
     words: &[String],
     files: &Files,
-    done: &Done<'_>,
+    done: &CallEnd<'_>,
     reason: &mut Text,
     desk: &mut Desk,
 ) -> Result<bool, Starved> {
@@ -396,7 +396,7 @@ fn is_renewed<R: Threads + Wait + Sync>(
         name: OLD,
         bytes: old.as_slice(),
     };
-    let wanted = Done {
+    let wanted = CallEnd {
         status: 0,
         written: report,
     };
@@ -424,7 +424,7 @@ struct Ended<'a> {
 fn is_wanted<R: Threads + Wait + Sync>(
     rt: &R,
     plain: &Plain,
-    given: &Given,
+    given: &CaseSetting,
     wanted: &Wanted,
     ended: &Ended<'_>,
     reason: &mut Text,
@@ -441,7 +441,7 @@ fn is_wanted<R: Threads + Wait + Sync>(
     ) {
         return Ok(false);
     }
-    let done = Done {
+    let done = CallEnd {
         status: code(ended.status),
         written: ended.written,
     };
@@ -465,7 +465,7 @@ fn is_wanted<R: Threads + Wait + Sync>(
 fn run_once<R: Threads + Wait + Sync>(
     rt: &R,
     plain: &Plain,
-    given: &Given,
+    given: &CaseSetting,
     files: &Files,
     words: &[String],
     wanted: &Wanted,
@@ -515,7 +515,7 @@ fn run_once<R: Threads + Wait + Sync>(
 fn run_cut<R: Threads + Wait + Sync>(
     rt: &R,
     plain: &Plain,
-    given: &Given,
+    given: &CaseSetting,
     wanted: &Wanted,
     reason: &mut Text,
     desk: &mut Desk,
@@ -537,7 +537,7 @@ fn run_cut<R: Threads + Wait + Sync>(
 fn run<R: Threads + Wait + Sync>(
     rt: &R,
     plain: &Plain,
-    given: &Given,
+    given: &CaseSetting,
     wanted: &Wanted,
     reason: &mut Text,
     desk: &mut Desk,
@@ -582,7 +582,7 @@ pub fn run_case<R: Threads + Wait + Sync>(
     reason: &mut Text,
     desk: &mut Desk,
 ) -> bool {
-    let (mut given, mut wanted) = (Given::new(desk.alloc), Wanted::new(desk.alloc));
+    let (mut given, mut wanted) = (CaseSetting::new(desk.alloc), Wanted::new(desk.alloc));
     let plain = read_case(section, &mut given, &mut wanted, desk);
     if desk.fault.is_some() {
         return false;

@@ -1,11 +1,11 @@
 //! The lines that tell why a case failed.
 
 use crate::comparing::Difference;
-use crate::form::{Desk, Fault, Place, Plain};
+use crate::form::{CaseFault, Desk, Plain, WantedPlace};
 use asl_term::syntax::Text;
 
 /// Why a file can't be read, with its line where it has one.
-pub fn put_fault(fault: &Fault, out: &mut Text, desk: &mut Desk) {
+pub fn put_fault(fault: &CaseFault, out: &mut Text, desk: &mut Desk) {
     if fault.line > 0 {
         desk.put_named("line ", fault.line, out);
         desk.put(b": ", out);
@@ -13,13 +13,13 @@ pub fn put_fault(fault: &Fault, out: &mut Text, desk: &mut Desk) {
     desk.put(fault.what.as_bytes(), out);
 }
 
-fn put_place(place: &Place, out: &mut Text, desk: &mut Desk) {
+fn put_place(place: &WantedPlace, out: &mut Text, desk: &mut Desk) {
     match place {
-        Place::Status => desk.put(b"status", out),
-        Place::Fault => desk.put(b"fault", out),
-        Place::Line(number) => desk.put_named("line ", *number, out),
-        Place::InOrder(number) => desk.put_named("has ", *number, out),
-        Place::Disk => desk.put(b"disk", out),
+        WantedPlace::Status => desk.put(b"status", out),
+        WantedPlace::Fault => desk.put(b"fault", out),
+        WantedPlace::Line(number) => desk.put_named("line ", *number, out),
+        WantedPlace::InOrder(number) => desk.put_named("has ", *number, out),
+        WantedPlace::Disk => desk.put(b"disk", out),
     }
 }
 
@@ -46,7 +46,7 @@ pub fn put_reason(
     match (found, &plain.differs) {
         (Some(difference), _) => {
             put_place(&difference.place, out, desk);
-            if let Place::Status = difference.place {
+            if let WantedPlace::Status = difference.place {
                 desk.put_named(": wanted ", plain.status, out);
                 return desk.put_named(", got ", code, out);
             }

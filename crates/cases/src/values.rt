@@ -2,7 +2,7 @@
 
 ghost use Rattle.std.specs.Prelude.{◌≤◌};
 
-use crate::form::{Desk, Entry, Line, Section};
+use crate::form::{CaseEntry, CaseLine, Desk, Section};
 use crate::lines::{find, is_blank};
 use asl_term::syntax::{Numbers, Text};
 
@@ -71,7 +71,7 @@ pub fn numbers_into(
 }
 
 /// Bytes by their numbers.
-fn put_bytes(piece: &Line<'_>, out: &mut Text, desk: &mut Desk) {
+fn put_bytes(piece: &CaseLine<'_>, out: &mut Text, desk: &mut Desk) {
     for digits in piece.rest.split(is_blank) {
         let byte = number(piece.number, digits, 0, 255, desk) as u8;
         desk.check(out.push(byte));
@@ -79,7 +79,7 @@ fn put_bytes(piece: &Line<'_>, out: &mut Text, desk: &mut Desk) {
 }
 
 /// What a line says, so many times.
-fn put_times(piece: &Line<'_>, times: u64, out: &mut Text, desk: &mut Desk) {
+fn put_times(piece: &CaseLine<'_>, times: u64, out: &mut Text, desk: &mut Desk) {
     for _ in 0..times {
         if piece.word == b"!".as_slice() {
             put_bytes(piece, out, desk);
@@ -93,7 +93,7 @@ fn put_times(piece: &Line<'_>, times: u64, out: &mut Text, desk: &mut Desk) {
 }
 
 /// The lines of a text. One that tells how often is for the next one.
-pub fn put_pieces(pieces: &[Line<'_>], out: &mut Text, desk: &mut Desk) {
+pub fn put_pieces(pieces: &[CaseLine<'_>], out: &mut Text, desk: &mut Desk) {
     let mut times = 1;
     for piece in pieces {
         if piece.word == b"*".as_slice() {
@@ -113,13 +113,13 @@ pub fn put_pieces(pieces: &[Line<'_>], out: &mut Text, desk: &mut Desk) {
 }
 
 /// A text: what stands in the line of its key, and the lines behind it.
-pub fn text_into(entry: &Entry<'_>, out: &mut Text, desk: &mut Desk) {
+pub fn text_into(entry: &CaseEntry<'_>, out: &mut Text, desk: &mut Desk) {
     desk.put(entry.rest, out);
     put_pieces(entry.pieces, out, desk);
 }
 
 /// A text of lines, none of them in the line of its key.
-pub fn lines_into(entry: &Entry<'_>, out: &mut Text, desk: &mut Desk) {
+pub fn lines_into(entry: &CaseEntry<'_>, out: &mut Text, desk: &mut Desk) {
     if !entry.rest.is_empty() {
         desk.refuse(entry.number, "the lines stand behind this one");
     }

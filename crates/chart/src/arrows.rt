@@ -1,8 +1,8 @@
 //! Which line that sends a message belongs to which line that took it.
 
 use crate::numbers::cut_at;
-use crate::placing::{Cell, Plan, first_base, next_base};
-use crate::report::{Agent, Report};
+use crate::placing::{Cell, Layout, first_base, next_base};
+use crate::report::{AgentSection, Report};
 use std::alloc::{AllocError, Global};
 
 /// A line that sends or took a message: from whom to whom, which line of its agent it is, and its height.
@@ -30,7 +30,7 @@ struct Marks {
 }
 
 /// The agent of that name.
-fn agent_of(agents: &[Agent<'_>], name: &[u8]) -> Option<usize> {
+fn agent_of(agents: &[AgentSection<'_>], name: &[u8]) -> Option<usize> {
     for (number, agent) in agents.iter().enumerate() {
         if agent.name == name {
             return Some(number);
@@ -42,7 +42,7 @@ fn agent_of(agents: &[Agent<'_>], name: &[u8]) -> Option<usize> {
 /// Keeps a line with this base, the `order`th of its agent, where it sends or took a message.
 fn put_mark(
     marks: &mut Marks,
-    agents: &[Agent<'_>],
+    agents: &[AgentSection<'_>],
     place: (usize, usize, u64),
     text: &[u8],
 ) -> Result<(), AllocError> {
@@ -73,7 +73,7 @@ fn put_mark(
     Ok(())
 }
 
-fn put_cell(marks: &mut Marks, agents: &[Agent<'_>], cell: &Cell) -> Result<(), AllocError> {
+fn put_cell(marks: &mut Marks, agents: &[AgentSection<'_>], cell: &Cell) -> Result<(), AllocError> {
     let Some(agent) = agents.get(cell.agent) else {
         return Ok(());
     };
@@ -123,7 +123,7 @@ fn join(alloc: Global, sends: &[Mark], takes: &[Mark]) -> Result<Vec<Arrow>, All
 }
 
 /// The messages of a report.
-pub fn arrows(alloc: Global, report: &Report<'_>, plan: &Plan) -> Result<Vec<Arrow>, AllocError> {
+pub fn arrows(alloc: Global, report: &Report<'_>, plan: &Layout) -> Result<Vec<Arrow>, AllocError> {
     let mut marks = Marks {
         sends: Vec::new(alloc),
         takes: Vec::new(alloc),

@@ -4,12 +4,12 @@ ghost use Rattle.std.specs.Prelude.{◌≡◌, ◌==◌, map, IfOk};
 ghost use Rattle.std.specs.List.{slice_split};
 ghost use Rattle.chart.specs.Form as spec;
 
-use crate::lines::{Kind, kind_of};
+use crate::lines::{LineKind, kind_of};
 use std::alloc::{AllocError, Global};
 
 /// How far a report was read.
 #[derive(Clone, Copy)]
-pub enum Stage {
+pub enum ReadingStage {
     Start,
     Headed,
     Between,
@@ -22,22 +22,22 @@ pub enum Stage {
 }
 
 /// Where a line leads; None where it may not follow.
-pub fn follow(stage: Stage, kind: Kind) -> Option<Stage>
+pub fn follow(stage: ReadingStage, kind: LineKind) -> Option<ReadingStage>
     ensures { result ≡ spec.follow stage kind }
 {
     match (stage, kind) {
-        (Stage::Start, Kind::Head) => Some(Stage::Headed),
-        (Stage::Headed, Kind::Options) => Some(Stage::Between),
-        (Stage::Between, Kind::Agent) => Some(Stage::Inside),
-        (Stage::Inside, Kind::Numbered) => Some(Stage::Inside),
-        (Stage::Inside, Kind::End) => Some(Stage::Between),
-        (Stage::Between, Kind::World) => Some(Stage::World),
-        (Stage::World, Kind::Fact) => Some(Stage::World),
-        (Stage::World, Kind::Mail) => Some(Stage::Mail),
-        (Stage::Mail, Kind::Letter) => Some(Stage::Mail),
-        (Stage::Mail, Kind::Count) => Some(Stage::Counted),
-        (Stage::Counted, Kind::Numbered) => Some(Stage::Turned),
-        (Stage::Turned, Kind::Empty) => Some(Stage::Done),
+        (ReadingStage::Start, LineKind::Head) => Some(ReadingStage::Headed),
+        (ReadingStage::Headed, LineKind::Options) => Some(ReadingStage::Between),
+        (ReadingStage::Between, LineKind::AgentSection) => Some(ReadingStage::Inside),
+        (ReadingStage::Inside, LineKind::Numbered) => Some(ReadingStage::Inside),
+        (ReadingStage::Inside, LineKind::End) => Some(ReadingStage::Between),
+        (ReadingStage::Between, LineKind::World) => Some(ReadingStage::World),
+        (ReadingStage::World, LineKind::Fact) => Some(ReadingStage::World),
+        (ReadingStage::World, LineKind::Mail) => Some(ReadingStage::Mail),
+        (ReadingStage::Mail, LineKind::Letter) => Some(ReadingStage::Mail),
+        (ReadingStage::Mail, LineKind::Count) => Some(ReadingStage::Counted),
+        (ReadingStage::Counted, LineKind::Numbered) => Some(ReadingStage::Turned),
+        (ReadingStage::Turned, LineKind::Empty) => Some(ReadingStage::Done),
         _ => None,
     }
 }
@@ -53,7 +53,7 @@ pub fn lines_of<'a>(alloc: Global, text: &'a [u8]) -> Result<Vec<&'a [u8]>, Allo
 pub fn first_bad(lines: &[&[u8]]) -> Option<u64>
     ensures { result ≡ spec.first_bad (map (λ l. l.now) lines.now) }
 {
-    let mut stage = Stage::Start;
+    let mut stage = ReadingStage::Start;
     let mut number: u64 = 1;
     'lines: for line in lines {
         match follow(stage, kind_of(line)) {
@@ -63,7 +63,7 @@ pub fn first_bad(lines: &[&[u8]]) -> Option<u64>
         number += 1;
     }
     match stage {
-        Stage::Done => None,
+        ReadingStage::Done => None,
         _ => Some(number),
     }
 }

@@ -5,10 +5,10 @@ ghost use Rattle.chart.specs.Form as spec;
 
 /// A line by its beginning.
 #[derive(Clone, Copy)]
-pub enum Kind {
+pub enum LineKind {
     Head,
     Options,
-    Agent,
+    AgentSection,
     Numbered,
     End,
     World,
@@ -21,23 +21,23 @@ pub enum Kind {
 }
 
 /// A line that begins with a word and a blank.
-fn kind_by_word(line: &[u8]) -> Kind
+fn kind_by_word(line: &[u8]) -> LineKind
     ensures { result ≡ spec.kind_by_word line.now }
 {
     if line.starts_with(b"agent ") {
-        Kind::Agent
+        LineKind::AgentSection
     } else if line.starts_with(b"end ") {
-        Kind::End
+        LineKind::End
     } else if line.starts_with(b"fact ") {
-        Kind::Fact
+        LineKind::Fact
     } else if line.starts_with(b"for ") {
-        Kind::Letter
+        LineKind::Letter
     } else if line.starts_with(b"schedule ") {
-        Kind::Count
+        LineKind::Count
     } else if line.starts_with(b"cycles ") {
-        Kind::Options
+        LineKind::Options
     } else {
-        Kind::Other
+        LineKind::Other
     }
 }
 
@@ -48,20 +48,20 @@ fn is_head(line: &[u8]) -> bool
 }
 
 /// What a line is, by its beginning alone. Whether it may stand where it does is not asked here.
-pub fn kind_of(line: &[u8]) -> Kind
+pub fn kind_of(line: &[u8]) -> LineKind
     ensures { result ≡ spec.kind_of line.now }
 {
     let Some(first) = line.first() else {
-        return Kind::Empty;
+        return LineKind::Empty;
     };
     if *first >= b'0' && *first <= b'9' {
-        Kind::Numbered
+        LineKind::Numbered
     } else if line == b"world".as_slice() {
-        Kind::World
+        LineKind::World
     } else if line == b"mail".as_slice() {
-        Kind::Mail
+        LineKind::Mail
     } else if is_head(line) {
-        Kind::Head
+        LineKind::Head
     } else {
         kind_by_word(line)
     }

@@ -1,4 +1,8 @@
-//! Draws the report of a run: reads it from standard input, and writes a picture, an SVG, to standard output.
+//! A program that draws the report of a run: it reads the report from standard input and writes a picture, an SVG, to standard output.
+//!
+//! May stand on: nothing but std
+//!
+//! Must not: open a file, start a thread, run an agent, stand on a crate of the platform.
 #![tactic(auto)]
 
 mod answer;

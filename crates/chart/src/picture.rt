@@ -11,9 +11,9 @@ use crate::drawing::{
 use crate::faults::Fault;
 use crate::form::{first_bad, lines_of};
 use crate::placing::{
-    Cell, Plan, ROW, SHOWN, STEP, TOP, WIDTH, first_base, lane_left, next_base, place,
+    Cell, Layout, ROW, SHOWN, STEP, TOP, WIDTH, first_base, lane_left, next_base, place,
 };
-use crate::report::{Agent, MOST_TURNS, Report, read};
+use crate::report::{AgentSection, MOST_TURNS, Report, read};
 use crate::signs::{SIGNS, STYLE, is_bad_end, look_of};
 use std::alloc::Global;
 use std::io::Write;
@@ -36,7 +36,7 @@ const END: u64 = 17;
 const LETTER: u64 = 7;
 
 /// The lines of a cycle, each behind its sign.
-fn put_lines(out: &mut Vec<u8>, agent: &Agent<'_>, cell: &Cell) -> Result<(), Fault> {
+fn put_lines(out: &mut Vec<u8>, agent: &AgentSection<'_>, cell: &Cell) -> Result<(), Fault> {
     let left = lane_left(cell.agent);
     let mut base = first_base(cell);
     for index in 0..cell.count {
@@ -56,7 +56,7 @@ fn put_lines(out: &mut Vec<u8>, agent: &Agent<'_>, cell: &Cell) -> Result<(), Fa
     Ok(())
 }
 
-fn put_cycle(out: &mut Vec<u8>, agent: &Agent<'_>, cell: &Cell) -> Result<(), Fault> {
+fn put_cycle(out: &mut Vec<u8>, agent: &AgentSection<'_>, cell: &Cell) -> Result<(), Fault> {
     let left = lane_left(cell.agent);
     let height = cell.bottom.saturating_sub(cell.top);
     if cell.count == 0 {
@@ -69,7 +69,7 @@ fn put_cycle(out: &mut Vec<u8>, agent: &Agent<'_>, cell: &Cell) -> Result<(), Fa
 }
 
 /// The end of an agent's part.
-fn put_end(out: &mut Vec<u8>, agent: &Agent<'_>, left: u64, at: u64) -> Result<(), Fault> {
+fn put_end(out: &mut Vec<u8>, agent: &AgentSection<'_>, left: u64, at: u64) -> Result<(), Fault> {
     let bad = is_bad_end(agent.end);
     let right = left.saturating_add(WIDTH);
     put_line(
@@ -97,7 +97,12 @@ fn put_end(out: &mut Vec<u8>, agent: &Agent<'_>, left: u64, at: u64) -> Result<(
 }
 
 /// An agent's name, the dashes down its middle, and its end, where that is in the picture.
-fn put_lane(out: &mut Vec<u8>, agent: &Agent<'_>, number: usize, plan: &Plan) -> Result<(), Fault> {
+fn put_lane(
+    out: &mut Vec<u8>,
+    agent: &AgentSection<'_>,
+    number: usize,
+    plan: &Layout,
+) -> Result<(), Fault> {
     let left = lane_left(number);
     let middle = left.saturating_add(WIDTH / 2);
     put_text(
@@ -145,7 +150,7 @@ fn put_arrow(out: &mut Vec<u8>, arrow: &Arrow) -> Result<(), Fault> {
 }
 
 /// The number of every tenth turn.
-fn put_turns(out: &mut Vec<u8>, plan: &Plan) -> Result<(), Fault> {
+fn put_turns(out: &mut Vec<u8>, plan: &Layout) -> Result<(), Fault> {
     put_text(out, 8, TOP.saturating_sub(14), "small", NAME_SHOWN, b"turn")?;
     for (index, at) in plan.turns.iter().enumerate() {
         let turn = index.saturating_add(1);
@@ -179,7 +184,7 @@ fn put_list(
 }
 
 /// What stands above the lanes: the options, and how many of the turns are shown.
-fn put_top(out: &mut Vec<u8>, report: &Report<'_>, plan: &Plan) -> Result<(), Fault> {
+fn put_top(out: &mut Vec<u8>, report: &Report<'_>, plan: &Layout) -> Result<(), Fault> {
     let count = report.count.unwrap_or(0);
     let agents = report.agents.len();
     wrote(write!(
@@ -211,7 +216,7 @@ fn put_head(out: &mut Vec<u8>, width: u64, height: u64) -> Result<(), Fault> {
     put_box(out, 0, 0, width, height, "paper")
 }
 
-fn put_lanes(out: &mut Vec<u8>, report: &Report<'_>, plan: &Plan) -> Result<(), Fault> {
+fn put_lanes(out: &mut Vec<u8>, report: &Report<'_>, plan: &Layout) -> Result<(), Fault> {
     for (number, agent) in report.agents.iter().enumerate() {
         put_lane(out, agent, number, plan)?;
     }
@@ -219,7 +224,7 @@ fn put_lanes(out: &mut Vec<u8>, report: &Report<'_>, plan: &Plan) -> Result<(), 
 }
 
 /// The cycles, which cover what is drawn before.
-fn put_cycles(out: &mut Vec<u8>, report: &Report<'_>, plan: &Plan) -> Result<(), Fault> {
+fn put_cycles(out: &mut Vec<u8>, report: &Report<'_>, plan: &Layout) -> Result<(), Fault> {
     for cell in &plan.cells {
         if let Some(agent) = report.agents.get(cell.agent) {
             put_cycle(out, agent, cell)?;
@@ -229,7 +234,7 @@ fn put_cycles(out: &mut Vec<u8>, report: &Report<'_>, plan: &Plan) -> Result<(),
 }
 
 /// The world and the mail; then the height below them.
-fn put_foot(out: &mut Vec<u8>, report: &Report<'_>, plan: &Plan) -> Result<u64, Fault> {
+fn put_foot(out: &mut Vec<u8>, report: &Report<'_>, plan: &Layout) -> Result<u64, Fault> {
     let width = width_of(report);
     let y = plan.bottom.saturating_add(ROW * 4);
     let y = put_list(out, y, width, b"world", report.facts.as_slice())?;

@@ -1,6 +1,6 @@
 //! Where the cycles of a report stand in its picture.
 
-use crate::report::{Agent, Line, MOST_TURNS, Report};
+use crate::report::{AgentSection, Line, MOST_TURNS, Report};
 use crate::rows::rows_of;
 use std::alloc::{AllocError, Global};
 
@@ -42,7 +42,7 @@ pub struct Lane {
 }
 
 #[derive(Drop)]
-pub struct Plan {
+pub struct Layout {
     pub cells: Vec<Cell>,
     pub lanes: Vec<Lane>,
     /// Where each turn stands.
@@ -82,7 +82,7 @@ fn extent(lines: &[Line<'_>], cycle: u64, base: u64) -> (usize, u64) {
 }
 
 /// The cycle that ends with a turn at this height.
-fn cell_of(agent: &Agent<'_>, number: usize, lane: &Lane, at: u64) -> Cell {
+fn cell_of(agent: &AgentSection<'_>, number: usize, lane: &Lane, at: u64) -> Cell {
     let cycle = (lane.turns / 2).saturating_add(1);
     let lines = agent.lines.as_slice().get(lane.next..).unwrap_or(&[]);
     let (count, foot) = extent(lines, cycle, lane.top.saturating_add(STEP));
@@ -97,7 +97,11 @@ fn cell_of(agent: &Agent<'_>, number: usize, lane: &Lane, at: u64) -> Cell {
 }
 
 /// Places the next turn of an agent, and goes on below it.
-fn place_turn(plan: &mut Plan, agent: &Agent<'_>, number: usize) -> Result<(), AllocError> {
+fn place_turn(
+    plan: &mut Layout,
+    agent: &AgentSection<'_>,
+    number: usize,
+) -> Result<(), AllocError> {
     let Some(lane) = plan.lanes.get_mut(number) else {
         return Ok(());
     };
@@ -119,7 +123,7 @@ fn place_turn(plan: &mut Plan, agent: &Agent<'_>, number: usize) -> Result<(), A
     Ok(())
 }
 
-fn empty(alloc: Global, report: &Report<'_>) -> Result<Plan, AllocError> {
+fn empty(alloc: Global, report: &Report<'_>) -> Result<Layout, AllocError> {
     let mut lanes = Vec::new(alloc);
     for _ in 0..report.agents.len() {
         lanes.push(Lane {
@@ -130,7 +134,7 @@ fn empty(alloc: Global, report: &Report<'_>) -> Result<Plan, AllocError> {
         })?;
     }
     let whole = report.count.unwrap_or(0) <= MOST_TURNS as u64;
-    Ok(Plan {
+    Ok(Layout {
         cells: Vec::new(alloc),
         lanes,
         turns: Vec::new(alloc),
@@ -140,7 +144,7 @@ fn empty(alloc: Global, report: &Report<'_>) -> Result<Plan, AllocError> {
 }
 
 /// Places the turns one below the other, and the cycles between them.
-pub fn place(alloc: Global, report: &Report<'_>) -> Result<Plan, AllocError> {
+pub fn place(alloc: Global, report: &Report<'_>) -> Result<Layout, AllocError> {
     let mut plan = empty(alloc, report)?;
     for number in &report.turns {
         if let Some(agent) = report.agents.get(*number) {

@@ -1,6 +1,6 @@
 //! What is drawn of a report.
 
-use crate::lines::{Kind, kind_of};
+use crate::lines::{LineKind, kind_of};
 use crate::numbers::{cut_at, last_word, number};
 use std::alloc::{AllocError, Global};
 
@@ -15,7 +15,7 @@ pub struct Line<'a> {
 }
 
 #[derive(Drop)]
-pub struct Agent<'a> {
+pub struct AgentSection<'a> {
     pub name: &'a [u8],
     pub lines: Vec<Line<'a>>,
     /// How its part ended, and after how many cycles.
@@ -25,7 +25,7 @@ pub struct Agent<'a> {
 #[derive(Drop)]
 pub struct Report<'a> {
     pub options: &'a [u8],
-    pub agents: Vec<Agent<'a>>,
+    pub agents: Vec<AgentSection<'a>>,
     pub facts: Vec<&'a [u8]>,
     pub mail: Vec<&'a [u8]>,
     /// How many turns there were.
@@ -98,7 +98,7 @@ fn put_end<'a>(report: &mut Report<'a>, line: &'a [u8]) -> bool {
 }
 
 fn put_agent<'a>(alloc: Global, report: &mut Report<'a>, name: &'a [u8]) -> Result<(), AllocError> {
-    report.agents.push(Agent {
+    report.agents.push(AgentSection {
         name,
         lines: Vec::new(alloc),
         end: &[],
@@ -114,18 +114,18 @@ fn put_line<'a>(
 ) -> Result<bool, AllocError> {
     let (_, behind) = cut_at(b' ', line);
     match kind_of(line) {
-        Kind::Options => report.options = line,
-        Kind::Agent => put_agent(alloc, report, behind)?,
-        Kind::Numbered => {
+        LineKind::Options => report.options = line,
+        LineKind::AgentSection => put_agent(alloc, report, behind)?,
+        LineKind::Numbered => {
             return match report.count {
                 None => put_trace(report, line),
                 Some(count) => put_turns(report, line, count),
             };
         }
-        Kind::End => return Ok(put_end(report, line)),
-        Kind::Fact => report.facts.push(behind)?,
-        Kind::Letter => report.mail.push(line)?,
-        Kind::Count => {
+        LineKind::End => return Ok(put_end(report, line)),
+        LineKind::Fact => report.facts.push(behind)?,
+        LineKind::Letter => report.mail.push(line)?,
+        LineKind::Count => {
             report.count = number(behind);
             return Ok(report.count.is_some());
         }

@@ -5,12 +5,12 @@ use Rattle.asl_lexer.specs.declared.token.LexFault.{LexFault}
 use Rattle.asl_lexer.specs.Words.{pieces, is_end, IsCut}
 use Rattle.asl_lexer.specs.Words as words
 use Rattle.asl_lexer.specs.Lexing.{AreTokens}
-use Rattle.asl_meaning.specs.declared.lexeme.Lexeme.{Lexeme}
-use Rattle.asl_meaning.specs.Lexemes.{lexemes}
-use Rattle.asl_meaning.specs.Limits.{too_deep}
-use Rattle.asl_meaning.specs.declared.bounded.Bounded.TheVariants.{Within}
-use Rattle.asl_meaning.specs.Holding.{limited, unlimited, keep_if}
-use Rattle.asl_meaning.proofs.Options.{some_is}
+use Rattle.asl_parser_tree.specs.declared.lexeme.Lexeme.{Lexeme}
+use Rattle.asl_parser_tree.specs.Lexemes.{lexemes}
+use Rattle.asl_parser_tree.specs.Limits.{too_deep}
+use Rattle.asl_parser_tree.specs.declared.bounded.Bounded.TheVariants.{Within}
+use Rattle.asl_parser_tree.specs.Holding.{limited, unlimited, keep_if}
+use Rattle.asl_parser_tree.proofs.Options.{some_is}
 use Rattle.mas_world.specs.declared.acts.WorldText.{WorldText}
 use Rattle.env_file.specs.declared.fault.WorldFault.{WorldFault}
 use Rattle.env_file.specs.declared.fault.WorldFault.TheVariants.{Memory, Lex, Clause, Limit, Unbound, UnknownArtifact}

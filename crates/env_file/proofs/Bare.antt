@@ -17,22 +17,22 @@ use Rattle.asl_term.specs.declared.syntax.Expr.TheVariants as expr
 use Rattle.asl_term.specs.Trees.{all, or_true}
 use Rattle.asl_term.proofs.Terms.{fold_num, fold_str, fold_var, fold_lit, fold_list, fold_op}
 use Rattle.asl_term.proofs.Exprs.{fold_true, fold_false, fold_holds, fold_rel, fold_inner, fold_not, fold_and, fold_or}
-use Rattle.asl_meaning.specs.declared.lexeme.Lexeme.{Lexeme}
-use Rattle.asl_meaning.specs.declared.lexeme.Lexeme.TheVariants.{Atom, Truth, Sign}
-use Rattle.asl_meaning.specs.declared.meaning.Meaning.{Meaning}
-use Rattle.asl_meaning.specs.declared.meaning.Meaning.TheVariants as meaning
-use Rattle.asl_meaning.specs.declared.meaning.Joint.{Joint}
-use Rattle.asl_meaning.specs.declared.meaning.Joint.TheVariants as joint
-use Rattle.asl_meaning.specs.declared.meaning.Prefix.{Prefix}
-use Rattle.asl_meaning.specs.declared.meaning.Prefix.TheVariants as prefix
-use Rattle.asl_meaning.specs.declared.leaves.Shape.{Shape}
-use Rattle.asl_meaning.specs.declared.leaves.Shape.TheVariants as shape
-use Rattle.asl_meaning.specs.Meanings.{◌>>=◌, as_term, as_terms, as_formula, as_args, both_terms, both_formulas, arith, either_of, both_of, atom, truth_name, joined, compared, prefixed, called, is_pure, is_deed}
-use Rattle.asl_meaning.specs.Leaves.{variable}
-use Rattle.asl_reading.specs.Grammar.{Rule, Reads, just_or, just_and, just_negation, just_relation, just_sum, just_product, just_signed, chained, related, negated, subtracted, a_number, a_negative, a_string, a_variable, a_truth, a_literal, a_list, in_brackets, a_call, ReadsItems, last_item, next_item, ReadsParts, no_parts, round_parts, square_parts, ReadsAtom, an_atom, ReadsLiteral, is_held, is_denied, ReadsList, empty_list, some_list, ReadsTail, no_tail, variable_tail, list_tail}
-use Rattle.asl_reading.proofs.Sound.{bind_some}
-use Rattle.asl_meaning.proofs.Options.{some_is}
-use Rattle.asl_grammar.specs.Sentences.{ReadsHead, a_head, ReadsFormula, a_formula}
+use Rattle.asl_parser_tree.specs.declared.lexeme.Lexeme.{Lexeme}
+use Rattle.asl_parser_tree.specs.declared.lexeme.Lexeme.TheVariants.{Atom, Truth, Sign}
+use Rattle.asl_parser_tree.specs.declared.meaning.Meaning.{Meaning}
+use Rattle.asl_parser_tree.specs.declared.meaning.Meaning.TheVariants as meaning
+use Rattle.asl_parser_tree.specs.declared.meaning.Joint.{Joint}
+use Rattle.asl_parser_tree.specs.declared.meaning.Joint.TheVariants as joint
+use Rattle.asl_parser_tree.specs.declared.meaning.Prefix.{Prefix}
+use Rattle.asl_parser_tree.specs.declared.meaning.Prefix.TheVariants as prefix
+use Rattle.asl_parser_tree.specs.declared.leaves.BracketShape.{BracketShape}
+use Rattle.asl_parser_tree.specs.declared.leaves.BracketShape.TheVariants as shape
+use Rattle.asl_parser_tree.specs.Meanings.{◌>>=◌, as_term, as_terms, as_formula, as_args, both_terms, both_formulas, arith, either_of, both_of, atom, truth_name, joined, compared, prefixed, called, is_pure, is_deed}
+use Rattle.asl_parser_tree.specs.Leaves.{variable}
+use Rattle.asl_parser_expr.specs.Grammar.{Rule, Reads, just_or, just_and, just_negation, just_relation, just_sum, just_product, just_signed, chained, related, negated, subtracted, a_number, a_negative, a_string, a_variable, a_truth, a_literal, a_list, in_brackets, a_call, ReadsItems, last_item, next_item, ReadsParts, no_parts, round_parts, square_parts, ReadsAtom, an_atom, ReadsLiteral, is_held, is_denied, ReadsList, empty_list, some_list, ReadsTail, no_tail, variable_tail, list_tail}
+use Rattle.asl_parser_expr.proofs.Sound.{bind_some}
+use Rattle.asl_parser_tree.proofs.Options.{some_is}
+use Rattle.asl_parser.specs.Sentences.{ReadsHead, a_head, ReadsFormula, a_formula}
 use Rattle.env_file.specs.declared.statement.Part.{Part}
 use Rattle.env_file.specs.declared.statement.Part.TheVariants.{Holds, Denied, Related}
 use Rattle.env_file.specs.declared.statement.Effect.{Effect}
@@ -81,17 +81,17 @@ listing_bare l g = fold_list Bool bare_step l ∙ both_hold g.0 g.1
 arith_bare : (op : Op) (a b : Term) → is_bare a ≡ true → is_bare b ≡ true → is_bare (arith op a b) ≡ true
 arith_bare op a b g h = fold_op Bool bare_step (record { op = op; left = a; right = b }) ∙ both_hold g h
 
-abbrev Parts : Type 0
-Parts = Option (List Part)
+abbrev StatementParts : Type 0
+StatementParts = Option (List Part)
 
 holds_bare : (l : LiteralOf Term) → is_bare_literal l ≡ true → BareExpr (expr.Holds l)
-holds_bare l g ps e = subst BareParts (some_is (Holds l ∷ []) ps (sym (fold_holds Parts parts_step l) ∙ e)) (both_hold g refl)
+holds_bare l g ps e = subst BareParts (some_is (Holds l ∷ []) ps (sym (fold_holds StatementParts parts_step l) ∙ e)) (both_hold g refl)
 
 rel_bare : (r : Relation) → is_bare r.left ≡ true → is_bare r.right ≡ true → BareExpr (expr.Rel r)
-rel_bare r g h ps e = subst BareParts (some_is (Related r ∷ []) ps (sym (fold_rel Parts parts_step r) ∙ e)) (both_hold (both_hold g h) refl)
+rel_bare r g h ps e = subst BareParts (some_is (Related r ∷ []) ps (sym (fold_rel StatementParts parts_step r) ∙ e)) (both_hold (both_hold g h) refl)
 
-no_parts_in : {x : Parts} → x ≡ None → (ps : List Part) → x ≡ Some ps → BareParts ps
-no_parts_in e ps f = let g : ◌≡◌ {A = Parts} None (Some ps) = sym e ∙ f in absurd cc
+no_parts_in : {x : StatementParts} → x ≡ None → (ps : List Part) → x ≡ Some ps → BareParts ps
+no_parts_in e ps f = let g : ◌≡◌ {A = StatementParts} None (Some ps) = sym e ∙ f in absurd cc
 
 denied_bare : (qs ps : List Part) → denied qs ≡ Some ps → BareParts qs → BareParts ps
 denied_bare (Holds l ∷ []) ps e g = subst BareParts (some_is (Denied l ∷ []) ps e) g
@@ -99,7 +99,7 @@ denied_bare _ ps e g = absurd cc
 
 not_bare : (a : Expr) → BareExpr a → BareExpr (expr.Not a)
 not_bare a g ps e =
-    let x = bind_some (parts a) denied ps (sym (fold_not Parts parts_step a) ∙ e) in
+    let x = bind_some (parts a) denied ps (sym (fold_not StatementParts parts_step a) ∙ e) in
     denied_bare x.0 ps x.2 (g x.0 x.1)
 
 all_parts : (ps qs : List Part) → BareParts ps → BareParts qs → BareParts (ps ++ qs)
@@ -112,7 +112,7 @@ all_parts (p ∷ ps) qs g h = go (is_bare_part p) refl g (λ k. all_parts ps qs 
 
 and_bare : (a b : Expr) → BareExpr a → BareExpr b → BareExpr (both_of a b)
 and_bare a b g h ps e =
-    let x = bind_some (parts a) _ ps (sym (fold_and Parts parts_step a b) ∙ e) in
+    let x = bind_some (parts a) _ ps (sym (fold_and StatementParts parts_step a b) ∙ e) in
     let y = bind_some (parts b) _ ps x.2 in
     subst BareParts (some_is (x.0 ++ y.0) ps y.2) (all_parts x.0 y.0 (g x.0 x.1) (h y.0 y.1))
 
@@ -139,8 +139,8 @@ term_bare (meaning.Call c) t e g = absurd cc
 term_bare (meaning.Formula x) t e g = absurd cc
 
 truth_bare : (b : Bool) → BareExpr (cond b expr.True expr.False)
-truth_bare true = no_parts_in (fold_true Parts parts_step)
-truth_bare false = no_parts_in (fold_false Parts parts_step)
+truth_bare true = no_parts_in (fold_true StatementParts parts_step)
+truth_bare false = no_parts_in (fold_false StatementParts parts_step)
 
 formula_bare : (m : Meaning) (x : Expr) → as_formula m ≡ Some x → BareMeaning m → BareExpr x
 formula_bare (meaning.Truth b l) x e g = subst BareExpr (some_is (cond b expr.True expr.False) x e) (truth_bare b)
@@ -150,7 +150,7 @@ formula_bare (meaning.Relation r) x e g = subst BareExpr (some_is (expr.Rel r) x
 formula_bare (meaning.Call c) x e g = go (is_pure c.name (length c.args)) e
   where
     go : (b : Bool) → cond b (Some (expr.Inner c)) None ≡ Some x → BareExpr x
-    go true e = subst BareExpr (some_is (expr.Inner c) x e) (no_parts_in (fold_inner Parts parts_step c))
+    go true e = subst BareExpr (some_is (expr.Inner c) x e) (no_parts_in (fold_inner StatementParts parts_step c))
     go false e = absurd cc
 formula_bare (meaning.Formula y) x e g = subst BareExpr (some_is y x e) g
 
@@ -178,7 +178,7 @@ joined_bare : (o : Joint) (l r m : Meaning) → joined o l r ≡ Some m → Bare
 unfolding joined
 joined_bare joint.Or l r m e g h =
     let a = bind_some (both_formulas l r) _ m e in
-    subst BareMeaning (some_is (meaning.Formula (either_of a.0.0 a.0.1)) m a.2) (no_parts_in (fold_or Parts parts_step a.0.0 a.0.1))
+    subst BareMeaning (some_is (meaning.Formula (either_of a.0.0 a.0.1)) m a.2) (no_parts_in (fold_or StatementParts parts_step a.0.0 a.0.1))
 joined_bare joint.And l r m e g h =
     let a = bind_some (both_formulas l r) _ m e in
     let p = and_read l r a.0 a.1 g h in

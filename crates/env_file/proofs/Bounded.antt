@@ -4,12 +4,12 @@ use Rattle.asl_lexer.specs.declared.token.Sign.TheVariants as sign
 use Rattle.asl_term.specs.declared.syntax.LiteralOf.{LiteralOf}
 use Rattle.asl_term.specs.declared.syntax.Term.{Term}
 use Rattle.asl_term.specs.declared.syntax.Expr.{Expr}
-use Rattle.asl_meaning.specs.declared.lexeme.Lexeme.{Lexeme}
-use Rattle.asl_meaning.specs.declared.lexeme.Lexeme.TheVariants.{Atom, Var, Truth, Not, Sign, End}
-use Rattle.asl_meaning.specs.declared.lexeme.Lexeme.TheVariants as lexeme
-use Rattle.asl_meaning.specs.Limits.{too_deep}
-use Rattle.asl_reading.proofs.Within.{Fits, within, within_literal}
-use Rattle.asl_grammar.specs.Sentences.{adds_of, label_of, ReadsFormula, a_formula, ReadsHead, a_head}
+use Rattle.asl_parser_tree.specs.declared.lexeme.Lexeme.{Lexeme}
+use Rattle.asl_parser_tree.specs.declared.lexeme.Lexeme.TheVariants.{Atom, Var, Truth, Not, Sign, End}
+use Rattle.asl_parser_tree.specs.declared.lexeme.Lexeme.TheVariants as lexeme
+use Rattle.asl_parser_tree.specs.Limits.{too_deep}
+use Rattle.asl_parser_expr.proofs.Within.{Fits, within, within_literal}
+use Rattle.asl_parser.specs.Sentences.{adds_of, label_of, ReadsFormula, a_formula, ReadsHead, a_head}
 use Rattle.env_file.specs.declared.statement.Effect.{Effect}
 use Rattle.env_file.specs.declared.statement.Statement.{Statement}
 use Rattle.env_file.specs.Statements.{is_word, doer_of, ReadsGuard, no_guard, a_guard, ReadsEffect, a_change, a_drop, no_change, ReadsEffects, only_effect, more_effects, States, a_fact, a_hide, a_use, an_act, Says}

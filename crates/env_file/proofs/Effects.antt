@@ -2,11 +2,11 @@
 use Rattle.std.proofs.Common.{◌≡◌, ℕ, zero, suc, ◌<◌, ◌≤◌, List, [], ◌∷◌, ◌++◌, length, Option, Some, None, refl, sym, ap, ◌∙◌, append_assoc, arith}
 use Rattle.std.proofs.lemmas.List.{append-nil}
 use Rattle.std.specs.Option.{option_map_or}
-use Rattle.asl_meaning.specs.declared.lexeme.Lexeme.{Lexeme}
-use Rattle.asl_meaning.specs.Meanings.{◌>>=◌}
-use Rattle.asl_meaning.specs.Leaves.{Front, after_comma}
-use Rattle.asl_meaning.specs.declared.bounded.Bounded.TheVariants.{Within, Past}
-use Rattle.asl_meaning.specs.Holding.{limited}
+use Rattle.asl_parser_tree.specs.declared.lexeme.Lexeme.{Lexeme}
+use Rattle.asl_parser_tree.specs.Meanings.{◌>>=◌}
+use Rattle.asl_parser_tree.specs.Leaves.{Front, after_comma}
+use Rattle.asl_parser_tree.specs.declared.bounded.Bounded.TheVariants.{Within, Past}
+use Rattle.asl_parser_tree.specs.Holding.{limited}
 use Rattle.env_file.specs.declared.statement.Effect.{Effect}
 use Rattle.env_file.specs.Holding.{KeptEffect, KeptEffects, before, put_effect}
 use Rattle.env_file.specs.Speaking.{effect_by, effect_list_by}

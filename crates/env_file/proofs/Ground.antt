@@ -14,24 +14,24 @@ use Rattle.asl_term.specs.declared.syntax.Term.TheVariants as term
 use Rattle.asl_term.specs.Trees.{all, or_true, is_ground}
 use Rattle.asl_term.specs.Exprs.{is_ground_literal}
 use Rattle.asl_term.proofs.Grounds.{ground_num, ground_str, ground_lit, ground_list, ground_op}
-use Rattle.asl_meaning.specs.declared.lexeme.Lexeme.{Lexeme}
-use Rattle.asl_meaning.specs.declared.meaning.Meaning.{Meaning}
-use Rattle.asl_meaning.specs.declared.meaning.Meaning.TheVariants as meaning
-use Rattle.asl_meaning.specs.declared.meaning.Joint.{Joint}
-use Rattle.asl_meaning.specs.declared.meaning.Joint.TheVariants as joint
-use Rattle.asl_meaning.specs.declared.meaning.Prefix.{Prefix}
-use Rattle.asl_meaning.specs.declared.meaning.Prefix.TheVariants as prefix
+use Rattle.asl_parser_tree.specs.declared.lexeme.Lexeme.{Lexeme}
+use Rattle.asl_parser_tree.specs.declared.meaning.Meaning.{Meaning}
+use Rattle.asl_parser_tree.specs.declared.meaning.Meaning.TheVariants as meaning
+use Rattle.asl_parser_tree.specs.declared.meaning.Joint.{Joint}
+use Rattle.asl_parser_tree.specs.declared.meaning.Joint.TheVariants as joint
+use Rattle.asl_parser_tree.specs.declared.meaning.Prefix.{Prefix}
+use Rattle.asl_parser_tree.specs.declared.meaning.Prefix.TheVariants as prefix
 use Rattle.asl_term.specs.declared.syntax.RelOp.{RelOp}
 use Rattle.asl_term.specs.declared.syntax.Expr.{Expr}
 use Rattle.asl_term.specs.declared.syntax.ArgOf.{ArgOf}
-use Rattle.asl_meaning.specs.declared.leaves.Shape.{Shape}
-use Rattle.asl_meaning.specs.Meanings.{◌>>=◌, as_term, as_terms, as_formula, as_args, both_terms, both_formulas, arith, either_of, both_of, truth_name, joined, compared, prefixed, called, is_pure, is_deed}
-use Rattle.asl_meaning.specs.Plain.{is_plain_literal}
-use Rattle.asl_reading.specs.Grammar.{Rule, Reads, just_or, just_and, just_negation, just_relation, just_sum, just_product, just_signed, chained, related, negated, subtracted, a_number, a_negative, a_string, a_variable, a_truth, a_literal, a_list, in_brackets, a_call, ReadsItems, last_item, next_item, ReadsParts, no_parts, round_parts, square_parts, ReadsAtom, an_atom, ReadsLiteral, is_held, is_denied, ReadsList, empty_list, some_list, ReadsTail, no_tail, variable_tail, list_tail}
-use Rattle.asl_reading.proofs.Sound.{bind_some}
-use Rattle.asl_meaning.proofs.Options.{some_is}
-use Rattle.asl_grammar.specs.Sentences.{ReadsHead, a_head}
-use Rattle.asl_grammar.proofs.Answered.{ok_is}
+use Rattle.asl_parser_tree.specs.declared.leaves.BracketShape.{BracketShape}
+use Rattle.asl_parser_tree.specs.Meanings.{◌>>=◌, as_term, as_terms, as_formula, as_args, both_terms, both_formulas, arith, either_of, both_of, truth_name, joined, compared, prefixed, called, is_pure, is_deed}
+use Rattle.asl_parser_tree.specs.Plain.{is_plain_literal}
+use Rattle.asl_parser_expr.specs.Grammar.{Rule, Reads, just_or, just_and, just_negation, just_relation, just_sum, just_product, just_signed, chained, related, negated, subtracted, a_number, a_negative, a_string, a_variable, a_truth, a_literal, a_list, in_brackets, a_call, ReadsItems, last_item, next_item, ReadsParts, no_parts, round_parts, square_parts, ReadsAtom, an_atom, ReadsLiteral, is_held, is_denied, ReadsList, empty_list, some_list, ReadsTail, no_tail, variable_tail, list_tail}
+use Rattle.asl_parser_expr.proofs.Sound.{bind_some}
+use Rattle.asl_parser_tree.proofs.Options.{some_is}
+use Rattle.asl_parser.specs.Sentences.{ReadsHead, a_head}
+use Rattle.asl_parser.proofs.Answered.{ok_is}
 use Rattle.mas_world.specs.declared.acts.WorldText.{WorldText}
 use Rattle.env_file.specs.declared.fault.WorldFault.{WorldFault}
 use Rattle.env_file.specs.declared.fault.WorldFault.TheVariants.{Clause, UnknownArtifact}
@@ -186,7 +186,7 @@ mutual
   ground_items (last_item r) f = let p = ground r f in ((p.0, tt), p.1)
   ground_items (next_item r rs) f = let p = ground r f in let q = ground_items rs p.1 in ((p.0, q.0), q.1)
 
-  ground_parts : {n : ℕ} {rule : Rule} {s : Shape} {xs ys : List Lexeme} {ms : List Meaning} → ReadsParts n rule s xs ys ms → Free xs → AreGround ms × Free ys
+  ground_parts : {n : ℕ} {rule : Rule} {s : BracketShape} {xs ys : List Lexeme} {ms : List Meaning} → ReadsParts n rule s xs ys ms → Free xs → AreGround ms × Free ys
   ground_parts no_parts f = (tt, f)
   ground_parts (round_parts r) f = ground_items r f
   ground_parts (square_parts r) f = ground_items r f

@@ -8,9 +8,9 @@ use Rattle.asl_term.specs.declared.syntax.Term.{Term}
 use Rattle.asl_term.specs.declared.syntax.Expr.{Expr}
 use Rattle.asl_term.specs.declared.syntax.Expr.TheVariants as expr
 use Rattle.asl_term.proofs.Exprs.{fold_true, fold_false, fold_holds, fold_rel, fold_inner, fold_not, fold_and, fold_or, by_cases}
-use Rattle.asl_meaning.specs.Meanings.{◌>>=◌}
-use Rattle.asl_meaning.specs.Conjuncts.{Parts, no_parts, has_parts}
-use Rattle.asl_meaning.specs.Conjuncts as conjuncts
+use Rattle.asl_parser_tree.specs.Meanings.{◌>>=◌}
+use Rattle.asl_parser_tree.specs.Conjuncts.{Parts, no_parts, has_parts}
+use Rattle.asl_parser_tree.specs.Conjuncts as conjuncts
 use Rattle.env_file.specs.declared.statement.Part.{Part}
 use Rattle.env_file.specs.declared.statement.Part.TheVariants.{Holds, Denied, Related}
 use Rattle.env_file.specs.Guards.{denied, both, parts_step, parts}

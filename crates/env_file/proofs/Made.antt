@@ -4,13 +4,13 @@ use Rattle.std.specs.List.{list_any}
 use Rattle.std.specs.Option.{option_map}
 use Rattle.asl_lexer.specs.declared.token.Sign.TheVariants as sign
 use Rattle.asl_term.specs.declared.syntax.Term.{Term}
-use Rattle.asl_meaning.specs.declared.lexeme.Lexeme.{Lexeme}
-use Rattle.asl_meaning.specs.declared.lexeme.Lexeme.TheVariants.{Truth, Sign, End}
-use Rattle.asl_meaning.specs.declared.bounded.Bounded.TheVariants.{Within}
-use Rattle.asl_meaning.specs.Holding.{Bounds, KeptLiteral, KeptExpr}
-use Rattle.asl_reading.proofs.Built.{Holds, ReadsLiteral}
-use Rattle.asl_grammar.specs.Sentences.{adds_of, label_of}
-use Rattle.asl_grammar.proofs.Made.{ReadsFormula, ReadsHead}
+use Rattle.asl_parser_tree.specs.declared.lexeme.Lexeme.{Lexeme}
+use Rattle.asl_parser_tree.specs.declared.lexeme.Lexeme.TheVariants.{Truth, Sign, End}
+use Rattle.asl_parser_tree.specs.declared.bounded.Bounded.TheVariants.{Within}
+use Rattle.asl_parser_tree.specs.Holding.{Bounds, KeptLiteral, KeptExpr}
+use Rattle.asl_parser_expr.proofs.Built.{Holds, ReadsLiteral}
+use Rattle.asl_parser.specs.Sentences.{adds_of, label_of}
+use Rattle.asl_parser.proofs.Made.{ReadsFormula, ReadsHead}
 use Rattle.env_file.specs.declared.statement.Effect.TheVariants.{Dropped}
 use Rattle.env_file.specs.declared.statement.Statement.TheVariants as statement
 use Rattle.env_file.specs.Statements.{is_word, is_variable, doer_of, has_annots, before as true_before, changed}

@@ -11,7 +11,7 @@ use Rattle.asl_term.specs.declared.syntax.Term.TheFolds.{fold-Term}
 use Rattle.asl_term.specs.Trees.{all}
 use Rattle.asl_term.specs.Names.{with_name}
 use Rattle.asl_term.proofs.Terms.{map_literal, fold_lit}
-use Rattle.asl_meaning.specs.Plain.{plain_step, is_plain, is_plain_literal}
+use Rattle.asl_parser_tree.specs.Plain.{plain_step, is_plain, is_plain_literal}
 use Rattle.mas_world.specs.declared.acts.WorldText.{WorldText}
 use Rattle.mas_world.specs.Facts.{settled_step, is_settled, is_settled_literal, same_fact, AreFacts}
 use Rattle.env_file.specs.declared.fault.WorldFault.{WorldFault}

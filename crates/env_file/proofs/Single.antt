@@ -7,12 +7,12 @@ use Rattle.asl_lexer.specs.Lexing.{Lexes, start}
 use Rattle.asl_lexer.proofs.One as lexer
 use Rattle.asl_term.specs.declared.syntax.LiteralOf.{LiteralOf}
 use Rattle.asl_term.specs.declared.syntax.Term.{Term}
-use Rattle.asl_meaning.specs.declared.lexeme.Lexeme.{Lexeme}
-use Rattle.asl_meaning.specs.Lexemes.{lexemes_from, lexemes}
-use Rattle.asl_meaning.specs.Limits.{too_deep}
-use Rattle.asl_meaning.specs.Holding.{limited}
-use Rattle.asl_reading.proofs.Shorter.{shorter_literal}
-use Rattle.asl_grammar.specs.Sentences.{ReadsHead, a_head}
+use Rattle.asl_parser_tree.specs.declared.lexeme.Lexeme.{Lexeme}
+use Rattle.asl_parser_tree.specs.Lexemes.{lexemes_from, lexemes}
+use Rattle.asl_parser_tree.specs.Limits.{too_deep}
+use Rattle.asl_parser_tree.specs.Holding.{limited}
+use Rattle.asl_parser_expr.proofs.Shorter.{shorter_literal}
+use Rattle.asl_parser.specs.Sentences.{ReadsHead, a_head}
 use Rattle.mas_world.specs.declared.acts.WorldText.{WorldText}
 use Rattle.env_file.specs.declared.fault.WorldFault.{WorldFault}
 use Rattle.env_file.specs.declared.fault.WorldFault.TheVariants.{Memory, Lex, Clause, Limit, Unbound, UnknownArtifact}

@@ -8,23 +8,23 @@ use Rattle.asl_lexer.specs.declared.token.Sign.TheVariants as sign
 use Rattle.asl_term.specs.declared.syntax.LiteralOf.{LiteralOf}
 use Rattle.asl_term.specs.declared.syntax.Term.{Term}
 use Rattle.asl_term.specs.declared.syntax.Expr.{Expr}
-use Rattle.asl_meaning.specs.declared.lexeme.Lexeme.{Lexeme}
-use Rattle.asl_meaning.specs.declared.lexeme.Lexeme.TheVariants.{Atom, Truth, Not, Sign, End}
-use Rattle.asl_meaning.specs.declared.lexeme.Lexeme.TheVariants as lexeme
-use Rattle.asl_meaning.specs.declared.bounded.Bounded.TheVariants.{Within}
-use Rattle.asl_meaning.specs.Meanings.{◌>>=◌}
-use Rattle.asl_reading.specs.Grammar.{ReadsLiteral, is_held, is_denied, an_atom, ReadsParts, no_parts, round_parts, square_parts, sum}
-use Rattle.asl_meaning.specs.declared.meaning.Meaning.{Meaning}
-use Rattle.asl_meaning.specs.declared.leaves.Shape.TheVariants as shape
-use Rattle.asl_meaning.specs.Holding.{Bounds, KeptLiteral, KeptExpr, literal_plain, hold_literal, hold_formula}
-use Rattle.asl_meaning.specs.Leaves.{Front, after_comma}
-use Rattle.asl_reading.specs.Reading.{literal_by, inside}
-use Rattle.asl_meaning.proofs.Keeping.{formula_held}
-use Rattle.asl_reading.proofs.Shorter.{shorter_literal}
-use Rattle.asl_reading.proofs.Complete.{StopsPrimary, StopsOr, reads_or, reads_literal}
-use Rattle.asl_grammar.specs.Sentences.{label_of, adds_of, ReadsFormula, a_formula, ReadsHead, a_head}
-use Rattle.asl_grammar.specs.Speaking.{as_condition, after_colon, first_of, formula_by, head_by}
-use Rattle.asl_grammar.proofs.Weighed.{plain_held}
+use Rattle.asl_parser_tree.specs.declared.lexeme.Lexeme.{Lexeme}
+use Rattle.asl_parser_tree.specs.declared.lexeme.Lexeme.TheVariants.{Atom, Truth, Not, Sign, End}
+use Rattle.asl_parser_tree.specs.declared.lexeme.Lexeme.TheVariants as lexeme
+use Rattle.asl_parser_tree.specs.declared.bounded.Bounded.TheVariants.{Within}
+use Rattle.asl_parser_tree.specs.Meanings.{◌>>=◌}
+use Rattle.asl_parser_expr.specs.Grammar.{ReadsLiteral, is_held, is_denied, an_atom, ReadsParts, no_parts, round_parts, square_parts, sum}
+use Rattle.asl_parser_tree.specs.declared.meaning.Meaning.{Meaning}
+use Rattle.asl_parser_tree.specs.declared.leaves.BracketShape.TheVariants as shape
+use Rattle.asl_parser_tree.specs.Holding.{Bounds, KeptLiteral, KeptExpr, literal_plain, hold_literal, hold_formula}
+use Rattle.asl_parser_tree.specs.Leaves.{Front, after_comma}
+use Rattle.asl_parser_expr.specs.Reading.{literal_by, inside}
+use Rattle.asl_parser_tree.proofs.Keeping.{formula_held}
+use Rattle.asl_parser_expr.proofs.Shorter.{shorter_literal}
+use Rattle.asl_parser_expr.proofs.Complete.{StopsPrimary, StopsOr, reads_or, reads_literal}
+use Rattle.asl_parser.specs.Sentences.{label_of, adds_of, ReadsFormula, a_formula, ReadsHead, a_head}
+use Rattle.asl_parser.specs.Speaking.{as_condition, after_colon, first_of, formula_by, head_by}
+use Rattle.asl_parser.proofs.Weighed.{plain_held}
 use Rattle.env_file.specs.declared.statement.Effect.{Effect}
 use Rattle.env_file.specs.declared.statement.Effect.TheVariants.{Dropped}
 use Rattle.env_file.specs.declared.statement.Statement.{Statement}

@@ -5,21 +5,21 @@ use Rattle.std.specs.Option.{option_map, option_map_or}
 use Rattle.asl_lexer.specs.declared.token.Sign.TheVariants as sign
 use Rattle.asl_term.specs.declared.syntax.LiteralOf.{LiteralOf}
 use Rattle.asl_term.specs.declared.syntax.Term.{Term}
-use Rattle.asl_meaning.specs.declared.lexeme.Lexeme.{Lexeme}
-use Rattle.asl_meaning.specs.declared.lexeme.Lexeme.TheVariants.{Truth, Sign, End}
-use Rattle.asl_meaning.specs.declared.bounded.Bounded.TheVariants.{Within}
-use Rattle.asl_meaning.specs.declared.leaves.Level.TheVariants as levels
-use Rattle.asl_meaning.specs.Meanings.{◌>>=◌}
-use Rattle.asl_reading.specs.Grammar.{ReadsLiteral, is_held, is_denied, an_atom}
-use Rattle.asl_meaning.specs.Holding.{Bounds, KeptLiteral, KeptExpr, as_formula, literal_plain}
-use Rattle.asl_meaning.specs.Leaves.{Front, after_comma}
-use Rattle.asl_reading.specs.Reading.{level_by, literal_by, inside}
-use Rattle.asl_meaning.proofs.Options.{some_is}
-use Rattle.asl_reading.proofs.Sound.{bind_some, moved, Begins, mapped, comma_only, sound, sound_literal}
-use Rattle.asl_grammar.specs.Sentences.{label_of, adds_of}
-use Rattle.asl_grammar.specs.Sentences as grammar
-use Rattle.asl_grammar.specs.Speaking.{after_colon, is_last, first_of, formula_by, head_by}
-use Rattle.asl_grammar.proofs.Made.{ReadsFormula, a_formula, ReadsHead, a_head}
+use Rattle.asl_parser_tree.specs.declared.lexeme.Lexeme.{Lexeme}
+use Rattle.asl_parser_tree.specs.declared.lexeme.Lexeme.TheVariants.{Truth, Sign, End}
+use Rattle.asl_parser_tree.specs.declared.bounded.Bounded.TheVariants.{Within}
+use Rattle.asl_parser_tree.specs.declared.leaves.OperatorLevel.TheVariants as levels
+use Rattle.asl_parser_tree.specs.Meanings.{◌>>=◌}
+use Rattle.asl_parser_expr.specs.Grammar.{ReadsLiteral, is_held, is_denied, an_atom}
+use Rattle.asl_parser_tree.specs.Holding.{Bounds, KeptLiteral, KeptExpr, as_formula, literal_plain}
+use Rattle.asl_parser_tree.specs.Leaves.{Front, after_comma}
+use Rattle.asl_parser_expr.specs.Reading.{level_by, literal_by, inside}
+use Rattle.asl_parser_tree.proofs.Options.{some_is}
+use Rattle.asl_parser_expr.proofs.Sound.{bind_some, moved, Begins, mapped, comma_only, sound, sound_literal}
+use Rattle.asl_parser.specs.Sentences.{label_of, adds_of}
+use Rattle.asl_parser.specs.Sentences as grammar
+use Rattle.asl_parser.specs.Speaking.{after_colon, is_last, first_of, formula_by, head_by}
+use Rattle.asl_parser.proofs.Made.{ReadsFormula, a_formula, ReadsHead, a_head}
 use Rattle.env_file.specs.declared.statement.Effect.TheVariants.{Dropped}
 use Rattle.env_file.specs.declared.statement.Statement.{Statement}
 use Rattle.env_file.specs.Statements.{is_word, is_variable, doer_of, has_annots}

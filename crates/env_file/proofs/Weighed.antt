@@ -6,13 +6,13 @@ use Rattle.std.proofs.lemmas.Bool.{and_from, and_cases, and_left, and_right}
 use Rattle.asl_term.specs.declared.syntax.LiteralOf.{LiteralOf}
 use Rattle.asl_term.specs.declared.syntax.Term.{Term}
 use Rattle.asl_term.specs.declared.syntax.Expr.{Expr}
-use Rattle.asl_meaning.specs.declared.bounded.Bounded.TheVariants.{Within, Past}
-use Rattle.asl_meaning.specs.Conjuncts.{has_parts}
-use Rattle.asl_meaning.specs.Plain.{is_plain_literal, is_action}
-use Rattle.asl_meaning.specs.Limits.{within_literal}
-use Rattle.asl_meaning.specs.Holding.{Bounds, limited, unlimited, bounded, fits_term, fits_literal, fits_expr, has_small_parts, keep_if, literal_outline, hold_literal, hold_formula}
-use Rattle.asl_meaning.proofs.Options.{some_is}
-use Rattle.asl_meaning.proofs.Past.{falls, all_terms, never, literal_past}
+use Rattle.asl_parser_tree.specs.declared.bounded.Bounded.TheVariants.{Within, Past}
+use Rattle.asl_parser_tree.specs.Conjuncts.{has_parts}
+use Rattle.asl_parser_tree.specs.Plain.{is_plain_literal, is_action}
+use Rattle.asl_parser_tree.specs.Limits.{within_literal}
+use Rattle.asl_parser_tree.specs.Holding.{Bounds, limited, unlimited, bounded, fits_term, fits_literal, fits_expr, has_small_parts, keep_if, literal_outline, hold_literal, hold_formula}
+use Rattle.asl_parser_tree.proofs.Options.{some_is}
+use Rattle.asl_parser_tree.proofs.Past.{falls, all_terms, never, literal_past}
 use Rattle.env_file.specs.declared.statement.Effect.{Effect}
 use Rattle.env_file.specs.declared.statement.Effect.TheVariants.{Added, Deleted, Dropped}
 use Rattle.env_file.specs.declared.statement.Statement.{Statement}

@@ -1,10 +1,10 @@
 -- What the reader of world files does, on lists. That it is the answer is shown in `proofs/`.
 use Rattle.std.specs.Prelude.{◌≡◌, ℕ, suc, Bool, true, false, List, [], ◌∷◌, Result, Ok, Err, Option, Some, None, if◌then◌else◌}
 use Rattle.asl_lexer.specs.declared.token.Tok.{Tok}
-use Rattle.asl_meaning.specs.Lexemes.{lexemes}
-use Rattle.asl_meaning.specs.declared.bounded.Bounded.TheVariants.{Within, Past}
-use Rattle.asl_meaning.specs.Holding.{limited}
-use Rattle.asl_meaning.specs.Limits.{too_deep}
+use Rattle.asl_parser_tree.specs.Lexemes.{lexemes}
+use Rattle.asl_parser_tree.specs.declared.bounded.Bounded.TheVariants.{Within, Past}
+use Rattle.asl_parser_tree.specs.Holding.{limited}
+use Rattle.asl_parser_tree.specs.Limits.{too_deep}
 use Rattle.mas_world.specs.declared.acts.WorldText.{WorldText}
 use Rattle.env_file.specs.declared.fault.WorldFault.{WorldFault}
 use Rattle.env_file.specs.declared.fault.WorldFault.TheVariants.{Memory, Lex, Clause, Limit, Unbound, UnknownArtifact}

@@ -5,7 +5,7 @@ use Rattle.asl_term.specs.declared.syntax.Expr.TheVariants as expr
 use Rattle.asl_term.specs.declared.syntax.Expr.TheOpen.{Expr-F}
 use Rattle.asl_term.specs.declared.syntax.Expr.TheOpen as layer
 use Rattle.asl_term.specs.declared.syntax.Expr.TheFolds.{fold-Expr}
-use Rattle.asl_meaning.specs.Meanings.{◌>>=◌}
+use Rattle.asl_parser_tree.specs.Meanings.{◌>>=◌}
 use Rattle.env_file.specs.declared.statement.Part.{Part}
 use Rattle.env_file.specs.declared.statement.Part.TheVariants.{Holds, Denied, Related}
 

@@ -4,10 +4,10 @@ use Rattle.std.specs.List.{list_all}
 use Rattle.asl_term.specs.declared.syntax.LiteralOf.{LiteralOf}
 use Rattle.asl_term.specs.declared.syntax.Term.{Term}
 use Rattle.asl_term.specs.declared.syntax.Expr.{Expr}
-use Rattle.asl_meaning.specs.declared.bounded.Bounded.{Bounded}
-use Rattle.asl_meaning.specs.declared.bounded.Bounded.TheVariants.{Within, Past}
-use Rattle.asl_meaning.specs.Conjuncts.{has_parts}
-use Rattle.asl_meaning.specs.Holding.{Bounds, bounded, fits_expr, has_small_parts, keep_if, KeptLiteral, KeptExpr}
+use Rattle.asl_parser_tree.specs.declared.bounded.Bounded.{Bounded}
+use Rattle.asl_parser_tree.specs.declared.bounded.Bounded.TheVariants.{Within, Past}
+use Rattle.asl_parser_tree.specs.Conjuncts.{has_parts}
+use Rattle.asl_parser_tree.specs.Holding.{Bounds, bounded, fits_expr, has_small_parts, keep_if, KeptLiteral, KeptExpr}
 use Rattle.env_file.specs.declared.statement.Effect.{Effect}
 use Rattle.env_file.specs.declared.statement.Effect.TheVariants.{Added, Deleted, Dropped}
 use Rattle.env_file.specs.declared.statement.Statement.{Statement}

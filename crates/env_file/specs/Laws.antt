@@ -4,8 +4,8 @@ use Rattle.std.specs.List.{AllByRecursion, list_all}
 use Rattle.asl_term.specs.Exprs.{is_ground_literal}
 use Rattle.asl_term.specs.declared.syntax.LiteralOf.{LiteralOf}
 use Rattle.asl_term.specs.declared.syntax.Term.{Term}
-use Rattle.asl_meaning.specs.declared.lexeme.Lexeme.{Lexeme}
-use Rattle.asl_meaning.specs.Limits.{too_deep}
+use Rattle.asl_parser_tree.specs.declared.lexeme.Lexeme.{Lexeme}
+use Rattle.asl_parser_tree.specs.Limits.{too_deep}
 use Rattle.asl_unify.specs.declared.subst.Pair.{Pair}
 use Rattle.mas_world.specs.Acts.{effect, entered}
 use Rattle.mas_world.specs.Guards.{ready, solutions}

@@ -2,7 +2,7 @@
 use Rattle.std.specs.Prelude.{Bool, true, ◌&&◌, Option, Some, None}
 use Rattle.std.specs.List.{list_all}
 use Rattle.asl_term.specs.declared.syntax.Expr.{Expr}
-use Rattle.asl_meaning.specs.Limits.{within_literal, within_expr}
+use Rattle.asl_parser_tree.specs.Limits.{within_literal, within_expr}
 use Rattle.env_file.specs.declared.statement.Effect.{Effect}
 use Rattle.env_file.specs.declared.statement.Effect.TheVariants.{Added, Deleted, Dropped}
 use Rattle.env_file.specs.declared.statement.Statement.{Statement}

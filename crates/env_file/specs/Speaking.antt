@@ -4,15 +4,15 @@ use Rattle.std.specs.List.{list_any}
 use Rattle.std.specs.Option.{option_map, option_map_or}
 use Rattle.asl_lexer.specs.declared.token.Sign.TheVariants as sign
 use Rattle.asl_term.specs.declared.syntax.Term.{Term}
-use Rattle.asl_meaning.specs.declared.lexeme.Lexeme.{Lexeme}
-use Rattle.asl_meaning.specs.declared.lexeme.Lexeme.TheVariants.{Truth, Sign}
-use Rattle.asl_meaning.specs.declared.bounded.Bounded.TheVariants.{Within}
-use Rattle.asl_meaning.specs.Holding.{Bounds, KeptLiteral, KeptExpr}
-use Rattle.asl_meaning.specs.Meanings.{◌>>=◌}
-use Rattle.asl_meaning.specs.Leaves.{Front, after_comma}
-use Rattle.asl_reading.specs.Reading.{literal_by, inside}
-use Rattle.asl_grammar.specs.Sentences.{label_of, adds_of}
-use Rattle.asl_grammar.specs.Speaking.{after_colon, is_last, first_of, formula_by, head_by}
+use Rattle.asl_parser_tree.specs.declared.lexeme.Lexeme.{Lexeme}
+use Rattle.asl_parser_tree.specs.declared.lexeme.Lexeme.TheVariants.{Truth, Sign}
+use Rattle.asl_parser_tree.specs.declared.bounded.Bounded.TheVariants.{Within}
+use Rattle.asl_parser_tree.specs.Holding.{Bounds, KeptLiteral, KeptExpr}
+use Rattle.asl_parser_tree.specs.Meanings.{◌>>=◌}
+use Rattle.asl_parser_tree.specs.Leaves.{Front, after_comma}
+use Rattle.asl_parser_expr.specs.Reading.{literal_by, inside}
+use Rattle.asl_parser.specs.Sentences.{label_of, adds_of}
+use Rattle.asl_parser.specs.Speaking.{after_colon, is_last, first_of, formula_by, head_by}
 use Rattle.env_file.specs.declared.statement.Effect.TheVariants.{Dropped}
 use Rattle.env_file.specs.declared.statement.Statement.{Statement}
 use Rattle.env_file.specs.declared.statement.Statement.TheVariants as statement

@@ -8,12 +8,12 @@ use Rattle.asl_term.specs.declared.syntax.LiteralOf.{LiteralOf}
 use Rattle.asl_term.specs.declared.syntax.Term.{Term}
 use Rattle.asl_term.specs.declared.syntax.Term.TheVariants as term
 use Rattle.asl_term.specs.declared.syntax.Expr.{Expr}
-use Rattle.asl_meaning.specs.declared.lexeme.Lexeme.{Lexeme}
-use Rattle.asl_meaning.specs.declared.lexeme.Lexeme.TheVariants.{Atom, Var, Truth, Sign, End}
-use Rattle.asl_meaning.specs.Meanings.{atom}
-use Rattle.asl_meaning.specs.Leaves.{variable}
-use Rattle.asl_reading.specs.Grammar.{ReadsLiteral}
-use Rattle.asl_grammar.specs.Sentences.{label_of, adds_of, ReadsFormula, ReadsHead}
+use Rattle.asl_parser_tree.specs.declared.lexeme.Lexeme.{Lexeme}
+use Rattle.asl_parser_tree.specs.declared.lexeme.Lexeme.TheVariants.{Atom, Var, Truth, Sign, End}
+use Rattle.asl_parser_tree.specs.Meanings.{atom}
+use Rattle.asl_parser_tree.specs.Leaves.{variable}
+use Rattle.asl_parser_expr.specs.Grammar.{ReadsLiteral}
+use Rattle.asl_parser.specs.Sentences.{label_of, adds_of, ReadsFormula, ReadsHead}
 use Rattle.env_file.specs.declared.statement.Part.{Part}
 use Rattle.env_file.specs.declared.statement.Effect.{Effect}
 use Rattle.env_file.specs.declared.statement.Effect.TheVariants.{Added, Deleted, Dropped}

@@ -10,9 +10,9 @@ use Rattle.asl_term.specs.declared.syntax.LiteralOf.{LiteralOf}
 use Rattle.asl_term.specs.declared.syntax.Term.{Term}
 use Rattle.asl_term.specs.Names.{with_name}
 use Rattle.asl_term.specs.Exprs.{is_ground_literal}
-use Rattle.asl_meaning.specs.Plain.{is_plain_literal}
-use Rattle.asl_meaning.specs.Lexemes.{lexemes}
-use Rattle.asl_meaning.specs.Limits.{too_deep}
+use Rattle.asl_parser_tree.specs.Plain.{is_plain_literal}
+use Rattle.asl_parser_tree.specs.Lexemes.{lexemes}
+use Rattle.asl_parser_tree.specs.Limits.{too_deep}
 use Rattle.mas_world.specs.declared.acts.Act.{Act}
 use Rattle.mas_world.specs.declared.acts.WorldText.{WorldText}
 use Rattle.mas_world.specs.Facts.{is_fact}

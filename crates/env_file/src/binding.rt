@@ -2,7 +2,7 @@
 
 ghost use Rattle.std.specs.Prelude.{◌≡◌, ◌++◌, IfOk, OnOk};
 ghost use Rattle.std.specs.List.{list_all};
-ghost use Rattle.asl_meaning.specs.Leaves.{Gives};
+ghost use Rattle.asl_parser_tree.specs.Leaves.{Gives};
 ghost use Rattle.env_file.specs.Binding as spec;
 
 use crate::statement::{Effect, Part, WrittenAct};

@@ -1,9 +1,9 @@
 //! Clauses of world files, read from their tokens.
 
 ghost use Rattle.std.specs.Prelude.{◌≡◌, length};
-ghost use Rattle.asl_meaning.specs.Holding.{limited};
-ghost use Rattle.asl_meaning.specs.Leaves.{Gives, view_front};
-ghost use Rattle.asl_grammar.specs.Speaking as grammar;
+ghost use Rattle.asl_parser_tree.specs.Holding.{limited};
+ghost use Rattle.asl_parser_tree.specs.Leaves.{Gives, view_front};
+ghost use Rattle.asl_parser.specs.Speaking as grammar;
 ghost use Rattle.env_file.specs.Holding as holding;
 ghost use Rattle.env_file.specs.Speaking as spec;
 
@@ -13,13 +13,13 @@ use crate::marks::{
 };
 use crate::saying::{act_with, effect_of, fact_of, guard_of, put_effect};
 use crate::statement::{Effect, HeldEffect, HeldEffects, HeldGuard, HeldStatement, Statement};
-use asl_grammar::marks::{add_at, after_colon, is_last};
-use asl_meaning::bounded::{Bounded, Held, HeldExpr, HeldLiteral};
-use asl_meaning::held::as_formula;
-use asl_meaning::leaves::after_comma;
-use asl_meaning::lexeme::Lexeme;
-use asl_meaning::parts::literal_plain;
-use asl_reading::reading::{expression, literal};
+use asl_parser::marks::{add_at, after_colon, is_last};
+use asl_parser_expr::reading::{expression, literal};
+use asl_parser_tree::bounded::{Bounded, Held, HeldExpr, HeldLiteral};
+use asl_parser_tree::held::as_formula;
+use asl_parser_tree::leaves::after_comma;
+use asl_parser_tree::lexeme::Lexeme;
+use asl_parser_tree::parts::literal_plain;
 use asl_term::sequence::{Seq, Starved};
 use asl_term::syntax::Term;
 use std::alloc::Global;
@@ -32,7 +32,7 @@ fn as_condition(found: Option<(Held, &[Lexeme])>) -> Option<(HeldExpr, &[Lexeme]
     Some((e, rest))
 }
 
-#[tactic(auto, unfolding(asl_grammar::specs::Speaking::formula_by))]
+#[tactic(auto, unfolding(asl_parser::specs::Speaking::formula_by))]
 fn formula(
     alloc: Global,
     tokens: &[Lexeme],
@@ -47,7 +47,7 @@ fn formula(
 }
 
 /// A literal without arithmetic.
-#[tactic(auto, unfolding(asl_grammar::specs::Speaking::head_by))]
+#[tactic(auto, unfolding(asl_parser::specs::Speaking::head_by))]
 fn head(
     alloc: Global,
     tokens: &[Lexeme],
@@ -163,7 +163,7 @@ fn effect(
 }
 
 /// The effects of an act.
-#[tactic(auto, using(crate::proofs::Effects::effects_begin, crate::proofs::Effects::effect_shorter, asl_reading::proofs::Loop::comma_shorter))]
+#[tactic(auto, using(crate::proofs::Effects::effects_begin, crate::proofs::Effects::effect_shorter, asl_parser_expr::proofs::Loop::comma_shorter))]
 fn effect_list(
     alloc: Global,
     tokens: &[Lexeme],

@@ -1,17 +1,17 @@
 //! The parts of a guard.
 
 ghost use Rattle.std.specs.Prelude.{◌≡◌, [], ◌∷◌, ◌++◌, Some, IfOk};
-ghost use Rattle.asl_meaning.specs.Leaves.{Gives};
+ghost use Rattle.asl_parser_tree.specs.Leaves.{Gives};
 ghost use Rattle.env_file.specs.Guards as spec;
 
-use crate::statement::{Part, Parts};
+use crate::statement::{Part, StatementParts};
 use asl_term::boxed::Boxed;
 use asl_term::copying::{copy_literal, copy_relation};
 use asl_term::sequence::{Seq, Starved};
 use asl_term::syntax::{Expr, Exprs};
 use std::alloc::Global;
 
-fn one(alloc: Global, p: Part) -> Result<Parts, Starved>
+fn one(alloc: Global, p: Part) -> Result<StatementParts, Starved>
     ensures { IfOk result (λ r. r ≡ p ∷ []) }
 {
     let mut all = Seq::new(alloc);
@@ -19,7 +19,7 @@ fn one(alloc: Global, p: Part) -> Result<Parts, Starved>
     Ok(all)
 }
 
-fn denied(alloc: Global, ps: Parts) -> Result<Option<Parts>, Starved>
+fn denied(alloc: Global, ps: StatementParts) -> Result<Option<StatementParts>, Starved>
     ensures { Gives (λ x. x) result (spec.denied ps) }
 {
     match ps.as_slice() {
@@ -28,7 +28,7 @@ fn denied(alloc: Global, ps: Parts) -> Result<Option<Parts>, Starved>
     }
 }
 
-fn both(left: Parts, right: Parts) -> Result<Parts, Starved>
+fn both(left: StatementParts, right: StatementParts) -> Result<StatementParts, Starved>
     ensures { IfOk result (λ r. r ≡ left ++ right) }
 {
     let mut all = left;
@@ -38,7 +38,7 @@ fn both(left: Parts, right: Parts) -> Result<Parts, Starved>
 
 /// The parts of a formula, if each is a literal, `not` before a literal, or a relation.
 #[cycle(parts)]
-fn parts(alloc: Global, e: &Expr) -> Result<Option<Parts>, Starved>
+fn parts(alloc: Global, e: &Expr) -> Result<Option<StatementParts>, Starved>
     ensures { Gives (λ x. x) result (spec.parts e.now) }
 {
     match e {
@@ -64,7 +64,7 @@ fn parts(alloc: Global, e: &Expr) -> Result<Option<Parts>, Starved>
 }
 
 /// The parts of a guard, if it has them; an act without one has none.
-fn guard_parts(alloc: Global, guard: &Option<Expr>) -> Result<Option<Parts>, Starved>
+fn guard_parts(alloc: Global, guard: &Option<Expr>) -> Result<Option<StatementParts>, Starved>
     ensures { Gives (λ x. x) result (spec.guard_parts guard.now) }
 {
     match guard {
@@ -74,7 +74,7 @@ fn guard_parts(alloc: Global, guard: &Option<Expr>) -> Result<Option<Parts>, Sta
 }
 
 /// The parts of the guard of a clause, which has them.
-pub fn said_parts(alloc: Global, guard: &Option<Expr>) -> Result<Parts, Starved>
+pub fn said_parts(alloc: Global, guard: &Option<Expr>) -> Result<StatementParts, Starved>
     ensures { IfOk result (λ ps. ps ≡ spec.said_parts guard.now) }
 {
     match guard_parts(alloc, guard)? {

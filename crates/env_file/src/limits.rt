@@ -5,7 +5,7 @@ ghost use Rattle.std.specs.List.{list_all};
 ghost use Rattle.env_file.specs.Limits as spec;
 
 use crate::statement::{Effect, Statement};
-use asl_meaning::limits::{within_expr, within_literal};
+use asl_parser_tree::limits::{within_expr, within_literal};
 use asl_term::syntax::Expr;
 
 fn within_guard(guard: &Option<Expr>) -> bool

@@ -2,16 +2,16 @@
 
 ghost use Rattle.std.specs.Prelude.{◌≡◌};
 ghost use Rattle.std.specs.List.{list_any};
-ghost use Rattle.asl_grammar.specs.Sentences as grammar;
-ghost use Rattle.asl_grammar.specs.Speaking as speaking;
-ghost use Rattle.asl_meaning.specs.Leaves.{Gives, view_front, view_rest};
+ghost use Rattle.asl_parser.specs.Sentences as grammar;
+ghost use Rattle.asl_parser.specs.Speaking as speaking;
+ghost use Rattle.asl_parser_tree.specs.Leaves.{Gives, view_front, view_rest};
 ghost use Rattle.env_file.specs.Speaking as spec;
 ghost use Rattle.env_file.specs.Statements as tokens;
 
 use asl_lexer::token::Sign;
-use asl_meaning::leaves::variable;
-use asl_meaning::lexeme::Lexeme;
-use asl_meaning::meaning::{atom, truth_name};
+use asl_parser_tree::leaves::variable;
+use asl_parser_tree::lexeme::Lexeme;
+use asl_parser_tree::meaning::{atom, truth_name};
 use asl_term::copying::{copy_text, text_of};
 use asl_term::sequence::Starved;
 use asl_term::syntax::{Term, Text};

@@ -1,7 +1,7 @@
 //! What clauses say of the trees in them.
 
 ghost use Rattle.std.specs.Prelude.{◌≡◌, [], ◌∷◌, ◌++◌, Some, IfOk};
-ghost use Rattle.asl_meaning.specs.Holding.{limited};
+ghost use Rattle.asl_parser_tree.specs.Holding.{limited};
 ghost use Rattle.env_file.specs.Holding as spec;
 ghost use Rattle.env_file.specs.Statements as statements;
 
@@ -9,8 +9,8 @@ use crate::limits::is_within;
 use crate::statement::{
     Effect, Effects, HeldEffect, HeldEffects, HeldGuard, HeldStatement, Statement, WrittenAct,
 };
-use asl_meaning::bounded::{Bounded, HeldExpr, HeldLiteral};
-use asl_meaning::conjuncts::has_parts;
+use asl_parser_tree::bounded::{Bounded, HeldExpr, HeldLiteral};
+use asl_parser_tree::conjuncts::has_parts;
 use asl_term::sequence::Starved;
 use asl_term::syntax::{Literal, Term};
 

@@ -1,6 +1,6 @@
 //! What a clause of a world file says.
 
-use asl_meaning::bounded::Bounded;
+use asl_parser_tree::bounded::Bounded;
 use asl_term::sequence::Seq;
 use asl_term::syntax::{Expr, Literal, Relation, Term, Text};
 
@@ -13,7 +13,7 @@ pub enum Part {
     Related(Relation),
 }
 
-pub type Parts = Seq<Part>;
+pub type StatementParts = Seq<Part>;
 
 /// What an act does: it adds a literal to the facts, takes one away, or drops the artifact of a name.
 #[derive(Drop)]

@@ -13,11 +13,11 @@ use crate::fault::WorldFault;
 use crate::statement::HeldStatement;
 use crate::taking::{clause_fault, make};
 use asl_lexer::lexing::tokens;
-use asl_lexer::pieces::{Clauses, cut};
+use asl_lexer::pieces::{ClausePieces, cut};
 use asl_lexer::token::{LexFault, Tok};
-use asl_meaning::bounded::Bounded;
-use asl_meaning::lexeme::lexemes;
-use asl_meaning::limits::too_deep;
+use asl_parser_tree::bounded::Bounded;
+use asl_parser_tree::lexeme::lexemes;
+use asl_parser_tree::limits::too_deep;
 use asl_term::names::Names;
 use asl_term::sequence::{Seq, Starved};
 use mas_world::acts::WorldText;
@@ -100,7 +100,7 @@ fn clauses(alloc: Global, artifacts: &Names, toks: &[Tok]) -> Result<WorldText, 
     let mut text = nothing(alloc)?;
     let mut number: u64 = 1;
     let mut rest = toks;
-    'pieces: while let Some((toks, behind)) = cut::<Clauses>(rest) {
+    'pieces: while let Some((toks, behind)) = cut::<ClausePieces>(rest) {
         match piece_at(alloc, artifacts, &mut text, number, toks) {
             Ok(()) => {}
             Err(fault) => return Err(fault),

@@ -1,22 +1,26 @@
-//! Runs agents written in AgentSpeak and writes the report of their run.
+//! The program: `main` makes the real shelf, sink and disk and the artifacts, calls `run_words`, writes the fault line and ends with the code.
+//!
+//! May stand on: asl_term, mas_world, mas_artifact, mas_pool, mas_io, mas_record, mas_top
+//!
+//! Must not: take the words apart, decide a rule of the language, start a thread of its own.
 #![tactic(auto)]
 
-ghost use Rattle.mas_keeping.specs.Disks.{IsFree};
+ghost use Rattle.mas_top_record.specs.Disks.{IsFree};
 
 use asl_term::sequence::Starved;
 use mas_artifact::opening::all_kinds;
-use mas_disk::disk::Disk;
-use mas_disks::real::FileDisk;
-use mas_going::gate::OpenGate;
 use mas_io::real::{FileShelf, OutSink};
-use mas_reading::status::{Status, code, fault_line};
+use mas_pool_task::gate::OpenGate;
+use mas_record_disk::disk::Disk;
+use mas_record_files::real::FileDisk;
 use mas_top::top::run_words;
+use mas_top_status::status::{Status, code, fault_line};
 use mas_world::artifact::Artifact;
 use std::process::ExitCode;
 use std::rt::Files;
 use std::sync::Wait;
 use std::thread::Threads;
-use std::{env, io};
+use std::{env, fs, io};
 
 /// The words of the command line without the program's own name.
 fn words_of(rt: &HostRuntime) -> io::Result<Vec<String>> {
@@ -65,13 +69,21 @@ fn run<R: Files + Print + AllocGlobal + Threads + Wait + Sync, D: Disk + Send>(
     ))
 }
 
+/// The null device, for reading alone. It is opened three times before anything else and kept to the end: where a standard descriptor was
+/// closed it takes that place, so that no file that is opened later is standard output or standard error.
+fn null_device<R: Files>(rt: &R) -> Option<R::File> {
+    fs::open(rt, "/dev/null").ok()
+}
+
 /// Runs are recorded in files of the machine.
 fn main(rt: HostRuntime) -> ExitCode {
+    let held = (null_device(&rt), null_device(&rt), null_device(&rt));
     let mut disk = Some(FileDisk::new(&rt));
     let status = match words_of(&rt) {
         Ok(words) => run(&rt, &words, &mut disk).unwrap_or(Status::Memory),
         Err(error) => unread(&error),
     };
     tell(&rt, &status);
+    drop(held);
     ExitCode::from(code(&status))
 }

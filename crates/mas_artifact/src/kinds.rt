@@ -13,13 +13,13 @@ use std::alloc::Global;
 
 /// A tally, a slot or a belt. A caller that wants it in a box puts it there.
 #[derive(Drop)]
-pub enum Kind {
+pub enum ArtifactKind {
     Tally(Tally),
     Slot(Slot),
     Belt(Belt),
 }
 
-impl Artifact for Kind {
+impl Artifact for ArtifactKind {
     ghost named = { λ k. (used_of k).name };
 
     ghost table = { λ k. (used_of k).segment.acts };
@@ -28,17 +28,17 @@ impl Artifact for Kind {
 
     fn name(&self) -> &Text {
         match self {
-            Kind::Tally(tally) => tally.name(),
-            Kind::Slot(slot) => slot.name(),
-            Kind::Belt(belt) => belt.name(),
+            ArtifactKind::Tally(tally) => tally.name(),
+            ArtifactKind::Slot(slot) => slot.name(),
+            ArtifactKind::Belt(belt) => belt.name(),
         }
     }
 
     fn observe(&self, out: &mut Literals) -> Result<(), Starved> {
         match self {
-            Kind::Tally(tally) => tally.observe(out),
-            Kind::Slot(slot) => slot.observe(out),
-            Kind::Belt(belt) => belt.observe(out),
+            ArtifactKind::Tally(tally) => tally.observe(out),
+            ArtifactKind::Slot(slot) => slot.observe(out),
+            ArtifactKind::Belt(belt) => belt.observe(out),
         }
     }
 
@@ -49,9 +49,9 @@ impl Artifact for Kind {
         action: &Literal,
     ) -> Result<Feedback, Starved> {
         match self {
-            Kind::Tally(tally) => tally.operate(alloc, agent, action),
-            Kind::Slot(slot) => slot.operate(alloc, agent, action),
-            Kind::Belt(belt) => belt.operate(alloc, agent, action),
+            ArtifactKind::Tally(tally) => tally.operate(alloc, agent, action),
+            ArtifactKind::Slot(slot) => slot.operate(alloc, agent, action),
+            ArtifactKind::Belt(belt) => belt.operate(alloc, agent, action),
         }
     }
 }

@@ -5,7 +5,7 @@ ghost use Rattle.mas_artifact.specs.Kinds.{used_of};
 ghost use Rattle.mas_artifact.specs.Opening.{first_belt, first_kinds, first_slot, first_tally};
 
 use crate::belt::Belt;
-use crate::kinds::Kind;
+use crate::kinds::ArtifactKind;
 use crate::slot::Slot;
 use crate::tally::Tally;
 use asl_term::sequence::Starved;
@@ -33,11 +33,15 @@ pub fn belt(alloc: Global) -> Result<Belt, Starved>
 }
 
 /// One of each kind: a tally, a slot and a belt.
-pub fn all_kinds(alloc: Global) -> Result<Vec<Kind>, Starved>
+pub fn all_kinds(alloc: Global) -> Result<Vec<ArtifactKind>, Starved>
     ensures { IfOk result (λ kinds. map used_of kinds.items ≡ first_kinds) }
 {
     let tally = tally(alloc)?;
     let slot = slot(alloc)?;
     let belt = belt(alloc)?;
-    Ok(vec![in alloc; Kind::Tally(tally), Kind::Slot(slot), Kind::Belt(belt)]?)
+    Ok(vec![in alloc;
+        ArtifactKind::Tally(tally),
+        ArtifactKind::Slot(slot),
+        ArtifactKind::Belt(belt),
+    ]?)
 }

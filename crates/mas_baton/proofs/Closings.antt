@@ -4,19 +4,19 @@ use Rattle.std.specs.Prelude.{remove, slice_get}
 use Rattle.std.proofs.lemmas.Option.{same_Some}
 use Rattle.crossbeam_queue.specs.Fifo.{Merges, Pops, Learns}
 use Rattle.crossbeam_queue.specs.Passes.{Pass, view, IsPassOf, IsSamePass}
-use Rattle.mas_lists.specs.Lists.{Each, Row, StartsWith, times, once_in}
-use Rattle.mas_lists.proofs.Sums.{each_front, each_left, each_row}
+use Rattle.mas_board_lists.specs.Lists.{Each, Row, StartsWith, times, once_in}
+use Rattle.mas_board_lists.proofs.Sums.{each_front, each_left, each_row}
 use Rattle.mas_board.specs.Boards.{Noted}
-use Rattle.mas_turns.specs.declared.turn.Turn.{Turn}
-use Rattle.mas_turns.specs.Turns.{Entry, Plays, names, of}
-use Rattle.mas_views.specs.declared.view.View.{View}
-use Rattle.mas_views.specs.Views.{Turns, Opening, numbers, silent}
-use Rattle.mas_views.specs.Steps.{both_of, spent, IsWhole}
-use Rattle.mas_views.specs.Rule.{Holds, Told, order}
-use Rattle.mas_views.proofs.Views.{both_times, silent_once}
-use Rattle.mas_views.proofs.Takes.{seated}
-use Rattle.mas_views.proofs.Joins.{merges}
-use Rattle.mas_views.proofs.Ends.{closes, is_there}
+use Rattle.mas_board_turns.specs.declared.turn.Turn.{Turn}
+use Rattle.mas_board_turns.specs.Turns.{Entry, Plays, names, of}
+use Rattle.mas_board_turns.specs.declared.view.SideView.{SideView}
+use Rattle.mas_board_turns.specs.Views.{Turns, Opening, numbers, silent}
+use Rattle.mas_board_turns.specs.Steps.{both_of, spent, IsWhole}
+use Rattle.mas_board_turns.specs.Rule.{Holds, Told, order}
+use Rattle.mas_board_turns.proofs.Views.{both_times, silent_once}
+use Rattle.mas_board_turns.proofs.Takes.{seated}
+use Rattle.mas_board_turns.proofs.Joins.{merges}
+use Rattle.mas_board_turns.proofs.Ends.{closes, is_there}
 use Rattle.mas_baton.specs.declared.baton.Baton.{Baton}
 use Rattle.mas_baton.specs.declared.seat.Seat.{Seat}
 use Rattle.mas_baton.specs.Rule.{showing}
@@ -24,15 +24,15 @@ use Rattle.mas_baton.specs.Seats.{known, turns_of, seen_by, IsSeatOf, IsBack, Al
 use Rattle.mas_baton.specs.Gathering.{Gathers, joined, Gathering}
 
 module _ {A : Type 0} where
-  joined_gathers : (v : View) (ss : List (Seat A)) → Gathers v → Gathers (joined v ss)
+  joined_gathers : (v : SideView) (ss : List (Seat A)) → Gathers v → Gathers (joined v ss)
   joined_gathers v [] g = g
   joined_gathers v (s ∷ ss) g = let h = joined_gathers v ss g in
       record { started = h.started; free = h.free; some = (let m = h.some in let n = length-append (joined v ss).turns (known s).turns in omega arith) }
 
-  gathers_again : (v w : View) (ss : List (Seat A)) → Gathers v → w ≡ joined v ss → Gathers w
+  gathers_again : (v w : SideView) (ss : List (Seat A)) → Gathers v → w ≡ joined v ss → Gathers w
   gathers_again v w ss g e = subst Gathers (sym e) (joined_gathers v ss g)
 
-  module _ (b : Baton A) (v : View) (all left rest : List (Seat A)) (p : Pass Noted View) (s : Seat A) (h : Gathering b v all p left) (e : left ≡ rest ++ s ∷ []) where
+  module _ (b : Baton A) (v : SideView) (all left rest : List (Seat A)) (p : Pass Noted SideView) (s : Seat A) (h : Gathering b v all p left) (e : left ≡ rest ++ s ∷ []) where
     abbrev last : Each (IsSeatOf b) rest × IsSeatOf b s
     last = each_front (IsSeatOf b) rest s (subst (Each (IsSeatOf b)) e h.seats)
 
@@ -42,28 +42,28 @@ module _ {A : Type 0} where
     pub gather_merges : Gathers v → Merges (Holds showing) p.id (view p) s.pass.id (view s.pass) (both_of (view p) (view s.pass)) spent
     gather_merges g = let k = gathers_again v (view p) h.done g h.is in merges p.id (view p) s.pass.id (view s.pass) k.started k.free last.1.sits.held k.some
 
-    pub gather_more : (q : Pass Noted View) → IsSamePass p q → view q ≡ both_of (view p) (view s.pass) → Gathering b v all q rest
+    pub gather_more : (q : Pass Noted SideView) → IsSamePass p q → view q ≡ both_of (view p) (view s.pass) → Gathering b v all q rest
     gather_more q same d = record {
       pass = (same.0 ∙ h.pass.0, same.2 ∙ h.pass.1);
       done = s ∷ h.done;
       whole = h.whole ∙ ap (λ (l : List (Seat A)). l ++ h.done) e ∙ append_assoc rest (s ∷ []) h.done;
-      is = d ∙ ap (λ (u : View). both_of u (known s)) h.is;
+      is = d ∙ ap (λ (u : SideView). both_of u (known s)) h.is;
       seats = last.0;
     }
 
-  pub gather_first : (b : Baton A) (p : Pass Noted View) (ss : List (Seat A)) → IsPassOf b.line p → Each (IsSeatOf b) ss → Gathering b (view p) ss p ss
+  pub gather_first : (b : Baton A) (p : Pass Noted SideView) (ss : List (Seat A)) → IsPassOf b.line p → Each (IsSeatOf b) ss → Gathering b (view p) ss p ss
   gather_first b p ss i h = record { pass = i; done = []; whole = sym (append-nil ss); is = refl; seats = h }
 
-  pub gather_last : (b : Baton A) (v : View) (all left : List (Seat A)) (p : Pass Noted View) → Gathering b v all p left → left ≡ [] → view p ≡ joined v all
+  pub gather_last : (b : Baton A) (v : SideView) (all left : List (Seat A)) (p : Pass Noted SideView) → Gathering b v all p left → left ≡ [] → view p ≡ joined v all
   gather_last b v all left p h e = h.is ∙ ap (joined v) (sym (h.whole ∙ ap (λ (l : List (Seat A)). l ++ h.done) e))
 
   -- ---- with all seats the view is whole
 
-  joined_first : (v : View) (ss : List (Seat A)) → (joined v ss).first ≡ v.first
+  joined_first : (v : SideView) (ss : List (Seat A)) → (joined v ss).first ≡ v.first
   joined_first v [] = refl
   joined_first v (s ∷ ss) = joined_first v ss
 
-  joined_times : (b : Baton A) (a k : ℕ) (v : View) (ss : List (Seat A)) → Row (IsBack b) k ss → times a (numbers (joined v ss).turns) ≡ times a (numbers v.turns) + times a (numbers (silent k (length ss)))
+  joined_times : (b : Baton A) (a k : ℕ) (v : SideView) (ss : List (Seat A)) → Row (IsBack b) k ss → times a (numbers (joined v ss).turns) ≡ times a (numbers v.turns) + times a (numbers (silent k (length ss)))
   joined_times b a k v [] h = omega arith
   joined_times b a k v (s ∷ ss) h =
       let i = joined_times b a (suc k) v ss h.1 in
@@ -84,7 +84,7 @@ module _ {A : Type 0} where
       let n = ap (once_in a 1) (h.all ∙ ap (λ (o : Opening). length o.board.state.seats) (sym (joined_first (known s) ss))) in
       omega arith
 
-  mine_all : (b : Baton A) (log : List Entry) (k : ℕ) (v : View) (ss : List (Seat A)) → Row (IsBack b) k ss → Each (λ (e : ℕ × List Turn). of e.0 log ≡ e.1) (joined v ss).turns →
+  mine_all : (b : Baton A) (log : List Entry) (k : ℕ) (v : SideView) (ss : List (Seat A)) → Row (IsBack b) k ss → Each (λ (e : ℕ × List Turn). of e.0 log ≡ e.1) (joined v ss).turns →
       Each (λ (e : ℕ × List Turn). of e.0 log ≡ e.1) v.turns × Each (λ (s : Seat A). of s.number log ≡ turns_of s) ss
   mine_all b log k v [] r h = (h, tt)
   mine_all b log k v (s ∷ ss) r h =
@@ -93,7 +93,7 @@ module _ {A : Type 0} where
       let m = mine_all b log (suc k) v ss r.1 f.0 in
       (m.0, (f.1, m.1))
 
-  sees_all : (n : List ℕ) (v : View) (ss : List (Seat A)) → StartsWith n (joined v ss).seen → Each (StartsWith n) (joined v ss).olds → StartsWith n v.seen × Each (λ (s : Seat A). StartsWith n (seen_by s)) ss
+  sees_all : (n : List ℕ) (v : SideView) (ss : List (Seat A)) → StartsWith n (joined v ss).seen → Each (StartsWith n) (joined v ss).olds → StartsWith n v.seen × Each (λ (s : Seat A). StartsWith n (seen_by s)) ss
   sees_all n v [] h k = (h, tt)
   sees_all n v (s ∷ ss) h k = let r = sees_all n v ss k.0 (each_left (StartsWith n) (joined v ss).olds (known s).olds k.1.1) in (r.0, (k.1.0, r.1))
 
@@ -134,13 +134,13 @@ module _ {A : Type 0} where
   some_there b [] h e = let l = h.some in omega arith
   some_there b (s ∷ ss) h e = cc
 
-  pub close_pops : (b : Baton A) (ss rest : List (Seat A)) (s : Seat A) (p : ℕ) (v : View) → AllBack b ss → Head b ss rest s → v ≡ joined (known s) rest →
+  pub close_pops : (b : Baton A) (ss rest : List (Seat A)) (s : Seat A) (p : ℕ) (v : SideView) → AllBack b ss → Head b ss rest s → v ≡ joined (known s) rest →
       Pops (Holds showing) p v (λ x w. Told showing v x) × Learns (Holds showing) p v (λ items. length items ≡ 1)
   close_pops b ss rest s p v h d e =
       let k = subst (AllBack b) d.is h in
       let g = gathers_again (known s) v rest d.gathers e in
       (closes p v g.started g.some, is_there p v g.started g.free g.some (subst IsWhole (sym e) (whole_of b s rest k)))
 
-  pub closed : (b : Baton A) (ss rest : List (Seat A)) (s : Seat A) (v : View) (board : Noted) → AllBack b ss → Head b ss rest s → v ≡ joined (known s) rest → Told showing v board → Closed ss board
+  pub closed : (b : Baton A) (ss rest : List (Seat A)) (s : Seat A) (v : SideView) (board : Noted) → AllBack b ss → Head b ss rest s → v ≡ joined (known s) rest → Told showing v board → Closed ss board
   closed b ss rest s v board h d e t =
-      subst (λ (l : List (Seat A)). Closed l board) (sym d.is) (closed_by b s rest board (subst (AllBack b) d.is h) (subst (λ (u : View). Told showing u board) e t))
+      subst (λ (l : List (Seat A)). Closed l board) (sym d.is) (closed_by b s rest board (subst (AllBack b) d.is h) (subst (λ (u : SideView). Told showing u board) e t))

@@ -2,7 +2,7 @@
 use Rattle.std.proofs.Common.{◌≡◌, ℕ, false, Option, Some, None, Result, Ok, Err, IfOk, OnErr, List, [], ◌∷◌, ◌++◌, cond, length, sym, ap, ◌∙◌, subst, append-nil, arith}
 use Rattle.std.specs.Option.{option_to_list}
 use Rattle.asl_term.specs.declared.sequence.Starved.{Starved}
-use Rattle.mas_lists.specs.Lists.{StartsWith, Each}
+use Rattle.mas_board_lists.specs.Lists.{StartsWith, Each}
 use Rattle.mas_mind.specs.declared.mind.Outs.{Outs}
 use Rattle.mas_mind.specs.declared.mind.Feedback.{Feedback}
 use Rattle.mas_mind.specs.declared.mind.End.TheVariants.{Budget}
@@ -14,14 +14,14 @@ use Rattle.mas_board.specs.declared.seats.Sensed.TheVariants as answer
 use Rattle.mas_board.specs.Boards as board
 use Rattle.mas_board.specs.Boards.{State, Noted}
 use Rattle.mas_board.specs.Seating.{IsAt, HasSensed, SenseLeaves, HasEmitted, HasLeft, IsInputFor, halt}
-use Rattle.mas_turns.specs.declared.turn.Turn.{Turn}
-use Rattle.mas_turns.specs.declared.turn.Turn.TheVariants as turn
-use Rattle.mas_turns.specs.Turns.{phase_after}
-use Rattle.mas_turns.specs.Answers.{sensed, made_by_sense, made_by_emit}
-use Rattle.mas_views.specs.declared.view.View.{View}
-use Rattle.mas_views.specs.Views.{Turns, noted}
-use Rattle.mas_views.specs.Steps.{of_first, Sits, Made, Stands, took, gave}
-use Rattle.mas_views.specs.Rule.{Taken}
+use Rattle.mas_board_turns.specs.declared.turn.Turn.{Turn}
+use Rattle.mas_board_turns.specs.declared.turn.Turn.TheVariants as turn
+use Rattle.mas_board_turns.specs.Turns.{phase_after}
+use Rattle.mas_board_turns.specs.Answers.{sensed, made_by_sense, made_by_emit}
+use Rattle.mas_board_turns.specs.declared.view.SideView.{SideView}
+use Rattle.mas_board_turns.specs.Views.{Turns, noted}
+use Rattle.mas_board_turns.specs.Steps.{of_first, Sits, Made, Stands, took, gave}
+use Rattle.mas_board_turns.specs.Rule.{Taken}
 use Rattle.mas_baton.specs.declared.seat.Seat.{Seat}
 use Rattle.mas_baton.specs.Rule.{showing, IsFresh}
 use Rattle.mas_baton.specs.Seats.{known, turns_of, first_of, met_by, phase_of, agents_of, Met, Exchanged, SenseExchanged, GivenIf, EmitExchanged, LeaveExchanged, HaltExchanged, NothingExchanged}
@@ -44,8 +44,8 @@ module _ {A : Type 0} where
   pub met_from : (old mid new : Seat A) (x : Noted) → Sits mid.number false (known mid) → mid.number ≡ old.number → known mid ≡ known old → new.number ≡ mid.number →
       Taken showing (known mid) x (known new) → Met old new x
   met_from old mid new x s m k n t =
-      let h = subst (λ (v : View). Taken showing v x (known new)) k t in
-      let i = subst (λ (u : ℕ × View). Sits u.0 false u.1) (λ j. (m j, k j)) s in
+      let h = subst (λ (v : SideView). Taken showing v x (known new)) k t in
+      let i = subst (λ (u : ℕ × SideView). Sits u.0 false u.1) (λ j. (m j, k j)) s in
       met_is old new x i (n ∙ m) h
 
 -- ---- an exchange
@@ -56,22 +56,22 @@ first_noted a (Some t) ts es e = ap (λ (l : Turns). of_first (noted (Some t) l)
 
 module _ {A : Type 0} (old mid new : Seat A) (x y : Noted) (made : Option Turn) (m : Met old mid x) (n : new.number ≡ mid.number) (g : known new ≡ gave made (known mid) y) where
   abbrev back : known new ≡ gave made (took (known old) x) y
-  back = g ∙ ap (λ (v : View). gave made v y) m.taken
+  back = g ∙ ap (λ (v : SideView). gave made v y) m.taken
 
   pub met_again : met_by new ≡ x
-  met_again = ap (λ (v : View). v.met) back
+  met_again = ap (λ (v : SideView). v.met) back
 
   pub exchanged : Sits old.number false (known old) → Made made x old.number y → Exchanged old new made y
   exchanged s h =
       let e = sym met_again in
       record {
         number = n ∙ m.number;
-        first = ap (λ (v : View). v.first.board) back;
+        first = ap (λ (v : SideView). v.first.board) back;
         goes_on = subst (λ (b : Noted). StartsWith b.schedule (known old).seen) e m.goes_on;
         makes = subst (λ (b : Noted). Made made b old.number y) e h;
-        turns = ap (λ (v : View). of_first v.turns) back ∙ first_noted old.number made (turns_of old) (known old).turns s.turns;
-        seen = ap (λ (v : View). v.seen) back;
-        halted = ap (λ (v : View). v.halted) back;
+        turns = ap (λ (v : SideView). of_first v.turns) back ∙ first_noted old.number made (turns_of old) (known old).turns s.turns;
+        seen = ap (λ (v : SideView). v.seen) back;
+        halted = ap (λ (v : SideView). v.halted) back;
         stands = subst (λ (b : Noted). Stands (first_of old).state b.state (old.number, turns_of old)) e m.stands;
       }
 
@@ -174,7 +174,7 @@ module _ {A : Type 0} (old mid : Seat A) (x : Noted) (m : Met old mid x) where
   are_outs outs h = subst (λ (n : ℕ × ℕ). AreOuts n.0 n.1 outs) (λ i. (sym m.number i, sym m.stands.agents i)) h
 
   pub made_again : (y : Noted) (made : Option Turn) → Made made x mid.number y → Made made (met_by mid) mid.number y
-  made_again y made h = subst (λ (b : Noted). Made made b mid.number y) (sym (ap (λ (v : View). v.met) m.taken)) h
+  made_again y made h = subst (λ (b : Noted). Made made b mid.number y) (sym (ap (λ (v : SideView). v.met) m.taken)) h
 
   module _ (new : Seat A) (y : Noted) (sits : Sits old.number false (known old)) (f : IsFresh (first_of old)) (n : new.number ≡ mid.number) where
     pub told_sense : (r : Result Sensed Starved) → phase_of old ≡ Idle → IfOk r (HasSensed x y mid.number) → IfOk r (SenseLeaves x y mid.number) → known new ≡ gave (made_by_sense r) (known mid) y →

@@ -2,7 +2,7 @@
 use Rattle.std.specs.Prelude.{◌≡◌, ℕ, []}
 use Rattle.mas_board.specs.declared.seats.Phase.TheVariants.{Idle}
 use Rattle.mas_board.specs.Boards.{Noted, seat_at}
-use Rattle.mas_views.specs.Rule.{Showing}
+use Rattle.mas_board_turns.specs.Rule.{Showing}
 
 -- the board, beside which nothing is kept
 abbrev pub showing : Showing Noted

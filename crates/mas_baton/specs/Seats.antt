@@ -2,7 +2,7 @@
 use Rattle.std.specs.Prelude.{◌≡◌, ℕ, ◌<◌, Bool, false, Option, None, Some, List, [], ◌∷◌, ◌++◌, length}
 use Rattle.std.specs.Option.{option_to_list}
 use Rattle.crossbeam_queue.specs.Passes.{view, IsPassOf}
-use Rattle.mas_lists.specs.Lists.{StartsWith, Each, Row}
+use Rattle.mas_board_lists.specs.Lists.{StartsWith, Each, Row}
 use Rattle.mas_mind.specs.declared.mind.Input.{Input}
 use Rattle.mas_mind.specs.declared.mind.Outs.{Outs}
 use Rattle.mas_mind.specs.declared.mind.Feedback.{Feedback}
@@ -13,20 +13,20 @@ use Rattle.mas_board.specs.declared.seats.Sensed.{Sensed}
 use Rattle.mas_board.specs.declared.seats.Sensed.TheVariants as answer
 use Rattle.mas_board.specs.Boards.{Noted}
 use Rattle.mas_board.specs.Seating.{HasSensed, SenseLeaves, HasEmitted, HasLeft, halt, IsInputFor}
-use Rattle.mas_turns.specs.declared.turn.Turn.{Turn}
-use Rattle.mas_turns.specs.declared.turn.Turn.TheVariants as turn
-use Rattle.mas_turns.specs.Turns.{Entry, Plays, names, of, phase_after, cycles_in}
-use Rattle.mas_turns.specs.Answers.{sensed}
-use Rattle.mas_views.specs.declared.view.View.{View}
-use Rattle.mas_views.specs.Views.{no_board}
-use Rattle.mas_views.specs.Steps.{of_first, Sits, Made, Stands, took}
+use Rattle.mas_board_turns.specs.declared.turn.Turn.{Turn}
+use Rattle.mas_board_turns.specs.declared.turn.Turn.TheVariants as turn
+use Rattle.mas_board_turns.specs.Turns.{Entry, Plays, names, of, phase_after, cycles_in}
+use Rattle.mas_board_turns.specs.Answers.{sensed}
+use Rattle.mas_board_turns.specs.declared.view.SideView.{SideView}
+use Rattle.mas_board_turns.specs.Views.{no_board}
+use Rattle.mas_board_turns.specs.Steps.{of_first, Sits, Made, Stands, took}
 use Rattle.mas_baton.specs.declared.baton.Baton.{Baton}
 use Rattle.mas_baton.specs.declared.seat.Seat.{Seat}
 use Rattle.mas_baton.specs.Rule.{IsFresh}
 
 module _ {A : Type 0} where
   -- what a seat knows
-  abbrev pub known : Seat A → View
+  abbrev pub known : Seat A → SideView
   known s = view s.pass
 
   -- the turns that its agent has made, in order

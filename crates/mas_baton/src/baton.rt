@@ -6,21 +6,21 @@ ghost use Rattle.mas_mind.specs.Minds.{AreOuts};
 ghost use Rattle.mas_board.specs.declared.seats.Phase.TheVariants.{Idle, Busy};
 ghost use Rattle.mas_board.specs.Boards.{no_outs};
 ghost use Rattle.mas_board.specs.Seating as board;
-ghost use Rattle.mas_lists.specs.Lists.{Each};
-ghost use Rattle.mas_turns.specs.Answers as turns;
-ghost use Rattle.mas_views.specs.Views.{bare};
-ghost use Rattle.mas_views.specs.Steps as step;
+ghost use Rattle.mas_board_lists.specs.Lists.{Each};
+ghost use Rattle.mas_board_turns.specs.Answers as turns;
+ghost use Rattle.mas_board_turns.specs.Views.{bare};
+ghost use Rattle.mas_board_turns.specs.Steps as step;
 ghost use Rattle.mas_baton.specs.Seats as spec;
 ghost use Rattle.mas_baton.specs.Gathering as gathering;
 
-use crate::rule::{Closes, Gives, Kept, Opens, Takes};
+use crate::rule::{BatonCloses, BatonGives, BatonOpens, BatonRule, BatonTakes};
 use crate::seat::{Seat, Seats};
 use asl_term::sequence::{Seq, Starved};
 use crossbeam_queue::{Pass, RuledArrayQueue};
 use mas_board::board::Board;
 use mas_board::seats::Sensed;
+use mas_board_turns::view::{Departs, Making, Nothing, SideView, SplitsSide};
 use mas_mind::mind::{Feedback, Outs};
-use mas_views::view::{Departs, Making, Nothing, Parts, View};
 use mas_world::artifact::Artifact;
 use std::alloc::Global;
 use std::marker::Brand;
@@ -29,12 +29,12 @@ use std::sync::Wait;
 use std::thread;
 use std::thread::Threads;
 
-pub type Line<A> = RuledArrayQueue<Board<A>, View, Kept>;
+pub type BatonQueue<A> = RuledArrayQueue<Board<A>, SideView, BatonRule>;
 
 /// The place of the board between two exchanges.
 #[derive(Drop)]
 pub struct Baton<A: Artifact> {
-    pub line: Line<A>,
+    pub line: BatonQueue<A>,
 }
 
 /// Lays the board out for its agents, with a seat for each, in order. No turn was made on it yet.
@@ -49,11 +49,11 @@ pub fn open_baton<R: Threads + Wait + Sync, A: Artifact>(
     board.holds();
     let agents = board.names().len();
     let mut seats = Seq::new(alloc);
-    let (line, pass) = Line::ruled(alloc, 1)?;
+    let (line, pass) = BatonQueue::ruled(alloc, 1)?;
     let baton = Baton { line };
     let mut pass = baton.begin(rt, pass, board);
     for k in 0..agents {
-        let one = baton.line.another::<Parts>(&mut pass);
+        let one = baton.line.another::<SplitsSide>(&mut pass);
         seats.push(Seat {
             number: k + 1,
             pass: one,
@@ -67,16 +67,16 @@ impl<A: Artifact> Baton<A> {
     fn begin<R: Wait>(
         &self,
         rt: &R,
-        mut pass: Pass<Board<A>, View>,
+        mut pass: Pass<Board<A>, SideView>,
         mut board: Board<A>,
-    ) -> Pass<Board<A>, View>
+    ) -> Pass<Board<A>, SideView>
         requires pass { IsPassOf self.now.line pass }
         requires empty { (view pass).started ≡ false }
         ensures pass { IsPassOf self.now.line result }
         ensures opened { view result ≡ step.opened (bare board) }
     {
         for _ in rt.forever() {
-            match self.line.try_push_as::<Opens>(&mut pass, board) {
+            match self.line.try_push_as::<BatonOpens>(&mut pass, board) {
                 Ok(()) => return pass,
                 Err(back) => board = back,
             }
@@ -92,7 +92,7 @@ impl<A: Artifact> Baton<A> {
         ensures met { spec.Met seat.old seat.new result }
     {
         for _ in rt.forever() {
-            if let Some(board) = self.line.try_pop_as::<Takes>(&mut seat.pass) {
+            if let Some(board) = self.line.try_pop_as::<BatonTakes>(&mut seat.pass) {
                 return board;
             }
             thread::yield_now();
@@ -109,7 +109,10 @@ impl<A: Artifact> Baton<A> {
         ensures gave { spec.known seat.new ≡ step.gave K.made (spec.known seat.old) board }
     {
         for _ in rt.forever() {
-            match self.line.try_push_as::<Gives<K>>(&mut seat.pass, board) {
+            match self
+                .line
+                .try_push_as::<BatonGives<K>>(&mut seat.pass, board)
+            {
                 Ok(()) => return,
                 Err(back) => board = back,
             }
@@ -224,7 +227,11 @@ impl<A: Artifact> Baton<A> {
     }
 
     /// Takes the views of these seats into the pass.
-    fn gather(&self, mut pass: Pass<Board<A>, View>, mut seats: Seats<A>) -> Pass<Board<A>, View>
+    fn gather(
+        &self,
+        mut pass: Pass<Board<A>, SideView>,
+        mut seats: Seats<A>,
+    ) -> Pass<Board<A>, SideView>
         requires pass { IsPassOf self.now.line pass }
         requires gathers { gathering.Gathers (view pass) }
         requires seats { Each (spec.IsSeatOf self.now) seats }
@@ -236,7 +243,7 @@ impl<A: Artifact> Baton<A> {
                 number: _,
                 pass: other,
             } = seat;
-            self.line.absorb::<Parts>(&mut pass, other);
+            self.line.absorb::<SplitsSide>(&mut pass, other);
         }
         pass
     }
@@ -251,7 +258,7 @@ impl<A: Artifact> Baton<A> {
         };
         let Seat { number: _, pass } = first;
         let mut pass = self.gather(pass, seats);
-        match self.line.pop_as::<Closes, R>(rt, &mut pass) {
+        match self.line.pop_as::<BatonCloses, R>(rt, &mut pass) {
             Some(board) => board,
             None => unreachable!(),
         }

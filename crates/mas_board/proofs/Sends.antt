@@ -7,13 +7,24 @@ use mir.Syntax.{w64}
 use Rattle.asl_term.proofs.names.Names.TheSendSync.{the_send as names_send}
 use Rattle.asl_term.proofs.room.Roomy.TheSendSync.{the_send as roomy_send}
 use Rattle.asl_term.proofs.sequence.Seq.TheSendSync.{the_send as seq_send}
-use Rattle.mas_world.proofs.Sends.{post_send, world_send}
+use Rattle.asl_term.proofs.Sends.{term_field_send}
+use Rattle.mas_mind.proofs.mind.Verb.TheSendSync.{the_field_send as verb_send}
+use Rattle.mas_mind.specs.contracts.mind.Message as message
+use Rattle.mas_world.proofs.Sends.{world_send}
 use Rattle.mas_world.specs.declared.artifact.Artifact.{Ghosts}
-use Rattle.mas_board.proofs.seats.Place.TheSendSync.{the_send as place_send}
+use Rattle.mas_board.proofs.seats.AgentPlace.TheSendSync.{the_send as place_send}
 use Rattle.mas_board.specs.contracts.board.Board as board
-use Rattle.mas_board.specs.contracts.seats.Seats as seats
-use Rattle.mas_board.specs.contracts.seats.Seats.TheInside as seats_inside
+use Rattle.mas_board.specs.contracts.seats.AgentPlaces as seats
+use Rattle.mas_board.specs.contracts.seats.AgentPlaces.TheInside as seats_inside
 use Rattle.mas_board.specs.contracts.board.Board.TheInside as inside
+use Rattle.mas_board.specs.contracts.post.Post as post
+use Rattle.mas_board.specs.contracts.post.Post.TheInside as post_inside
+
+message_send : IsSend message.the_row
+message_send = search (sendable, term_field_send, verb_send) depth 20
+
+pub post_send : IsSend post.the_row
+post_send = view_send post_inside.the_row _ _ _ _ (declared_send post_inside.the_type (seq_send _ (roomy_send _ message_send), tt))
 
 number_send : IsSend (UInt w64)
 number_send = search sendable

@@ -15,7 +15,7 @@ use Rattle.mas_world.specs.Worlds.{World, acted}
 use Rattle.mas_world.specs.Seen.{seen}
 use Rattle.mas_board.specs.declared.seats.Phase.{Phase}
 use Rattle.mas_board.specs.declared.seats.Phase.TheVariants.{Idle, Busy, Left as Gone}
-use Rattle.mas_board.specs.declared.seats.Place.{Place}
+use Rattle.mas_board.specs.declared.seats.AgentPlace.{AgentPlace}
 use Rattle.mas_board.specs.declared.seats.Sensed.{Sensed}
 use Rattle.mas_board.specs.declared.seats.Sensed.TheVariants.{Input as Given, Left, Ahead}
 
@@ -29,7 +29,7 @@ pub record State : Type 0 where
   pub stop : Bool
   pub cycles : ℕ
   pub lead : ℕ
-  pub seats : List Place
+  pub seats : List AgentPlace
 
 -- the state, the numbers of the agents that made its turns, in order, and whether the board was halted
 pub record Noted : Type 0 where
@@ -40,17 +40,17 @@ pub record Noted : Type 0 where
 -- ---- what stands at an agent
 
 -- a seat at which nothing has happened
-abbrev pub no_seat : Place
+abbrev pub no_seat : AgentPlace
 no_seat = record { phase = Idle; cycle = 0; mark = None; kept = 0 }
 
-abbrev pub seat_or_none : Option Place → Place
+abbrev pub seat_or_none : Option AgentPlace → AgentPlace
 seat_or_none None = no_seat
 seat_or_none (Some seat) = seat
 
-abbrev pub seat_of : List Place → ℕ → Place
+abbrev pub seat_of : List AgentPlace → ℕ → AgentPlace
 seat_of seats a = seat_or_none (slice_get seats (a - 1))
 
-abbrev pub seat_at : State → ℕ → Place
+abbrev pub seat_at : State → ℕ → AgentPlace
 seat_at s a = seat_of s.seats a
 
 abbrev pub box_or_none : Option (List Message) → List Message
@@ -67,7 +67,7 @@ name_or_none (Some name) = name
 abbrev pub name_of : State → ℕ → List ℕ
 name_of s a = name_or_none (name_at s.names a)
 
-abbrev pub with_seat : State → ℕ → Place → State
+abbrev pub with_seat : State → ℕ → AgentPlace → State
 with_seat s a seat = record s { seats = slice_set s.seats (a - 1) seat }
 
 -- ---- the tests of the turns
@@ -86,11 +86,11 @@ is_empty [] = true
 is_empty (m ∷ more) = false
 
 -- an agent has left, or has this version as its mark and an empty box
-abbrev pub rests : ℕ → Place → List Message → Bool
+abbrev pub rests : ℕ → AgentPlace → List Message → Bool
 rests version seat box = is_gone seat.phase || (is_mark seat.mark version && is_empty box)
 
 -- every agent that has not left has this version as its mark and an empty box
-abbrev pub are_quiet : ℕ → List Place → List (List Message) → Bool
+abbrev pub are_quiet : ℕ → List AgentPlace → List (List Message) → Bool
 are_quiet version [] boxes = true
 are_quiet version (seat ∷ seats) [] = true
 are_quiet version (seat ∷ seats) (box ∷ boxes) = rests version seat box && are_quiet version seats boxes
@@ -99,11 +99,11 @@ abbrev pub all_quiet : State → Bool
 all_quiet s = are_quiet s.version s.seats s.boxes
 
 -- the lesser of this cycle number and that of the agent, where it has not left
-abbrev pub lower : ℕ → Place → ℕ
+abbrev pub lower : ℕ → AgentPlace → ℕ
 lower n seat = if is_gone seat.phase then n else min n seat.cycle
 
 -- the least of this cycle number and those of the agents that have not left
-abbrev pub least : ℕ → List Place → ℕ
+abbrev pub least : ℕ → List AgentPlace → ℕ
 least n [] = n
 least n (seat ∷ seats) = least (lower n seat) seats
 
@@ -112,7 +112,7 @@ abbrev pub least_cycle : State → ℕ → ℕ
 least_cycle s a = least (seat_at s a).cycle s.seats
 
 -- the agent has left, or its cycle number is not below this one
-abbrev pub NotBelow : ℕ → Place → Type 0
+abbrev pub NotBelow : ℕ → AgentPlace → Type 0
 NotBelow c seat = (is_gone seat.phase ≡ true) ⊎ (c ≤ seat.cycle)
 
 -- the agent has made as many cycles as there may be
@@ -196,7 +196,7 @@ abbrev pub version_after : ℕ → Option Feedback → List Message → ℕ
 version_after version feedback messages = if is_done feedback || not (is_empty messages) then version + 1 else version
 
 -- the agent is idle again; where the outs are quiet its mark is the version of its Sense
-abbrev pub rested : Place → Bool → Place
+abbrev pub rested : AgentPlace → Bool → AgentPlace
 rested seat quiet = record { phase = Idle; cycle = seat.cycle; mark = if quiet then Some seat.kept else None; kept = seat.kept }
 
 -- the messages are put in order, and stop sets the mark

@@ -8,7 +8,7 @@ use Rattle.mas_mind.specs.declared.mind.End.{End}
 use Rattle.mas_mind.specs.declared.mind.Feedback.{Feedback}
 use Rattle.mas_mind.specs.Minds.{IsAgent, IsFor, are_ground}
 use Rattle.mas_board.specs.declared.seats.Phase.{Phase}
-use Rattle.mas_board.specs.declared.seats.Place.{Place}
+use Rattle.mas_board.specs.declared.seats.AgentPlace.{AgentPlace}
 use Rattle.mas_board.specs.declared.seats.Sensed.{Sensed}
 use Rattle.mas_board.specs.declared.seats.Sensed.TheVariants.{Input as Given, Left, Ahead, Halted}
 use Rattle.mas_board.specs.Boards as board
@@ -33,7 +33,7 @@ abbrev pub AreDelivered : ℕ → List (List Message) → Type 0
 AreDelivered agents boxes = (a : ℕ) → IsAgent agents a → All (IsFor a agents) (box_of boxes a)
 
 -- no agent that has not left is more than so many cycles ahead of another that has not left
-abbrev pub AreLed : ℕ → List Place → Type 0
+abbrev pub AreLed : ℕ → List AgentPlace → Type 0
 AreLed lead seats =
     (a b : ℕ) → IsAgent (length seats) a → IsAgent (length seats) b → is_gone (seat_of seats a).phase ≡ false →
     is_gone (seat_of seats b).phase ≡ false →
@@ -44,12 +44,12 @@ pub record IsSound (s : State) : Type 0 where
   pub limits : AreLimits (length s.seats) s.cycles s.lead
   pub named : length s.names ≡ length s.seats
   pub boxed : length s.boxes ≡ length s.seats
-  pub within : All (λ (seat : Place). seat.cycle ≤ s.cycles) s.seats
+  pub within : All (λ (seat : AgentPlace). seat.cycle ≤ s.cycles) s.seats
   pub led : AreLed s.lead s.seats
   pub delivered : AreDelivered (length s.seats) s.boxes
 
 -- how many agents have not left
-abbrev pub living : List Place → ℕ
+abbrev pub living : List AgentPlace → ℕ
 living [] = 0
 living (seat ∷ seats) = if is_gone seat.phase then living seats else 1 + living seats
 

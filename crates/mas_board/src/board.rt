@@ -8,9 +8,10 @@ ghost use Rattle.mas_board.specs.Boards as spec;
 ghost use Rattle.mas_board.specs.Seating as kept;
 ghost use Rattle.mas_board.specs.declared.seats.Phase.TheVariants.{Idle, Busy};
 
-use crate::mail::{make_room, put_all};
+use crate::mail::{make_room, post, put_all};
+use crate::post::Post;
 use crate::seats::{
-    Phase, Place, Seats, Sensed, all_rest, count, held_by, open_seats, seat_of, set_seat,
+    AgentPlace, AgentPlaces, Phase, Sensed, all_rest, count, held_by, open_seats, seat_of, set_seat,
 };
 use asl_term::names::Names;
 use asl_term::room::Roomy;
@@ -18,8 +19,6 @@ use asl_term::sequence::{Seq, Starved};
 use asl_term::syntax::{Literal, Text};
 use mas_mind::mind::{End, Feedback, Input, Message, Outs};
 use mas_world::artifact::Artifact;
-use mas_world::opening::post;
-use mas_world::post::Post;
 use mas_world::world::World;
 use std::alloc::Global;
 use std::marker::Model;
@@ -36,7 +35,7 @@ pub struct Board<A: Artifact> {
     stop: bool,
     cycles: u64,
     lead: u64,
-    seats: Seats,
+    seats: AgentPlaces,
     schedule: Roomy<u64>,
     halted: bool,
 }
@@ -147,10 +146,10 @@ fn version_after(version: u64, feedback: Option<Feedback>, messages: &[Message])
 }
 
 /// The seat of an agent after its Emit.
-fn rested(seat: Place, quiet: bool) -> Place
+fn rested(seat: AgentPlace, quiet: bool) -> AgentPlace
     ensures { result ≡ spec.rested seat quiet }
 {
-    Place {
+    AgentPlace {
         phase: Phase::Idle,
         cycle: seat.cycle,
         mark: if quiet { Some(seat.kept) } else { None },
@@ -211,7 +210,7 @@ impl<A: Artifact> Board<A> {
     {
         note(&mut self.schedule, a);
         let seat = seat_of(&self.seats, a);
-        let left = Place {
+        let left = AgentPlace {
             phase: Phase::Left(end),
             cycle: seat.cycle,
             mark: seat.mark,
@@ -239,7 +238,7 @@ impl<A: Artifact> Board<A> {
         note(&mut self.schedule, a);
         let message = self.mail.take(a);
         let seat = seat_of(&self.seats, a);
-        let busy = Place {
+        let busy = AgentPlace {
             phase: Phase::Busy,
             cycle: seat.cycle + 1,
             mark: None,

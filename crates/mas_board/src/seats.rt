@@ -6,9 +6,9 @@ ghost use Rattle.mas_board.specs.Boards as spec;
 ghost use Rattle.mas_board.specs.Boxes.{lists};
 ghost use Rattle.mas_board.specs.Surveys as survey;
 
+use crate::post::Post;
 use asl_term::sequence::{Seq, Starved};
 use mas_mind::mind::{End, Input};
-use mas_world::post::Post;
 use std::alloc::Global;
 use std::marker::Model;
 
@@ -23,7 +23,7 @@ pub enum Phase {
 /// An agent's place on the board: its phase, how many cycles it has begun, the version at which it was quiet
 /// last (where its last cycle was quiet), and the version that it met at its last Sense.
 #[derive(Clone, Copy, Debug, PartialEq, Eq, Drop)]
-pub struct Place {
+pub struct AgentPlace {
     pub phase: Phase,
     pub cycle: u64,
     pub mark: Option<u64>,
@@ -41,10 +41,10 @@ pub enum Sensed {
 }
 
 /// A seat at which nothing has happened.
-fn no_seat() -> Place
+fn no_seat() -> AgentPlace
     ensures { result ≡ spec.no_seat }
 {
-    Place {
+    AgentPlace {
         phase: Phase::Idle,
         cycle: 0,
         mark: None,
@@ -56,19 +56,19 @@ fn no_seat() -> Place
 /// that no agent which has not left is below, and where an agent that did not rest was seen last: so a look at all of them is
 /// seldom a look at each.
 #[derive(Drop)]
-pub struct Seats {
-    places: Seq<Place>,
+pub struct AgentPlaces {
+    places: Seq<AgentPlace>,
     low: u64,
     awake: u64,
 }
 
-impl Model for Seats {
+impl Model for AgentPlaces {
     ghost use Rattle.std.specs.Prelude.{List, All};
     ghost use Rattle.std.specs.Coded.{codes};
-    ghost use Rattle.mas_board.specs.declared.seats.Place.{Place};
+    ghost use Rattle.mas_board.specs.declared.seats.AgentPlace.{AgentPlace};
     ghost use Rattle.mas_board.specs.Boards.{NotBelow};
 
-    ghost Value = { List Place };
+    ghost Value = { List AgentPlace };
 
     ghost coded = { Prim.hlevel codes };
 
@@ -78,7 +78,7 @@ impl Model for Seats {
 }
 
 /// So many places at which nothing has happened.
-fn open_places(alloc: Global, agents: u32) -> Result<Seq<Place>, Starved>
+fn open_places(alloc: Global, agents: u32) -> Result<Seq<AgentPlace>, Starved>
     ensures { IfOk result (λ s. s ≡ replicate agents spec.no_seat) }
 {
     let mut places = Seq::new(alloc);
@@ -90,11 +90,11 @@ fn open_places(alloc: Global, agents: u32) -> Result<Seq<Place>, Starved>
 }
 
 /// So many agents, to whom nothing has happened.
-pub fn open_seats(alloc: Global, agents: u32) -> Result<Seats, Starved>
+pub fn open_seats(alloc: Global, agents: u32) -> Result<AgentPlaces, Starved>
     ensures { IfOk result (λ s. s ≡ replicate agents spec.no_seat) }
 {
     let places = open_places(alloc, agents)?;
-    Ok(Seats {
+    Ok(AgentPlaces {
         places,
         low: 0,
         awake: 0,
@@ -102,7 +102,7 @@ pub fn open_seats(alloc: Global, agents: u32) -> Result<Seats, Starved>
 }
 
 /// How many agents there are.
-pub fn count(seats: &Seats) -> u64
+pub fn count(seats: &AgentPlaces) -> u64
     ensures { result ≡ length seats.now }
 {
     seats.places.len()
@@ -110,7 +110,7 @@ pub fn count(seats: &Seats) -> u64
 
 /// The seat of an agent.
 #[tactic(auto, using(crate::proofs::Places::has_seat))]
-pub fn seat_of(seats: &Seats, a: u32) -> Place
+pub fn seat_of(seats: &AgentPlaces, a: u32) -> AgentPlace
     requires { IsAgent (length seats.now) a }
     ensures { result ≡ spec.seat_of seats.now a }
 {
@@ -121,7 +121,7 @@ pub fn seat_of(seats: &Seats, a: u32) -> Place
 }
 
 /// The cycle number of an agent, or `lowest` where it has left or that is less.
-fn lower(lowest: u64, seat: &Place) -> u64
+fn lower(lowest: u64, seat: &AgentPlace) -> u64
     ensures value { result ≡ spec.lower lowest seat.now }
     ensures most { result ≤ lowest }
 {
@@ -132,7 +132,7 @@ fn lower(lowest: u64, seat: &Place) -> u64
 }
 
 /// Gives an agent this seat.
-pub fn set_seat(seats: &mut Seats, a: u32, seat: Place)
+pub fn set_seat(seats: &mut AgentPlaces, a: u32, seat: AgentPlace)
     requires { IsAgent (length seats.old) a }
     ensures { seats.new ≡ slice_set seats.old (a - 1) seat }
 {
@@ -141,7 +141,7 @@ pub fn set_seat(seats: &mut Seats, a: u32, seat: Place)
 }
 
 /// Whether an agent has left, or is quiet at the version and has no unread message.
-fn rests(version: u64, seat: &Place, unread: u64) -> bool
+fn rests(version: u64, seat: &AgentPlace, unread: u64) -> bool
     ensures { result ≡ (spec.is_gone seat.now.phase || (spec.is_mark seat.now.mark version && nat_eq unread 0)) }
 {
     if let Phase::Left(_) = seat.phase {
@@ -154,7 +154,7 @@ fn rests(version: u64, seat: &Place, unread: u64) -> bool
 }
 
 /// The first place from this one on, before another, whose agent does not rest.
-fn awake_in(version: u64, places: &[Place], mail: &Post, from: u64, to: u64) -> Option<u64>
+fn awake_in(version: u64, places: &[AgentPlace], mail: &Post, from: u64, to: u64) -> Option<u64>
     requires few { length places.now < 65536 }
     requires boxes { length mail.now ≡ length places.now }
     requires within { to ≤ length places.now }
@@ -170,7 +170,7 @@ fn awake_in(version: u64, places: &[Place], mail: &Post, from: u64, to: u64) -> 
 }
 
 /// Where an agent does not rest: the first place from this one on, else the first before it.
-fn awake_from(version: u64, places: &[Place], mail: &Post, from: u64) -> Option<u64>
+fn awake_from(version: u64, places: &[AgentPlace], mail: &Post, from: u64) -> Option<u64>
     requires few { length places.now < 65536 }
     requires boxes { length mail.now ≡ length places.now }
     requires within { from ≤ length places.now }
@@ -184,7 +184,7 @@ fn awake_from(version: u64, places: &[Place], mail: &Post, from: u64) -> Option<
 
 /// Whether every agent that has not left is quiet at the version, with an empty box. It looks first where an agent did not rest when
 /// this was asked last.
-pub fn all_rest(seats: &mut Seats, version: u64, mail: &Post) -> bool
+pub fn all_rest(seats: &mut AgentPlaces, version: u64, mail: &Post) -> bool
     requires few { length seats.old < 65536 }
     requires boxes { length mail.now ≡ length seats.old }
     ensures value { result ≡ spec.are_quiet version seats.old (lists mail.now) }
@@ -202,7 +202,7 @@ pub fn all_rest(seats: &mut Seats, version: u64, mail: &Post) -> bool
 }
 
 /// The least of this cycle number and those of the agents that have not left.
-fn least(own: u64, places: &[Place]) -> u64
+fn least(own: u64, places: &[AgentPlace]) -> u64
     ensures { result ≡ spec.least own places.now }
 {
     let mut lowest = own;
@@ -213,7 +213,7 @@ fn least(own: u64, places: &[Place]) -> u64
 }
 
 /// The least cycle number of the agents that have not left, one of which has the cycle number `own`, where that one has to wait for it.
-pub fn held_by(seats: &mut Seats, own: u64, lead: u64) -> Option<u64>
+pub fn held_by(seats: &mut AgentPlaces, own: u64, lead: u64) -> Option<u64>
     requires { 1 ≤ lead }
     ensures value { result ≡ survey.held_by lead own seats.old }
     ensures stays { seats.new ≡ seats.old }

@@ -6,7 +6,7 @@ use Rattle.mas_mind.specs.Minds.{Kind, IsAgent, AreLawful, asks_feedback}
 use Rattle.mas_mind.specs.Thoughts.{Thinks}
 use Rattle.mas_board.specs.declared.seats.Phase.{Phase}
 use Rattle.mas_board.specs.declared.seats.Phase.TheVariants.{Idle, Busy, Left as Gone}
-use Rattle.mas_board.specs.declared.seats.Place.{Place}
+use Rattle.mas_board.specs.declared.seats.AgentPlace.{AgentPlace}
 use Rattle.mas_board.specs.Boards.{State, Noted, seat_at, seat_of}
 use Rattle.mas_core.specs.Platform.{Platform}
 
@@ -41,17 +41,17 @@ ThoughtFits k agents a Busy m None = ⊥
 ThoughtFits k agents a Busy m (Some t) = (k.awaits m ≡ asks_feedback t) × AreLawful a agents t
 ThoughtFits k agents a (Gone end) m t = t ≡ None
 
-pub record MindFits {V : Type 0} (k : Kind V) (agents a : ℕ) (seat : Place) (m : V) (t : Option Thought) : Type 0 where
+pub record MindFits {V : Type 0} (k : Kind V) (agents a : ℕ) (seat : AgentPlace) (m : V) (t : Option Thought) : Type 0 where
   pub me : k.me m ≡ a
   pub agents_are : k.agents m ≡ agents
   pub made : k.made m ≡ seat.cycle
   pub thought : ThoughtFits k agents a seat.phase m t
 
-abbrev pub FitsAt : {V : Type 0} → Kind V → ℕ → ℕ → Place → Option V → Option (Option Thought) → Type 0
+abbrev pub FitsAt : {V : Type 0} → Kind V → ℕ → ℕ → AgentPlace → Option V → Option (Option Thought) → Type 0
 FitsAt k agents a seat (Some m) (Some t) = MindFits k agents a seat m t
 FitsAt k agents a seat _ _ = ⊥
 
-pub record AllFit {V : Type 0} (k : Kind V) (seats : List Place) (minds : List V) (thoughts : List (Option Thought)) : Type 0 where
+pub record AllFit {V : Type 0} (k : Kind V) (seats : List AgentPlace) (minds : List V) (thoughts : List (Option Thought)) : Type 0 where
   pub minds_are : length minds ≡ length seats
   pub thoughts_are : length thoughts ≡ length seats
   pub each : (a : ℕ) → IsAgent (length seats) a → FitsAt k (length seats) a (seat_of seats a) (slice_get minds (a - 1)) (slice_get thoughts (a - 1))

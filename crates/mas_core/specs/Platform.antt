@@ -8,7 +8,7 @@ use Rattle.mas_mind.specs.declared.mind.Thought.TheVariants.{Outs as Acts, Spent
 use Rattle.mas_mind.specs.Minds.{Cycled, Kind}
 use Rattle.mas_board.specs.declared.seats.Phase.{Phase}
 use Rattle.mas_board.specs.declared.seats.Phase.TheVariants.{Idle, Busy, Left as Gone}
-use Rattle.mas_board.specs.declared.seats.Place.{Place}
+use Rattle.mas_board.specs.declared.seats.AgentPlace.{AgentPlace}
 use Rattle.mas_board.specs.declared.seats.Sensed.{Sensed}
 use Rattle.mas_board.specs.declared.seats.Sensed.TheVariants.{Input as Given, Left}
 use Rattle.mas_board.specs.Boards.{State, sense, emit, leave, seat_at, is_gone}
@@ -85,12 +85,12 @@ run k p [] = Some p
 run k p (a ∷ schedule) = and_run (λ q. run k q schedule) (turn k p a)
 
 -- every agent has left
-abbrev pub ended : List Place → Bool
+abbrev pub ended : List AgentPlace → Bool
 ended [] = true
 ended (seat ∷ seats) = is_gone seat.phase && ended seats
 
 -- the number, counted from this one, of the first agent that has not left
-abbrev pub first_here : ℕ → List Place → Option ℕ
+abbrev pub first_here : ℕ → List AgentPlace → Option ℕ
 first_here a [] = None
 first_here a (seat ∷ seats) = if is_gone seat.phase then first_here (a + 1) seats else Some a
 

@@ -3,4 +3,5 @@ pub mod Shelf
 pub mod Sink
 pub mod Told
 pub mod Writing
+pub mod Calls
 pub mod Memory

@@ -1,28 +1,14 @@
--- A shelf and a sink in memory: which calls are refused, and what the others do.
+-- A shelf and a sink in memory: what their calls do.
 use Rattle.std.specs.Prelude.{ℕ, List, ◌++◌, ◌-◌, length, take, min, Bool, ◌==◌, ◌||◌, if◌then◌else◌}
-use Rattle.std.specs.List.{list_any}
 use Rattle.asl_term.specs.Spare.{WithSpare}
-use Rattle.mas_io.specs.Causes.{counted}
+use Rattle.mas_io.specs.Calls.{is_refused, called}
 use Rattle.mas_io.specs.Shelf.{fetched}
-use Rattle.mas_io.specs.declared.memory.Calls.{Calls}
 use Rattle.mas_io.specs.declared.memory.MemoryShelf.{MemoryShelf}
 use Rattle.mas_io.specs.declared.memory.MemorySink.{MemorySink}
 use Rattle.mas_io.specs.declared.shelf.Fetched.{Fetched}
 use Rattle.mas_io.specs.declared.shelf.Fetched.TheVariants as fetch
 use Rattle.mas_io.specs.declared.sink.Put.{Put}
 use Rattle.mas_io.specs.declared.sink.Put.TheVariants as put
-
--- nothing was called yet
-abbrev pub no_calls : List ℕ → Calls
-no_calls fail = record { fail = fail; made = 0; faults = 0 }
-
--- the next call is refused: its number, from 1, stands in the list
-abbrev pub is_refused : Calls → Bool
-is_refused c = list_any (λ n. n == counted c.made) c.fail
-
--- one more call, which failed or not
-abbrev pub called : Calls → Bool → Calls
-called c failed = record { fail = c.fail; made = counted c.made; faults = if failed then counted c.faults else c.faults }
 
 -- what a fetch answers where there is memory
 abbrev pub shelf_answer : MemoryShelf → List ℕ → ℕ → Fetched

@@ -4,8 +4,10 @@ ghost use Rattle.std.specs.Prelude.{◌≡◌, ◌≢◌, ◌≤◌, ◌<◌, So
 ghost use Rattle.mas_io.specs.declared.shelf.Fetched.TheVariants.{Failed};
 ghost use Rattle.mas_io.specs.Shelf.{FetchFits, IsCopy, IsShort, fetched};
 ghost use Rattle.mas_io.specs.Sink.{PutFits};
-ghost use Rattle.mas_io.specs.Memory.{called, filled, is_refused, no_calls, put_answer, shelf_after, shelf_answer, sink_after, taken_len};
+ghost use Rattle.mas_io.specs.Calls.{no_calls};
+ghost use Rattle.mas_io.specs.Memory.{filled, put_answer, shelf_after, shelf_answer, sink_after, taken_len};
 
+use crate::calls::Calls;
 use crate::shelf::{Fetched, Shelf};
 use crate::sink::{Put, Sink};
 use asl_term::compare::same_text;
@@ -14,42 +16,6 @@ use asl_term::room::Roomy;
 use asl_term::sequence::Starved;
 use asl_term::syntax::{Filed, Files, Numbers, Text};
 use std::alloc::Global;
-
-/// The numbers of the calls that are refused, how many calls were made, and how many of them failed.
-#[derive(Drop)]
-struct Calls {
-    fail: Numbers,
-    made: u64,
-    faults: u64,
-}
-
-impl Calls {
-    fn new(fail: Numbers) -> Calls
-        ensures { result ≡ no_calls fail }
-    {
-        Calls {
-            fail,
-            made: 0,
-            faults: 0,
-        }
-    }
-
-    fn is_refused(&self) -> bool
-        ensures { result ≡ is_refused self.now }
-    {
-        self.fail.as_slice().contains(&self.made.saturating_add(1))
-    }
-
-    fn call(&mut self, failed: bool)
-        ensures after { self.new ≡ called self.old failed }
-        ensures later { self.old.faults ≤ self.new.faults }
-    {
-        self.made = self.made.saturating_add(1);
-        if failed {
-            self.faults = self.faults.saturating_add(1);
-        }
-    }
-}
 
 /// Files in memory.
 #[derive(Drop)]

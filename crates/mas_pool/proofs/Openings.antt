@@ -3,20 +3,20 @@ use Rattle.std.proofs.Common.{◌≡◌, ℕ, zero, suc, ◌+◌, ◌-◌, ◌<�
 use Rattle.mas_mind.specs.Minds.{Kind, IsAgent}
 use Rattle.mas_board.specs.declared.seats.Phase.{Phase}
 use Rattle.mas_board.specs.declared.seats.Phase.TheVariants.{Idle, Busy}
-use Rattle.mas_board.specs.declared.seats.Place as board
+use Rattle.mas_board.specs.declared.seats.AgentPlace as board
 use Rattle.mas_board.specs.Boards.{State, Noted, seat_of, seat_at, seat_or_none, no_seat}
 use Rattle.mas_board.specs.Seating.{IsSound, Opens}
-use Rattle.mas_turns.specs.declared.turn.Turn.{Turn}
-use Rattle.mas_turns.specs.Turns.{phase_after, cycles_in}
-use Rattle.mas_turns.specs.Follows.{resting, Follows}
+use Rattle.mas_board_turns.specs.declared.turn.Turn.{Turn}
+use Rattle.mas_board_turns.specs.Turns.{phase_after, cycles_in}
+use Rattle.mas_board_turns.specs.Follows.{resting, Follows}
 use Rattle.mas_core.specs.Fits.{Start, IsMindOf, AreMindsOf}
 use Rattle.mas_baton.specs.declared.baton.Baton.{Baton}
 use Rattle.mas_baton.specs.declared.seat.Seat.{Seat}
 use Rattle.mas_baton.specs.Seats.{turns_of, IsSeatOf, IsNew, Opened}
-use Rattle.mas_lists.specs.Lists.{Each, Row, numbers_from}
-use Rattle.mas_ready.specs.Rule.{numbers}
-use Rattle.mas_going.specs.declared.going.Going.{Going}
-use Rattle.mas_going.specs.Goings.{Became}
+use Rattle.mas_board_lists.specs.Lists.{Each, Row, numbers_from}
+use Rattle.mas_pool_ready.specs.Rule.{numbers}
+use Rattle.mas_pool_task.specs.declared.going.Going.{Going}
+use Rattle.mas_pool_task.specs.Goings.{Became}
 use Rattle.mas_pool.specs.Workers.{number_of, AreAt}
 use Rattle.mas_pool.specs.Dealing.{dealt_one, dealt}
 
@@ -44,13 +44,13 @@ module _ {V : Type 0} where
 module _ {V A : Type 0} (k : Kind V) where
   became_first : (b : Baton A) (start : Noted) (n : ℕ) (s : Seat A) (m : V) → IsSound start.state → seat_at start.state n ≡ no_seat → IsNew b start n s → IsMindOf k start.state n m → Became k (dealt_one (s, m)) (dealt_one (s, m))
   became_first b start n s m sound none new mind =
-      let phase = ap (λ (x : board.Place). x.phase) none in
-      let made : k.made m ≡ 0 = mind.made ∙ ap (λ (x : board.Place). x.cycle) none in
+      let phase = ap (λ (x : board.AgentPlace). x.phase) none in
+      let made : k.made m ≡ 0 = mind.made ∙ ap (λ (x : board.AgentPlace). x.cycle) none in
       record {
         same = record { number = refl; first = refl; seat = λ c i. i };
         rests = record {
           belongs = record {
-            seat = refl;
+            right = refl;
             me = mind.me ∙ sym new.number;
             agents = mind.agents ∙ ap (λ (x : Noted). length x.state.seats) (sym new.first);
             limit = subst (λ (x : Noted). x.state.cycles ≤ 1000000) (sym new.first) sound.limits.short;

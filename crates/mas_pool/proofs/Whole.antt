@@ -5,22 +5,22 @@ use Rattle.mas_mind.specs.declared.mind.Thought.{Thought}
 use Rattle.mas_mind.specs.Minds.{Kind, IsAgent}
 use Rattle.mas_board.specs.declared.seats.Phase.{Phase}
 use Rattle.mas_board.specs.declared.seats.Phase.TheVariants.{Idle, Busy}
-use Rattle.mas_board.specs.declared.seats.Place as board
+use Rattle.mas_board.specs.declared.seats.AgentPlace as board
 use Rattle.mas_board.specs.Boards.{State, Noted, seat_of, seat_at, seat_or_none, is_gone}
-use Rattle.mas_turns.specs.declared.turn.Turn.{Turn}
-use Rattle.mas_turns.specs.Turns.{Entry, Plays, names, of, phase_after}
-use Rattle.mas_turns.specs.Follows.{resting, Follows}
-use Rattle.mas_turns.proofs.Places.{plays_stands, plays_kept}
+use Rattle.mas_board_turns.specs.declared.turn.Turn.{Turn}
+use Rattle.mas_board_turns.specs.Turns.{Entry, Plays, names, of, phase_after}
+use Rattle.mas_board_turns.specs.Follows.{resting, Follows}
+use Rattle.mas_board_turns.proofs.Places.{plays_stands, plays_kept}
 use Rattle.mas_core.specs.Platform.{Platform, run, ended, opening_platform}
 use Rattle.mas_core.specs.Replay.{RanAlong}
-use Rattle.mas_runs.specs.Followed.{FollowsAt, AllFollow}
-use Rattle.mas_runs.proofs.Runs.{runs}
+use Rattle.mas_core_runs.specs.Followed.{FollowsAt, AllFollow}
+use Rattle.mas_core_runs.proofs.Runs.{runs}
 use Rattle.mas_baton.specs.declared.baton.Baton.{Baton}
 use Rattle.mas_baton.specs.declared.seat.Seat.{Seat}
 use Rattle.mas_baton.specs.Seats.{turns_of, first_of, phase_of, IsSeatOf, IsNew, IsBack, AllBack, Opened, Closed, first_by}
-use Rattle.mas_lists.specs.Lists.{Each, Row, numbers_from}
-use Rattle.mas_ready.specs.Rule.{numbers}
-use Rattle.mas_going.specs.declared.going.Going.{Going}
+use Rattle.mas_board_lists.specs.Lists.{Each, Row, numbers_from}
+use Rattle.mas_pool_ready.specs.Rule.{numbers}
+use Rattle.mas_pool_task.specs.declared.going.Going.{Going}
 use Rattle.mas_pool.specs.Workers.{number_of, AreAt, EndedOf, AreEnded}
 use Rattle.mas_pool.specs.Dealing.{dealt_one, dealt, seats_of, minds_of, AllGone}
 
@@ -104,27 +104,27 @@ both_true : (x y : Bool) → (x && y) ≡ true → (x ≡ true) × (y ≡ true)
 both_true true y e = (refl, e)
 both_true false y e = cc
 
-gone_at : (seats : List board.Place) (i : ℕ) → i < length seats → ended seats ≡ true → is_gone (seat_or_none (slice_get seats i)).phase ≡ true
+gone_at : (seats : List board.AgentPlace) (i : ℕ) → i < length seats → ended seats ≡ true → is_gone (seat_or_none (slice_get seats i)).phase ≡ true
 gone_at [] i l e = absurd (omega arith)
 gone_at (s ∷ seats) zero l e = (both_true (is_gone s.phase) (ended seats) e).0
 gone_at (s ∷ seats) (suc i) l e = gone_at seats i (omega arith) (both_true (is_gone s.phase) (ended seats) e).1
 
-ended_at : (seats : List board.Place) (i : ℕ) → i < length seats → ended seats ≡ true → is_gone (seat_of seats (suc i)).phase ≡ true
+ended_at : (seats : List board.AgentPlace) (i : ℕ) → i < length seats → ended seats ≡ true → is_gone (seat_of seats (suc i)).phase ≡ true
 ended_at seats i l e = subst (λ (n : ℕ). is_gone (seat_or_none (slice_get seats n)).phase ≡ true) (let z : i ≡ suc i - 1 = omega arith in z) (gone_at seats i l e)
 
 two_true : (x y : Bool) → x ≡ true → y ≡ true → (x && y) ≡ true
 two_true true y e d = d
 two_true false y e d = cc
 
-gone_all : (seats : List board.Place) → ((i : ℕ) → i < length seats → is_gone (seat_or_none (slice_get seats i)).phase ≡ true) → ended seats ≡ true
+gone_all : (seats : List board.AgentPlace) → ((i : ℕ) → i < length seats → is_gone (seat_or_none (slice_get seats i)).phase ≡ true) → ended seats ≡ true
 gone_all [] h = refl
 gone_all (s ∷ seats) h = two_true (is_gone s.phase) (ended seats) (h 0 (omega arith)) (gone_all seats (λ i l. h (suc i) (omega arith)))
 
-pub all_gone : (n : ℕ) (seats : List board.Place) → AllGone n seats → n ≡ length seats → ended seats ≡ true
+pub all_gone : (n : ℕ) (seats : List board.AgentPlace) → AllGone n seats → n ≡ length seats → ended seats ≡ true
 all_gone n seats h e = gone_all seats (λ i l. subst (λ (m : ℕ). is_gone (seat_or_none (slice_get seats m)).phase ≡ true) (let z : suc i - 1 ≡ i = omega arith in z) (h (suc i) (record { from_one = omega arith; named = omega arith })))
 
 -- where one has not left, not all have
-pub one_stays : (seats : List board.Place) (a : ℕ) (p : Phase) → IsAgent (length seats) a → p ≡ (seat_of seats a).phase → is_gone p ≡ false → false ≡ ended seats
+pub one_stays : (seats : List board.AgentPlace) (a : ℕ) (p : Phase) → IsAgent (length seats) a → p ≡ (seat_of seats a).phase → is_gone p ≡ false → false ≡ ended seats
 one_stays seats a p agent e g = go (ended seats) refl
   where
     go : (b : Bool) → ended seats ≡ b → false ≡ b

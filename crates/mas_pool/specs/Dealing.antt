@@ -1,10 +1,10 @@
 -- Seats and minds, put together and taken apart.
 use Rattle.std.specs.Prelude.{ℕ, ◌≡◌, ◌≤◌, true, List, map, zip}
-use Rattle.mas_board.specs.declared.seats.Place as board
+use Rattle.mas_board.specs.declared.seats.AgentPlace as board
 use Rattle.mas_board.specs.Boards.{seat_of, is_gone}
 use Rattle.mas_mind.specs.Minds.{IsAgent}
 use Rattle.mas_baton.specs.declared.seat.Seat.{Seat}
-use Rattle.mas_going.specs.declared.going.Going.{Going}
+use Rattle.mas_pool_task.specs.declared.going.Going.{Going}
 
 module _ {V A : Type 0} where
   -- an agent before its first cycle
@@ -21,5 +21,5 @@ module _ {V A : Type 0} where
   minds_of goings = map (λ (g : Going V A). g.mind) goings
 
 -- the first n agents have left
-abbrev pub AllGone : ℕ → List board.Place → Type 0
+abbrev pub AllGone : ℕ → List board.AgentPlace → Type 0
 AllGone n seats = (a : ℕ) → IsAgent n a → is_gone (seat_of seats a).phase ≡ true

@@ -2,20 +2,20 @@
 
 ghost use Rattle.std.specs.Prelude.{◌≡◌, ◌<◌, ◌≤◌, [], ◌∷◌, ◌++◌, All, length, IfOk};
 ghost use Rattle.std.specs.Thread.{IsSync};
-ghost use Rattle.mas_lists.specs.Lists.{Each, numbers_from};
-ghost use Rattle.mas_ready.specs.Rule.{numbers};
-ghost use Rattle.mas_ready.specs.Passes.{IsOf, Gathered, all_kept};
-ghost use Rattle.mas_going.specs.Goings.{Became};
+ghost use Rattle.mas_board_lists.specs.Lists.{Each, numbers_from};
+ghost use Rattle.mas_pool_ready.specs.Rule.{numbers};
+ghost use Rattle.mas_pool_ready.specs.Passes.{IsOf, Gathered, all_kept};
+ghost use Rattle.mas_pool_task.specs.Goings.{Became};
 ghost use Rattle.mas_pool.specs.Workers as spec;
 
 use crate::worker::worker;
 use asl_term::sequence::{Seq, Starved};
 use mas_baton::baton::Baton;
-use mas_going::gate::Gate;
-use mas_going::going::{Going, Goings};
 use mas_mind::thinking::Mind;
-use mas_ready::ends::in_order;
-use mas_ready::queue::{Pass, Ready, open_ready};
+use mas_pool_ready::ends::in_order;
+use mas_pool_ready::queue::{Pass, Ready, open_ready};
+use mas_pool_task::gate::Gate;
+use mas_pool_task::going::{Going, Goings};
 use mas_world::artifact::Artifact;
 use std::alloc::Global;
 use std::sync::Wait;

@@ -4,9 +4,9 @@ use Rattle.std.proofs.lemmas.List.{append-nil, length-append, map-append}
 use Rattle.std.proofs.lemmas.List.FromFn.{length-map-range_with_len}
 use Rattle.std.proofs.lemmas.Grind.{flat_map-append}
 use Rattle.mas_project.specs.declared.draft.Draft.{Draft}
-use Rattle.mas_project.specs.declared.piece.Entry.{Entry}
-use Rattle.mas_project.specs.declared.piece.Said.{Said}
-use Rattle.mas_project.specs.declared.piece.Said.TheVariants as said
+use Rattle.mas_project.specs.declared.piece.AgentEntry.{AgentEntry}
+use Rattle.mas_project.specs.declared.piece.PieceMeaning.{PieceMeaning}
+use Rattle.mas_project.specs.declared.piece.PieceMeaning.TheVariants as said
 use Rattle.mas_project.specs.declared.syntax.AgentLine.{AgentLine}
 use Rattle.mas_project.specs.declared.syntax.ProjectText.{ProjectText}
 use Rattle.mas_project.specs.Names.{numbered_name, names_in, names_of, agents_of}
@@ -14,7 +14,7 @@ use Rattle.mas_project.specs.Projects.{count_of, line_of, with_entry, added, all
 use Rattle.mas_project.specs.inner.Drafts.{capped, no_draft, entry_drafted, drafted, AreCounted, IsDraft}
 
 -- a line has as many agents as its entry counts
-line_agents : (entry : Entry) → length (names_in (line_of entry)) ≡ count_of entry
+line_agents : (entry : AgentEntry) → length (names_in (line_of entry)) ≡ count_of entry
 line_agents entry = go entry.count
   where
     go : (count : Option ℕ)
@@ -26,14 +26,14 @@ line_agents entry = go entry.count
     go None = refl
     go (Some n) = length-map-range_with_len (numbered_name entry.name) 1 n
 
-pub agents_push : (lines : List AgentLine) (entry : Entry) → agents_of (lines ++ line_of entry ∷ []) ≡ agents_of lines + count_of entry
+pub agents_push : (lines : List AgentLine) (entry : AgentEntry) → agents_of (lines ++ line_of entry ∷ []) ≡ agents_of lines + count_of entry
 agents_push lines entry =
     ap length (flat_map-append names_in lines (line_of entry ∷ []))
     ∙ length-append (names_of lines) (names_in (line_of entry) ++ [])
     ∙ ap (λ (x : List (List ℕ)). length (names_of lines) + length x) (append-nil (names_in (line_of entry)))
     ∙ ap (λ (x : ℕ). length (names_of lines) + x) (line_agents entry)
 
-counted_push : (lines : List AgentLine) (entry : Entry) → AreCounted lines → AreCounted (lines ++ line_of entry ∷ [])
+counted_push : (lines : List AgentLine) (entry : AgentEntry) → AreCounted lines → AreCounted (lines ++ line_of entry ∷ [])
 counted_push [] entry h = (omega (arith, line_agents entry), tt)
 counted_push (l ∷ lines) entry h = (h.0, counted_push lines entry h.1)
 
@@ -55,7 +55,7 @@ saturated_again a b = grind arith
 abbrev capped_text : ProjectText → ProjectText
 capped_text p = record { name = p.name; world = p.world; agents = map capped p.agents }
 
-push_drafts : (p : ProjectText) (d : Draft) (entry : Entry) → IsDraft p d → IsDraft (with_entry p entry) (entry_drafted d entry)
+push_drafts : (p : ProjectText) (d : Draft) (entry : AgentEntry) → IsDraft p d → IsDraft (with_entry p entry) (entry_drafted d entry)
 push_drafts p d entry h = record {
   text =
       ap (λ (x : ProjectText). record { name = x.name; world = x.world; agents = x.agents ++ capped (line_of entry) ∷ [] }) h.text
@@ -64,7 +64,7 @@ push_drafts p d entry h = record {
   counted = counted_push p.agents entry h.counted;
 }
 
-pub more_drafts : (p : ProjectText) (d : Draft) (m : Said) → IsDraft p d → IsDraft (added p m) (drafted d m)
+pub more_drafts : (p : ProjectText) (d : Draft) (m : PieceMeaning) → IsDraft p d → IsDraft (added p m) (drafted d m)
 more_drafts p d (said.Title name) h = record {
   text = ap (λ (x : ProjectText). record { name = name; world = x.world; agents = x.agents }) h.text;
   agents = h.agents;
@@ -93,6 +93,6 @@ more_drafts p d said.End h = h
 pub begins_draft : IsDraft nothing no_draft
 begins_draft = record { text = refl; agents = grind arith; counted = tt }
 
-pub added_last : (p : ProjectText) (ms : List Said) (m : Said) → all_added p (ms ++ m ∷ []) ≡ added (all_added p ms) m
+pub added_last : (p : ProjectText) (ms : List PieceMeaning) (m : PieceMeaning) → all_added p (ms ++ m ∷ []) ≡ added (all_added p ms) m
 added_last p [] m = refl
 added_last p (x ∷ ms) m = added_last (added p x) ms m

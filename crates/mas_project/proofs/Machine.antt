@@ -1,42 +1,42 @@
 -- Reading word by word.
 use Rattle.std.proofs.Common.{◌≡◌, List, [], ◌∷◌, ◌++◌, Option, Some, None, Result, Ok, Err, refl, sym, ap, ◌∙◌}
 use Rattle.std.specs.Option.{option_map_or}
-use Rattle.mas_project.specs.declared.lexeme.Lexeme.{Lexeme}
-use Rattle.mas_project.specs.declared.piece.Said.{Said}
+use Rattle.mas_project.specs.declared.lexeme.ProjectLexeme.{ProjectLexeme}
+use Rattle.mas_project.specs.declared.piece.PieceMeaning.{PieceMeaning}
 use Rattle.mas_project.specs.declared.state.State.{State}
 use Rattle.mas_project.specs.declared.state.State.TheVariants as state
 use Rattle.mas_project.specs.inner.Steps.{step, run}
 
 abbrev pub Run : Type 0
-Run = Result State (List Lexeme)
+Run = Result State (List ProjectLexeme)
 
 -- what one word gives, before these
-abbrev pub then_run : Option State → Lexeme → List Lexeme → Run
+abbrev pub then_run : Option State → ProjectLexeme → List ProjectLexeme → Run
 then_run o w ws = option_map_or (λ next. run next ws) o (Err (w ∷ ws))
 
 abbrev pub ended : State → Run
 ended s = Ok s
 
-abbrev pub stopped : List Lexeme → Run
+abbrev pub stopped : List ProjectLexeme → Run
 stopped ws = Err ws
 
 pub ok_is : (s t : State) → ended s ≡ ended t → s ≡ t
 ok_is s t e = cc
 
-pub err_is : (xs ys : List Lexeme) → stopped xs ≡ stopped ys → xs ≡ ys
+pub err_is : (xs ys : List ProjectLexeme) → stopped xs ≡ stopped ys → xs ≡ ys
 err_is xs ys e = cc
 
-pub ok_err : (s : State) (xs : List Lexeme) → ended s ≡ stopped xs → ⊥
+pub ok_err : (s : State) (xs : List ProjectLexeme) → ended s ≡ stopped xs → ⊥
 ok_err s xs e = cc
 
-pub whole_is : (s t : Said) → ended (state.Whole s) ≡ ended (state.Whole t) → s ≡ t
+pub whole_is : (s t : PieceMeaning) → ended (state.Whole s) ≡ ended (state.Whole t) → s ≡ t
 whole_is s t e = cc
 
-pub run_step : (s t : State) (w : Lexeme) (ws : List Lexeme) → step s w ≡ Some t → run s (w ∷ ws) ≡ run t ws
+pub run_step : (s t : State) (w : ProjectLexeme) (ws : List ProjectLexeme) → step s w ≡ Some t → run s (w ∷ ws) ≡ run t ws
 unfolding run
 run_step s t w ws e = ap (λ (o : Option State). then_run o w ws) e
 
-pub run_stop : (s : State) (w : Lexeme) (ws : List Lexeme) → step s w ≡ None → run s (w ∷ ws) ≡ Err (w ∷ ws)
+pub run_stop : (s : State) (w : ProjectLexeme) (ws : List ProjectLexeme) → step s w ≡ None → run s (w ∷ ws) ≡ Err (w ∷ ws)
 unfolding run
 run_stop s w ws e = ap (λ (o : Option State). then_run o w ws) e
 
@@ -45,7 +45,7 @@ unfolding run
 run_nil s = refl
 
 -- words after words that were read
-pub run_on : (s t : State) (front more : List Lexeme) → run s front ≡ Ok t → run s (front ++ more) ≡ run t more
+pub run_on : (s t : State) (front more : List ProjectLexeme) → run s front ≡ Ok t → run s (front ++ more) ≡ run t more
 unfolding run
 run_on s t [] more e = ap (λ (x : State). run x more) (ok_is s t e)
 run_on s t (w ∷ front) more e = go (λ next. run_on next t front more) (step s w) e
@@ -56,17 +56,17 @@ run_on s t (w ∷ front) more e = go (λ next. run_on next t front more) (step s
     go rest (Some next) e = rest next e
 
 -- the word with which no reading goes on
-pub record Breaks (s : State) (ws us : List Lexeme) : Type 0 where
-  pub front : List Lexeme
-  pub word : Lexeme
-  pub rest : List Lexeme
+pub record Breaks (s : State) (ws us : List ProjectLexeme) : Type 0 where
+  pub front : List ProjectLexeme
+  pub word : ProjectLexeme
+  pub rest : List ProjectLexeme
   pub at : State
   pub parts : ws ≡ front ++ word ∷ rest
   pub left : us ≡ word ∷ rest
   pub came : run s front ≡ Ok at
   pub none : step at word ≡ None
 
-pub breaks : (s : State) (ws us : List Lexeme) → run s ws ≡ Err us → Breaks s ws us
+pub breaks : (s : State) (ws us : List ProjectLexeme) → run s ws ≡ Err us → Breaks s ws us
 unfolding run
 breaks s [] us e = absurd cc
 breaks s (w ∷ ws) us e = go (λ next. breaks next ws us) (step s w) refl e
@@ -80,7 +80,7 @@ breaks s (w ∷ ws) us e = go (λ next. breaks next ws us) (step s w) refl e
           word = b.word;
           rest = b.rest;
           at = b.at;
-          parts = ap (λ (x : List Lexeme). w ∷ x) b.parts;
+          parts = ap (λ (x : List ProjectLexeme). w ∷ x) b.parts;
           left = b.left;
           came = run_step s next w b.front n ∙ b.came;
           none = b.none;

@@ -3,9 +3,9 @@ use Rattle.std.proofs.Common.{◌≡◌, ℕ, List, [], ◌∷◌, ◌++◌, Opt
 use Rattle.std.specs.List.{IsDistinct}
 use Rattle.std.specs.Str.{bytes_eq}
 use Rattle.asl_lexer.specs.declared.token.Tok.{Tok}
-use Rattle.mas_project.specs.declared.lexeme.Lexeme.{Lexeme}
-use Rattle.mas_project.specs.declared.piece.Said.{Said}
-use Rattle.mas_project.specs.declared.piece.Turn.{Turn}
+use Rattle.mas_project.specs.declared.lexeme.ProjectLexeme.{ProjectLexeme}
+use Rattle.mas_project.specs.declared.piece.PieceMeaning.{PieceMeaning}
+use Rattle.mas_project.specs.declared.piece.NextPiece.{NextPiece}
 use Rattle.mas_project.specs.declared.syntax.AgentLine.{AgentLine}
 use Rattle.mas_project.specs.declared.syntax.ProjectText.{ProjectText}
 use Rattle.mas_project.specs.declared.fault.ProjectFault.{ProjectFault}
@@ -17,45 +17,45 @@ use Rattle.mas_project.specs.Projects.{all_added, nothing, SayProject, IsWithin,
 use Rattle.mas_project.proofs.Complete.{one_reading}
 use Rattle.mas_project.proofs.Named.{apart}
 
-pub same_said : {at a b : Option Turn} {ps : List (List Tok)} {ms ns : List Said} → ReadsAll at ps ms a → ReadsAll at ps ns b → (ms ≡ ns) × (a ≡ b)
+pub same_said : {at a b : Option NextPiece} {ps : List (List Tok)} {ms ns : List PieceMeaning} → ReadsAll at ps ms a → ReadsAll at ps ns b → (ms ≡ ns) × (a ≡ b)
 same_said none_left none_left = (refl, refl)
 same_said {b = b} (next_piece {at = at} {piece = p} {ps = ps} {meant = m} {rest = ms} r h) (next_piece {meant = n} {rest = ns} q k) =
     let same = one_reading at (lexemes p) n m q r in
-    let more = same_said h (subst (λ (x : Said). ReadsAll (next_turn x) ps ns b) same k) in
-    (ap (λ (x : List Said). m ∷ x) more.0 ∙ ap (λ (x : Said). x ∷ ns) (sym same), more.1)
+    let more = same_said h (subst (λ (x : PieceMeaning). ReadsAll (next_turn x) ps ns b) same k) in
+    (ap (λ (x : List PieceMeaning). m ∷ x) more.0 ∙ ap (λ (x : PieceMeaning). x ∷ ns) (sym same), more.1)
 
 pub same_project : (ps : List (List Tok)) (p q : ProjectText) → SayProject ps p → SayProject ps q → p ≡ q
 same_project ps p q a b = a.says ∙ ap (all_added nothing) (same_said a.reads b.reads).0 ∙ sym b.says
 
 -- one of the pieces that read
-record OneRead (at : Option Turn) (before : List (List Tok)) (piece : List Tok) : Type 0 where
-  there : Turn
-  said_before : List Said
-  meant : Said
+record OneRead (at : Option NextPiece) (before : List (List Tok)) (piece : List Tok) : Type 0 where
+  there : NextPiece
+  said_before : List PieceMeaning
+  meant : PieceMeaning
   came : ReadsAll at before said_before (Some there)
   reads : Reads there (lexemes piece) meant
 
-one_read : {at end : Option Turn} {ms : List Said} (before behind : List (List Tok)) (piece : List Tok) → ReadsAll at (before ++ piece ∷ behind) ms end
+one_read : {at end : Option NextPiece} {ms : List PieceMeaning} (before behind : List (List Tok)) (piece : List Tok) → ReadsAll at (before ++ piece ∷ behind) ms end
     → OneRead at before piece
 one_read [] behind piece (next_piece {meant = m} r h) = record { there = _; said_before = []; meant = m; came = none_left; reads = r }
 one_read (q ∷ before) behind piece (next_piece r h) =
     let o = one_read before behind piece h in
     record { there = o.there; said_before = _; meant = o.meant; came = next_piece r o.came; reads = o.reads }
 
-piece_not_refused : {at : Turn} {piece : List Tok} {number : ℕ} {f : ProjectFault} (m : Said) → Reads at (lexemes piece) m
+piece_not_refused : {at : NextPiece} {piece : List Tok} {number : ℕ} {f : ProjectFault} (m : PieceMeaning) → Reads at (lexemes piece) m
     → IsRefusedPiece piece number (Some at) f → ⊥
 piece_not_refused m r (too_early h e) = h.no_piece m r
 piece_not_refused {at = at} m r (stops word h e) =
-    h.stuck (record { more = h.rest; meant = m; reads = subst (λ (x : List Lexeme). Reads at x m) (h.parts ∙ sym (append_assoc h.front (word ∷ []) h.rest)) r })
+    h.stuck (record { more = h.rest; meant = m; reads = subst (λ (x : List ProjectLexeme). Reads at x m) (h.parts ∙ sym (append_assoc h.front (word ∷ []) h.rest)) r })
 
 -- pieces that read hold none that is refused there
-pub read_through : {at there end : Option Turn} {number : ℕ} {f : ProjectFault} (before behind all : List (List Tok)) (piece : List Tok) (ms ns : List Said)
+pub read_through : {at there end : Option NextPiece} {number : ℕ} {f : ProjectFault} (before behind all : List (List Tok)) (piece : List Tok) (ms ns : List PieceMeaning)
     → ReadsAll at all ms end → all ≡ before ++ piece ∷ behind → ReadsAll at before ns there → IsRefusedPiece piece number there f → ⊥
 read_through {at = at} {end = end} {number = number} {f = f} before behind all piece ms ns r e b s =
     let o = one_read before behind piece (subst (λ (x : List (List Tok)). ReadsAll at x ms end) e r) in
-    piece_not_refused o.meant o.reads (subst (λ (x : Option Turn). IsRefusedPiece piece number x f) (same_said b o.came).1 s)
+    piece_not_refused o.meant o.reads (subst (λ (x : Option NextPiece). IsRefusedPiece piece number x f) (same_said b o.came).1 s)
 
-some_none : (at : Turn) → Some at ≡ None → ⊥
+some_none : (at : NextPiece) → Some at ≡ None → ⊥
 some_none at e = cc
 
 pub not_refused : (ts : List Tok) (p : ProjectText) (f : ProjectFault) → SayProject (pieces ts) p → FirstRefused ts f → ⊥

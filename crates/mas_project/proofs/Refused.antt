@@ -1,10 +1,10 @@
 -- Why a piece is refused, as its reader tells it.
 use Rattle.std.proofs.Common.{◌≡◌, ℕ, List, Some, subst, slice_get}
 use Rattle.asl_lexer.specs.declared.token.Tok.{Tok}
-use Rattle.mas_project.specs.declared.lexeme.Lexeme.{Lexeme}
+use Rattle.mas_project.specs.declared.lexeme.ProjectLexeme.{ProjectLexeme}
 use Rattle.mas_project.specs.declared.reading.Outcome.{Outcome}
 use Rattle.mas_project.specs.declared.reading.Outcome.TheVariants as outcome
-use Rattle.mas_project.specs.declared.piece.Turn.{Turn}
+use Rattle.mas_project.specs.declared.piece.NextPiece.{NextPiece}
 use Rattle.mas_project.specs.declared.fault.ProjectFault.{ProjectFault}
 use Rattle.mas_project.specs.declared.fault.ProjectFault.TheVariants as fault
 use Rattle.mas_project.specs.Lexemes.{lexemes}
@@ -29,11 +29,11 @@ carried P Q (fault.Option n w) so h = so h
 carried P Q (fault.TooMany n) so h = so h
 carried P Q (fault.TwoNames p n) so h = so h
 
-pub early : (at : Turn) (piece : List Tok) (number : ℕ) (f : ProjectFault) (o : Outcome) → IsOutcome at (lexemes piece) o → o ≡ outcome.Early
+pub early : (at : NextPiece) (piece : List Tok) (number : ℕ) (f : ProjectFault) (o : Outcome) → IsOutcome at (lexemes piece) o → o ≡ outcome.Early
     → f ≡ clause_at number (slice_get piece 0) → UnlessMemory (IsRefusedPiece piece number (Some at)) f
 early at piece number f o h p e = unless_memory (IsRefusedPiece piece number (Some at)) f (too_early (subst (IsOutcome at (lexemes piece)) p h) e)
 
-pub stopped : (at : Turn) (piece : List Tok) (number : ℕ) (f : ProjectFault) (o : Outcome) (word : Lexeme) → IsOutcome at (lexemes piece) o
+pub stopped : (at : NextPiece) (piece : List Tok) (number : ℕ) (f : ProjectFault) (o : Outcome) (word : ProjectLexeme) → IsOutcome at (lexemes piece) o
     → o ≡ outcome.Stops word → f ≡ stop_fault number piece word → UnlessMemory (IsRefusedPiece piece number (Some at)) f
 stopped at piece number f o word h p e =
     unless_memory (IsRefusedPiece piece number (Some at)) f (stops word (subst (IsOutcome at (lexemes piece)) p h) e)

@@ -3,9 +3,9 @@ use Rattle.std.proofs.Common.{◌≡◌, ℕ, ◌+◌, List, [], ◌∷◌, ◌+
 use Rattle.std.specs.List.{IsDistinct}
 use Rattle.std.specs.Str.{bytes_eq}
 use Rattle.asl_lexer.specs.declared.token.Tok.{Tok}
-use Rattle.mas_project.specs.declared.lexeme.Lexeme.{Lexeme}
-use Rattle.mas_project.specs.declared.piece.Turn.{Turn}
-use Rattle.mas_project.specs.declared.piece.Turn.TheVariants as turn
+use Rattle.mas_project.specs.declared.lexeme.ProjectLexeme.{ProjectLexeme}
+use Rattle.mas_project.specs.declared.piece.NextPiece.{NextPiece}
+use Rattle.mas_project.specs.declared.piece.NextPiece.TheVariants as turn
 use Rattle.mas_project.specs.declared.syntax.AgentLine.{AgentLine}
 use Rattle.mas_project.specs.declared.fault.ProjectFault.{ProjectFault}
 use Rattle.mas_project.specs.declared.fault.ProjectFault.TheVariants as fault
@@ -22,13 +22,13 @@ use Rattle.mas_project.proofs.Readings.{same_said, read_through}
 -- ---- where a piece stops
 
 -- what begins a piece begins it with each front
-front_goes_on : (at : Turn) (front : List Lexeme) (w : Lexeme) (rest : List Lexeme) → GoesOn at (front ++ w ∷ rest) → GoesOn at (front ++ w ∷ [])
+front_goes_on : (at : NextPiece) (front : List ProjectLexeme) (w : ProjectLexeme) (rest : List ProjectLexeme) → GoesOn at (front ++ w ∷ rest) → GoesOn at (front ++ w ∷ [])
 front_goes_on at front w rest g =
     let parts : (front ++ w ∷ rest) ++ g.more ≡ (front ++ w ∷ []) ++ (rest ++ g.more) = append_assoc front (w ∷ rest) g.more
     ∙ sym (append_assoc front (w ∷ []) (rest ++ g.more)) in
-    record { more = rest ++ g.more; meant = g.meant; reads = subst (λ (x : List Lexeme). Reads at x g.meant) parts g.reads }
+    record { more = rest ++ g.more; meant = g.meant; reads = subst (λ (x : List ProjectLexeme). Reads at x g.meant) parts g.reads }
 
-same_stop : (at : Turn) (ts : List Lexeme) (w v : Lexeme) → StopsAt at ts w → StopsAt at ts v → w ≡ v
+same_stop : (at : NextPiece) (ts : List ProjectLexeme) (w v : ProjectLexeme) → StopsAt at ts w → StopsAt at ts v → w ≡ v
 same_stop at ts w v a b = go (meets a.front b.front w v a.rest b.rest (sym a.parts ∙ b.parts))
   where
     go : Meets a.front b.front w v → w ≡ v
@@ -36,10 +36,10 @@ same_stop at ts w v a b = go (meets a.front b.front w v a.rest b.rest (sym a.par
     go (later more p) = absurd (a.stuck (front_goes_on at a.front w more (subst (GoesOn at) p b.goes_on)))
     go (sooner more p) = absurd (b.stuck (front_goes_on at b.front v more (subst (GoesOn at) p a.goes_on)))
 
-not_early : (at : Turn) (ts : List Lexeme) (w : Lexeme) → EndsEarly at ts → StopsAt at ts w → ⊥
+not_early : (at : NextPiece) (ts : List ProjectLexeme) (w : ProjectLexeme) → EndsEarly at ts → StopsAt at ts w → ⊥
 not_early at ts w a b = b.stuck (front_goes_on at b.front w b.rest (subst (GoesOn at) b.parts a.goes_on))
 
-same_piece : (at : Option Turn) (piece : List Tok) (number : ℕ) (f g : ProjectFault) → IsRefusedPiece piece number at f
+same_piece : (at : Option NextPiece) (piece : List Tok) (number : ℕ) (f g : ProjectFault) → IsRefusedPiece piece number at f
     → IsRefusedPiece piece number at g → f ≡ g
 same_piece None piece number f g (too_late e) (too_late q) = e ∙ sym q
 same_piece (Some at) piece number f g (too_early o e) (too_early p q) = e ∙ sym q
@@ -61,7 +61,7 @@ same_refusal ts f g (refused b k p m at parts r s) (refused c l q n to parts2 t 
     go (here e h) =
         let same = (same_said r (subst (λ (x : List (List Tok)). ReadsAll (Some turn.Title) x n to) (sym e) t)).1 in
         let moved = subst (λ (x : List Tok). IsRefusedPiece x (length c + 1) to g) (sym h) u in
-        let here_too = subst (λ (x : Option Turn). IsRefusedPiece p (length c + 1) x g) (sym same) moved in
+        let here_too = subst (λ (x : Option NextPiece). IsRefusedPiece p (length c + 1) x g) (sym same) moved in
         same_piece at p (length b + 1) f g s (subst (λ (x : List (List Tok)). IsRefusedPiece p (length x + 1) at g) (sym e) here_too)
 
 -- ---- the tests

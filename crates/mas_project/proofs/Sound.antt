@@ -3,13 +3,13 @@ use Rattle.std.proofs.Common.{◌≡◌, ℕ, zero, suc, ◌<◌, ◌≤◌, ◌
 use Rattle.std.specs.Prelude.{codes}
 use Rattle.std.specs.Str.{bytes_eq}
 use Rattle.std.proofs.lemmas.Slice.Eq.{bytes_eq-Decides}
-use Rattle.mas_project.specs.declared.lexeme.Lexeme.{Lexeme}
-use Rattle.mas_project.specs.declared.lexeme.Lexeme.TheVariants.{Atom, Var, Str, Suffix, Number, Colon, Semicolon, Hash, OpenBrace, CloseBrace}
-use Rattle.mas_project.specs.declared.piece.Entry.{Entry}
-use Rattle.mas_project.specs.declared.piece.Said.{Said}
-use Rattle.mas_project.specs.declared.piece.Said.TheVariants as said
-use Rattle.mas_project.specs.declared.piece.Turn.{Turn}
-use Rattle.mas_project.specs.declared.piece.Turn.TheVariants as turn
+use Rattle.mas_project.specs.declared.lexeme.ProjectLexeme.{ProjectLexeme}
+use Rattle.mas_project.specs.declared.lexeme.ProjectLexeme.TheVariants.{Atom, Var, Str, Suffix, Number, Colon, Semicolon, Hash, OpenBrace, CloseBrace}
+use Rattle.mas_project.specs.declared.piece.AgentEntry.{AgentEntry}
+use Rattle.mas_project.specs.declared.piece.PieceMeaning.{PieceMeaning}
+use Rattle.mas_project.specs.declared.piece.PieceMeaning.TheVariants as said
+use Rattle.mas_project.specs.declared.piece.NextPiece.{NextPiece}
+use Rattle.mas_project.specs.declared.piece.NextPiece.TheVariants as turn
 use Rattle.mas_project.specs.declared.state.Before.{Before}
 use Rattle.mas_project.specs.declared.state.Before.TheVariants as before
 use Rattle.mas_project.specs.declared.state.State.{State}
@@ -54,7 +54,7 @@ guard_some false x y e = absurd cc
 
 -- ---- the end of a piece
 
-whole_end : (m n : Said) (ts : List Lexeme) → run (state.Whole m) ts ≡ Ok (state.Whole n) → (ts ≡ []) × (m ≡ n)
+whole_end : (m n : PieceMeaning) (ts : List ProjectLexeme) → run (state.Whole m) ts ≡ Ok (state.Whole n) → (ts ≡ []) × (m ≡ n)
 unfolding run step
 whole_end m n [] e = (refl, whole_is m n e)
 whole_end m n (w ∷ ts) e = absurd cc
@@ -62,30 +62,30 @@ whole_end m n (w ∷ ts) e = absurd cc
 -- ---- an entry
 
 -- what stands behind a file
-data Tail (b : Before) (name file : List ℕ) : List Lexeme → Said → Type 0 where
-  ends : {m : Said} → said_of b (record { name = name; file = file; count = None }) ≡ m → Tail b name file (Semicolon ∷ []) m
-  counts : {n : ℕ} {m : Said} → 1 ≤ n → said_of b (record { name = name; file = file; count = Some n }) ≡ m
+data Tail (b : Before) (name file : List ℕ) : List ProjectLexeme → PieceMeaning → Type 0 where
+  ends : {m : PieceMeaning} → said_of b (record { name = name; file = file; count = None }) ≡ m → Tail b name file (Semicolon ∷ []) m
+  counts : {n : ℕ} {m : PieceMeaning} → 1 ≤ n → said_of b (record { name = name; file = file; count = Some n }) ≡ m
       → Tail b name file (Hash ∷ Number n ∷ Semicolon ∷ []) m
 
-semicolon_end : (m n : Said) (ts : List Lexeme) → run (state.Whole m) ts ≡ Ok (state.Whole n) → (Semicolon ∷ ts ≡ Semicolon ∷ []) × (m ≡ n)
+semicolon_end : (m n : PieceMeaning) (ts : List ProjectLexeme) → run (state.Whole m) ts ≡ Ok (state.Whole n) → (Semicolon ∷ ts ≡ Semicolon ∷ []) × (m ≡ n)
 semicolon_end m n ts e =
     let w = whole_end m n ts e in
-    (ap (λ (x : List Lexeme). Semicolon ∷ x) w.0, w.1)
+    (ap (λ (x : List ProjectLexeme). Semicolon ∷ x) w.0, w.1)
 
-count_end : (b : Before) (entry : Entry) (ts : List Lexeme) (m : Said) → run (state.Semicolon b entry) ts ≡ Ok (state.Whole m)
+count_end : (b : Before) (entry : AgentEntry) (ts : List ProjectLexeme) (m : PieceMeaning) → run (state.Semicolon b entry) ts ≡ Ok (state.Whole m)
     → (ts ≡ Semicolon ∷ []) × (said_of b entry ≡ m)
 unfolding run step
 count_end b entry [] m e = absurd cc
 count_end b entry (Semicolon ∷ ts) m e = semicolon_end (said_of b entry) m ts e
 count_end b entry (_ ∷ ts) m e = absurd cc
 
-number_end : (b : Before) (name file : List ℕ) (n : ℕ) (ts : List Lexeme) (m : Said)
+number_end : (b : Before) (name file : List ℕ) (n : ℕ) (ts : List ProjectLexeme) (m : PieceMeaning)
     → run (state.Count b name file) (Number n ∷ ts) ≡ Ok (state.Whole m) → Tail b name file (Hash ∷ Number n ∷ ts) m
 unfolding run step
 number_end b name file zero ts m e = absurd cc
 number_end b name file (suc k) ts m e =
     let c = count_end b (record { name = name; file = file; count = Some (suc k) }) ts m (go (suc k == 0) (grind arith) e) in
-    subst (λ (x : List Lexeme). Tail b name file (Hash ∷ Number (suc k) ∷ x) m) (sym c.0) (counts (omega arith) c.1)
+    subst (λ (x : List ProjectLexeme). Tail b name file (Hash ∷ Number (suc k) ∷ x) m) (sym c.0) (counts (omega arith) c.1)
   where
     go : (z : Bool) → z ≡ false
         → then_run (cond z None (Some (state.Semicolon b (record {
@@ -97,20 +97,20 @@ number_end b name file (suc k) ts m e =
     go true z e = absurd cc
     go false z e = e
 
-hash_end : (b : Before) (name file : List ℕ) (ts : List Lexeme) (m : Said) → run (state.Count b name file) ts ≡ Ok (state.Whole m)
+hash_end : (b : Before) (name file : List ℕ) (ts : List ProjectLexeme) (m : PieceMeaning) → run (state.Count b name file) ts ≡ Ok (state.Whole m)
     → Tail b name file (Hash ∷ ts) m
 unfolding run step
 hash_end b name file [] m e = absurd cc
 hash_end b name file (Number n ∷ ts) m e = number_end b name file n ts m e
 hash_end b name file (_ ∷ ts) m e = absurd cc
 
-plain_end : (b : Before) (name file : List ℕ) (ts : List Lexeme) (m : Said)
+plain_end : (b : Before) (name file : List ℕ) (ts : List ProjectLexeme) (m : PieceMeaning)
     → run (state.Whole (said_of b (record { name = name; file = file; count = None }))) ts ≡ Ok (state.Whole m) → Tail b name file (Semicolon ∷ ts) m
 plain_end b name file ts m e =
     let w = whole_end _ m ts e in
-    subst (λ (x : List Lexeme). Tail b name file (Semicolon ∷ x) m) (sym w.0) (ends w.1)
+    subst (λ (x : List ProjectLexeme). Tail b name file (Semicolon ∷ x) m) (sym w.0) (ends w.1)
 
-file_end : (b : Before) (name file : List ℕ) (ts : List Lexeme) (m : Said) → run (state.File b name file) ts ≡ Ok (state.Whole m) → Tail b name file ts m
+file_end : (b : Before) (name file : List ℕ) (ts : List ProjectLexeme) (m : PieceMeaning) → run (state.File b name file) ts ≡ Ok (state.Whole m) → Tail b name file ts m
 unfolding run step
 file_end b name file [] m e = absurd cc
 file_end b name file (Hash ∷ ts) m e = hash_end b name file ts m e
@@ -118,20 +118,20 @@ file_end b name file (Semicolon ∷ ts) m e = plain_end b name file ts m e
 file_end b name file (_ ∷ ts) m e = absurd cc
 
 -- a file, and what stands behind it
-record Named (b : Before) (name : List ℕ) (ts : List Lexeme) (m : Said) : Type 0 where
+record Named (b : Before) (name : List ℕ) (ts : List ProjectLexeme) (m : PieceMeaning) : Type 0 where
   file : List ℕ
-  us : List Lexeme
+  us : List ProjectLexeme
   reads : ReadsFile name ts us file
   tail : Tail b name file us m
 
-stem_end : (b : Before) (name stem : List ℕ) (ts : List Lexeme) (m : Said) → run (state.Stem b name stem) ts ≡ Ok (state.Whole m)
+stem_end : (b : Before) (name stem : List ℕ) (ts : List ProjectLexeme) (m : PieceMeaning) → run (state.Stem b name stem) ts ≡ Ok (state.Whole m)
     → Named b name (Atom stem ∷ ts) m
 unfolding run step
 stem_end b name stem [] m e = absurd cc
 stem_end b name stem (Suffix ∷ ts) m e = record { file = asl stem; us = ts; reads = named_file; tail = file_end b name (asl stem) ts m e }
 stem_end b name stem (_ ∷ ts) m e = absurd cc
 
-name_end : (b : Before) (name : List ℕ) (ts : List Lexeme) (m : Said) → run (state.Name b name) ts ≡ Ok (state.Whole m) → Named b name ts m
+name_end : (b : Before) (name : List ℕ) (ts : List ProjectLexeme) (m : PieceMeaning) → run (state.Name b name) ts ≡ Ok (state.Whole m) → Named b name ts m
 unfolding run step
 name_end b name [] m e = absurd cc
 name_end b name (Atom stem ∷ ts) m e = stem_end b name stem ts m e
@@ -140,17 +140,17 @@ name_end b name (Hash ∷ ts) m e = record { file = asl name; us = Hash ∷ ts; 
 name_end b name (Semicolon ∷ ts) m e = record { file = asl name; us = Semicolon ∷ ts; reads = own_file; tail = plain_end b name (asl name) ts m e }
 name_end b name (_ ∷ ts) m e = absurd cc
 
-record IsEntry (b : Before) (ts : List Lexeme) (m : Said) : Type 0 where
-  entry : Entry
+record IsEntry (b : Before) (ts : List ProjectLexeme) (m : PieceMeaning) : Type 0 where
+  entry : AgentEntry
   reads : ReadsEntry ts entry
   same : said_of b entry ≡ m
 
-entry_tail : {b : Before} {name file : List ℕ} {ts us : List Lexeme} {m : Said} → ReadsFile name ts us file → Tail b name file us m
+entry_tail : {b : Before} {name file : List ℕ} {ts us : List ProjectLexeme} {m : PieceMeaning} → ReadsFile name ts us file → Tail b name file us m
     → IsEntry b (Atom name ∷ ts) m
 entry_tail f (ends e) = record { entry = _; reads = one_agent f; same = e }
 entry_tail f (counts n e) = record { entry = _; reads = some_agents n f; same = e }
 
-entry_end : (b : Before) (name : List ℕ) (ts : List Lexeme) (m : Said) → run (state.Name b name) ts ≡ Ok (state.Whole m) → IsEntry b (Atom name ∷ ts) m
+entry_end : (b : Before) (name : List ℕ) (ts : List ProjectLexeme) (m : PieceMeaning) → run (state.Name b name) ts ≡ Ok (state.Whole m) → IsEntry b (Atom name ∷ ts) m
 entry_end b name ts m e =
     let n = name_end b name ts m e in
     entry_tail n.reads n.tail
@@ -158,14 +158,14 @@ entry_end b name ts m e =
 -- ---- the options
 
 -- the options that may still come
-data Left : Bool → Option (List ℕ) → List Lexeme → List Lexeme → Option (List ℕ) → Type 0 where
-  none_left : {seen : Bool} {world : Option (List ℕ)} {us : List Lexeme} → Left seen world us us world
-  infrastructure_left : {world file : Option (List ℕ)} {ts us : List Lexeme} → Left true world ts us file → Left false world (infrastructure ts) us file
-  environment_left : {seen : Bool} {name : List ℕ} {file : Option (List ℕ)} {ts us vs : List Lexeme} → ReadsEnvironment ts us name
+data Left : Bool → Option (List ℕ) → List ProjectLexeme → List ProjectLexeme → Option (List ℕ) → Type 0 where
+  none_left : {seen : Bool} {world : Option (List ℕ)} {us : List ProjectLexeme} → Left seen world us us world
+  infrastructure_left : {world file : Option (List ℕ)} {ts us : List ProjectLexeme} → Left true world ts us file → Left false world (infrastructure ts) us file
+  environment_left : {seen : Bool} {name : List ℕ} {file : Option (List ℕ)} {ts us vs : List ProjectLexeme} → ReadsEnvironment ts us name
       → Left seen (Some name) us vs file → Left seen None ts vs file
 
 -- in one order or the other
-options_are : {file : Option (List ℕ)} {ts us : List Lexeme} → Left false None ts us file → ReadsOptions ts us file
+options_are : {file : Option (List ℕ)} {ts us : List ProjectLexeme} → Left false None ts us file → ReadsOptions ts us file
 options_are none_left = no_option
 options_are (infrastructure_left none_left) = infrastructure_alone
 options_are (infrastructure_left (environment_left r none_left)) = infrastructure_first r
@@ -173,15 +173,15 @@ options_are (environment_left r none_left) = environment_alone r
 options_are (environment_left r (infrastructure_left none_left)) = environment_first r
 
 -- what `agents` may follow, with the first entry
-record Opened (seen : Bool) (world : Option (List ℕ)) (ts : List Lexeme) (m : Said) : Type 0 where
-  us : List Lexeme
+record Opened (seen : Bool) (world : Option (List ℕ)) (ts : List ProjectLexeme) (m : PieceMeaning) : Type 0 where
+  us : List ProjectLexeme
   file : Option (List ℕ)
-  entry : Entry
+  entry : AgentEntry
   left : Left seen world ts (Atom (codes "agents") ∷ Colon ∷ us) file
   reads : ReadsEntry us entry
   same : said.First file entry ≡ m
 
-first_end : (seen : Bool) (world : Option (List ℕ)) (ts : List Lexeme) (m : Said) → run (state.AgentsColon world) ts ≡ Ok (state.Whole m)
+first_end : (seen : Bool) (world : Option (List ℕ)) (ts : List ProjectLexeme) (m : PieceMeaning) → run (state.AgentsColon world) ts ≡ Ok (state.Whole m)
     → Opened seen world (Atom (codes "agents") ∷ ts) m
 unfolding run step
 first_end seen world [] m e = absurd cc
@@ -217,36 +217,36 @@ chosen seen world name next =
     go false false false h w p q r e = absurd cc
 
 -- the other option behind one, or the agents
-record Goes (seen : Bool) (world : Option (List ℕ)) (ts us : List Lexeme) (m : Said) : Type 0 where
-  found : run (state.Options (record { infrastructure = seen; world = world })) us ≡ Ok (state.Whole m)
+record Goes (seen : Bool) (world : Option (List ℕ)) (ts us : List ProjectLexeme) (m : PieceMeaning) : Type 0 where
+  found : run (state.SeenOptions (record { infrastructure = seen; world = world })) us ≡ Ok (state.Whole m)
   shorter : length us < length ts
 
-record InfrastructureEnds (world : Option (List ℕ)) (ts : List Lexeme) (m : Said) : Type 0 where
-  us : List Lexeme
+record InfrastructureEnds (world : Option (List ℕ)) (ts : List ProjectLexeme) (m : PieceMeaning) : Type 0 where
+  us : List ProjectLexeme
   parts : ts ≡ Colon ∷ Var (codes "Centralised") ∷ us
   goes : Goes true world ts us m
 
-infrastructure_end : (world : Option (List ℕ)) (ts : List Lexeme) (m : Said) → run (state.InfrastructureColon world) ts ≡ Ok (state.Whole m) → InfrastructureEnds world ts m
+infrastructure_end : (world : Option (List ℕ)) (ts : List ProjectLexeme) (m : PieceMeaning) → run (state.InfrastructureColon world) ts ≡ Ok (state.Whole m) → InfrastructureEnds world ts m
 unfolding run step
 infrastructure_end world [] m e = absurd cc
 infrastructure_end world (Colon ∷ []) m e = absurd cc
 infrastructure_end world (Colon ∷ Var w ∷ ts) m e = go (bytes_eq w (codes "Centralised")) refl e
   where
     go : (b : Bool) → bytes_eq w (codes "Centralised") ≡ b
-        → then_run (cond b (Some (state.Options (record { infrastructure = true; world = world }))) None) (Var w) ts ≡ Ok (state.Whole m)
+        → then_run (cond b (Some (state.SeenOptions (record { infrastructure = true; world = world }))) None) (Var w) ts ≡ Ok (state.Whole m)
         → InfrastructureEnds world (Colon ∷ Var w ∷ ts) m
     go true p e = record { us = ts; parts = ap (λ (x : List ℕ). Colon ∷ Var x ∷ ts) (same_bytes _ _ p); goes = record { found = e; shorter = omega arith } }
     go false p e = absurd cc
 infrastructure_end world (Colon ∷ _ ∷ ts) m e = absurd cc
 infrastructure_end world (_ ∷ ts) m e = absurd cc
 
-record EnvironmentEnds (seen : Bool) (ts : List Lexeme) (m : Said) : Type 0 where
-  us : List Lexeme
+record EnvironmentEnds (seen : Bool) (ts : List ProjectLexeme) (m : PieceMeaning) : Type 0 where
+  us : List ProjectLexeme
   name : List ℕ
   reads : ReadsEnvironment (Atom (codes "environment") ∷ ts) us name
   goes : Goes seen (Some name) ts us m
 
-environment_end : (seen : Bool) (ts : List Lexeme) (m : Said) → run (state.EnvironmentColon seen) ts ≡ Ok (state.Whole m) → EnvironmentEnds seen ts m
+environment_end : (seen : Bool) (ts : List ProjectLexeme) (m : PieceMeaning) → run (state.EnvironmentColon seen) ts ≡ Ok (state.Whole m) → EnvironmentEnds seen ts m
 unfolding run step
 environment_end seen [] m e = absurd cc
 environment_end seen (Colon ∷ []) m e = absurd cc
@@ -264,13 +264,13 @@ environment_end seen (Colon ∷ _ ∷ ts) m e = absurd cc
 environment_end seen (_ ∷ ts) m e = absurd cc
 
 abbrev Opens : ℕ → Type 0
-Opens n = (seen : Bool) (world : Option (List ℕ)) (ts : List Lexeme) (m : Said) → length ts ≤ n
-    → run (state.Options (record { infrastructure = seen; world = world })) ts ≡ Ok (state.Whole m) → Opened seen world ts m
+Opens n = (seen : Bool) (world : Option (List ℕ)) (ts : List ProjectLexeme) (m : PieceMeaning) → length ts ≤ n
+    → run (state.SeenOptions (record { infrastructure = seen; world = world })) ts ≡ Ok (state.Whole m) → Opened seen world ts m
 
-after_infrastructure : {world : Option (List ℕ)} {ts us : List Lexeme} {m : Said} → ts ≡ Colon ∷ Var (codes "Centralised") ∷ us → Opened true world us m
+after_infrastructure : {world : Option (List ℕ)} {ts us : List ProjectLexeme} {m : PieceMeaning} → ts ≡ Colon ∷ Var (codes "Centralised") ∷ us → Opened true world us m
     → Opened false world (Atom (codes "infrastructure") ∷ ts) m
 after_infrastructure {world = world} {m = m} p o =
-    subst (λ (x : List Lexeme). Opened false world (Atom (codes "infrastructure") ∷ x) m) (sym p) (record {
+    subst (λ (x : List ProjectLexeme). Opened false world (Atom (codes "infrastructure") ∷ x) m) (sym p) (record {
       us = o.us;
       file = o.file;
       entry = o.entry;
@@ -279,11 +279,11 @@ after_infrastructure {world = world} {m = m} p o =
       same = o.same;
     })
 
-after_environment : {seen : Bool} {name : List ℕ} {ts us : List Lexeme} {m : Said} → ReadsEnvironment ts us name → Opened seen (Some name) us m → Opened seen None ts m
+after_environment : {seen : Bool} {name : List ℕ} {ts us : List ProjectLexeme} {m : PieceMeaning} → ReadsEnvironment ts us name → Opened seen (Some name) us m → Opened seen None ts m
 after_environment r o = record { us = o.us; file = o.file; entry = o.entry; left = environment_left r o.left; reads = o.reads; same = o.same }
 
 -- the option was found, and what is behind it opens
-chosen_end : (n : ℕ) → Opens n → (seen : Bool) (world : Option (List ℕ)) (name : List ℕ) (ts : List Lexeme) (m : Said) (next : State)
+chosen_end : (n : ℕ) → Opens n → (seen : Bool) (world : Option (List ℕ)) (name : List ℕ) (ts : List ProjectLexeme) (m : PieceMeaning) (next : State)
     → length ts ≤ n → Chosen seen world name next → run next ts ≡ Ok (state.Whole m) → Opened seen world (Atom name ∷ ts) m
 chosen_end n opens seen world name ts m next le (infrastructure_chosen p q r) e =
     let h = infrastructure_end world ts m (subst (λ (x : State). run x ts ≡ Ok (state.Whole m)) (sym r) e) in
@@ -313,18 +313,18 @@ opened (suc n) seen world (_ ∷ ts) m le e = absurd cc
 
 -- ---- the pieces
 
-title_end : (ts : List Lexeme) (m : Said) → run state.Title ts ≡ Ok (state.Whole m) → Reads turn.Title (Var (codes "MAS") ∷ ts) m
+title_end : (ts : List ProjectLexeme) (m : PieceMeaning) → run state.Title ts ≡ Ok (state.Whole m) → Reads turn.Title (Var (codes "MAS") ∷ ts) m
 unfolding run step
 title_end [] m e = absurd cc
 title_end (Atom name ∷ []) m e = absurd cc
 title_end (Atom name ∷ OpenBrace ∷ ts) m e =
     let w = whole_end (said.Title name) m ts e in
-    subst (λ (x : List Lexeme). Reads turn.Title (Var (codes "MAS") ∷ Atom name ∷ OpenBrace
+    subst (λ (x : List ProjectLexeme). Reads turn.Title (Var (codes "MAS") ∷ Atom name ∷ OpenBrace
     ∷ x) m) (sym w.0) (subst (Reads turn.Title (Var (codes "MAS") ∷ Atom name ∷ OpenBrace ∷ [])) w.1 title)
 title_end (Atom name ∷ _ ∷ ts) m e = absurd cc
 title_end (_ ∷ ts) m e = absurd cc
 
-start_end : (ts : List Lexeme) (m : Said) → run state.Start ts ≡ Ok (state.Whole m) → Reads turn.Title ts m
+start_end : (ts : List ProjectLexeme) (m : PieceMeaning) → run state.Start ts ≡ Ok (state.Whole m) → Reads turn.Title ts m
 unfolding run step
 start_end [] m e = absurd cc
 start_end (Var w ∷ ts) m e = go (bytes_eq w (codes "MAS")) refl e
@@ -334,7 +334,7 @@ start_end (Var w ∷ ts) m e = go (bytes_eq w (codes "MAS")) refl e
     go false p e = absurd cc
 start_end (_ ∷ ts) m e = absurd cc
 
-later_end : (ts : List Lexeme) (m : Said) → run state.Later ts ≡ Ok (state.Whole m) → Reads turn.Later ts m
+later_end : (ts : List ProjectLexeme) (m : PieceMeaning) → run state.Later ts ≡ Ok (state.Whole m) → Reads turn.Later ts m
 unfolding run step
 later_end [] m e = absurd cc
 later_end (Atom name ∷ ts) m e =
@@ -342,10 +342,10 @@ later_end (Atom name ∷ ts) m e =
     subst (Reads turn.Later (Atom name ∷ ts)) f.same (next_entry f.reads)
 later_end (CloseBrace ∷ ts) m e =
     let w = whole_end said.End m ts e in
-    subst (λ (x : List Lexeme). Reads turn.Later (CloseBrace ∷ x) m) (sym w.0) (subst (Reads turn.Later (CloseBrace ∷ [])) w.1 last)
+    subst (λ (x : List ProjectLexeme). Reads turn.Later (CloseBrace ∷ x) m) (sym w.0) (subst (Reads turn.Later (CloseBrace ∷ [])) w.1 last)
 later_end (_ ∷ ts) m e = absurd cc
 
-pub sound : (at : Turn) (ts : List Lexeme) (m : Said) → run (begin at) ts ≡ Ok (state.Whole m) → Reads at ts m
+pub sound : (at : NextPiece) (ts : List ProjectLexeme) (m : PieceMeaning) → run (begin at) ts ≡ Ok (state.Whole m) → Reads at ts m
 sound turn.Title ts m e = start_end ts m e
 sound turn.First ts m e =
     let o = opened (length ts) false None ts m (omega arith) e in

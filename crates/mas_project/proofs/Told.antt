@@ -5,9 +5,9 @@ use Rattle.asl_lexer.specs.declared.token.Tok.{Tok}
 use Rattle.asl_lexer.specs.Words.{IsCut}
 use Rattle.asl_lexer.specs.Words as words
 use Rattle.mas_project.specs.declared.draft.Draft.{Draft}
-use Rattle.mas_project.specs.declared.piece.Said.{Said}
-use Rattle.mas_project.specs.declared.piece.Turn.{Turn}
-use Rattle.mas_project.specs.declared.piece.Turn.TheVariants as turn
+use Rattle.mas_project.specs.declared.piece.PieceMeaning.{PieceMeaning}
+use Rattle.mas_project.specs.declared.piece.NextPiece.{NextPiece}
+use Rattle.mas_project.specs.declared.piece.NextPiece.TheVariants as turn
 use Rattle.mas_project.specs.declared.fault.ProjectFault.{ProjectFault}
 use Rattle.mas_project.specs.Lexemes.{lexemes}
 use Rattle.mas_project.specs.Grammar.{Reads, next_turn}
@@ -19,9 +19,9 @@ use Rattle.mas_project.proofs.Refused.{unless_memory, carried}
 use Rattle.mas_project.proofs.Drafting.{more_drafts, begins_draft, added_last}
 
 -- the pieces before read, and a draft of what they say is kept
-pub record Told (ts rest : List Tok) (number : ℕ) (at : Option Turn) (d : Draft) : Type 0 where
+pub record Told (ts rest : List Tok) (number : ℕ) (at : Option NextPiece) (d : Draft) : Type 0 where
   pub before : List (List Tok)
-  pub meant : List Said
+  pub meant : List PieceMeaning
   pub parts : pieces ts ≡ before ++ pieces rest
   pub count : number ≡ length before
   pub reads : ReadsAll (Some turn.Title) before meant at
@@ -30,12 +30,12 @@ pub record Told (ts rest : List Tok) (number : ℕ) (at : Option Turn) (d : Draf
 pub begins : (ts : List Tok) → Told ts ts 0 (Some turn.Title) no_draft
 begins ts = record { before = []; meant = []; parts = refl; count = refl; reads = none_left; drafts = begins_draft }
 
-pub reads_push : {a : Option Turn} {at : Turn} {ps : List (List Tok)} {ms : List Said} {m : Said} (p : List Tok) → ReadsAll a ps ms (Some at)
+pub reads_push : {a : Option NextPiece} {at : NextPiece} {ps : List (List Tok)} {ms : List PieceMeaning} {m : PieceMeaning} (p : List Tok) → ReadsAll a ps ms (Some at)
     → Reads at (lexemes p) m → ReadsAll a (ps ++ p ∷ []) (ms ++ m ∷ []) (next_turn m)
 reads_push p none_left r = next_piece r none_left
 reads_push p (next_piece q h) r = next_piece q (reads_push p h r)
 
-pub more : (ts rest p us : List Tok) (number : ℕ) (at : Turn) (d : Draft) (m : Said) → Told ts rest number (Some at) d → IsCut ends_piece rest p us
+pub more : (ts rest p us : List Tok) (number : ℕ) (at : NextPiece) (d : Draft) (m : PieceMeaning) → Told ts rest number (Some at) d → IsCut ends_piece rest p us
     → Reads at (lexemes p) m → Told ts us (number + 1) (next_turn m) (drafted d m)
 more ts rest p us number at d m h c r = record {
   before = h.before ++ p ∷ [];
@@ -49,27 +49,27 @@ more ts rest p us number at d m h c r = record {
 pub shorter : (rest p us : List Tok) → IsCut ends_piece rest p us → length us < length rest
 shorter rest p us c = omega (arith, c.some, ap length c.whole, length-append p us)
 
-here : (ts rest p us : List Tok) (number : ℕ) (at : Option Turn) (d : Draft) (f : ProjectFault) → Told ts rest number at d
+here : (ts rest p us : List Tok) (number : ℕ) (at : Option NextPiece) (d : Draft) (f : ProjectFault) → Told ts rest number at d
     → IsCut ends_piece rest p us → IsRefusedPiece p (number + 1) at f → FirstRefused ts f
 here ts rest p us number at d f h c s =
     refused h.before (pieces us) p h.meant at (h.parts
     ∙ ap (λ (x : List (List Tok)). h.before ++ x) c.parts) h.reads (subst (λ (x : ℕ). IsRefusedPiece p (x + 1) at f) h.count s)
 
-pub stops : (ts rest p us : List Tok) (number : ℕ) (at : Option Turn) (d : Draft) (f : ProjectFault) → Told ts rest number at d
+pub stops : (ts rest p us : List Tok) (number : ℕ) (at : Option NextPiece) (d : Draft) (f : ProjectFault) → Told ts rest number at d
     → IsCut ends_piece rest p us → UnlessMemory (IsRefusedPiece p (number + 1) at) f → UnlessMemory (FirstRefused ts) f
 stops ts rest p us number at d f h c s = carried (IsRefusedPiece p (number + 1) at) (FirstRefused ts) f (here ts rest p us number at d f h c) s
 
-pub late : (ts rest p us : List Tok) (number : ℕ) (at : Option Turn) (d : Draft) (f : ProjectFault) → Told ts rest number at d → at ≡ None
+pub late : (ts rest p us : List Tok) (number : ℕ) (at : Option NextPiece) (d : Draft) (f : ProjectFault) → Told ts rest number at d → at ≡ None
     → IsCut ends_piece rest p us → f ≡ clause_at (number + 1) (slice_get p 0) → UnlessMemory (FirstRefused ts) f
 late ts rest p us number at d f h n c e =
-    unless_memory (FirstRefused ts) f (here ts rest p us number None d f (subst (λ (x : Option Turn). Told ts rest number x d) n h) c (too_late e))
+    unless_memory (FirstRefused ts) f (here ts rest p us number None d f (subst (λ (x : Option NextPiece). Told ts rest number x d) n h) c (too_late e))
 
 -- no tokens are left
-all_told : (ts rest : List Tok) (number : ℕ) (at : Option Turn) (d : Draft) → (h : Told ts rest number at d) → rest ≡ [] → pieces ts ≡ h.before
+all_told : (ts rest : List Tok) (number : ℕ) (at : Option NextPiece) (d : Draft) → (h : Told ts rest number at d) → rest ≡ [] → pieces ts ≡ h.before
 unfolding words.pieces
 all_told ts rest number at d h e = h.parts ∙ ap (λ (x : List Tok). h.before ++ pieces x) e ∙ append-nil h.before
 
-pub ends : (ts rest : List Tok) (number : ℕ) (at : Option Turn) (d : Draft) → Told ts rest number at d → rest ≡ [] → at ≡ None → SayDraft (pieces ts) d
+pub ends : (ts rest : List Tok) (number : ℕ) (at : Option NextPiece) (d : Draft) → Told ts rest number at d → rest ≡ [] → at ≡ None → SayDraft (pieces ts) d
 ends ts rest number at d h e n = record {
   project = all_added nothing h.meant;
   says = record {
@@ -82,7 +82,7 @@ ends ts rest number at d h e n = record {
   drafts = h.drafts;
 }
 
-pub misses : (ts rest : List Tok) (number : ℕ) (at : Option Turn) (t : Turn) (d : Draft) (f : ProjectFault) → Told ts rest number at d → rest ≡ []
+pub misses : (ts rest : List Tok) (number : ℕ) (at : Option NextPiece) (t : NextPiece) (d : Draft) (f : ProjectFault) → Told ts rest number at d → rest ≡ []
     → at ≡ Some t → f ≡ clause_at (number + 1) (slice_get ts (length ts - 1)) → UnlessMemory (FirstRefused ts) f
 misses ts rest number at t d f h e n same =
     let all = all_told ts rest number at d h e in

@@ -9,10 +9,10 @@ use Rattle.asl_lexer.specs.declared.token.Tok.{Tok}
 use Rattle.asl_lexer.specs.declared.token.LexFault.{LexFault}
 use Rattle.asl_lexer.specs.Lexing.{Lexes, start}
 use Rattle.asl_lexer.proofs.Total as lexer
-use Rattle.mas_project.specs.declared.lexeme.Lexeme.{Lexeme}
-use Rattle.mas_project.specs.declared.piece.Said.{Said}
-use Rattle.mas_project.specs.declared.piece.Turn.{Turn}
-use Rattle.mas_project.specs.declared.piece.Turn.TheVariants as turn
+use Rattle.mas_project.specs.declared.lexeme.ProjectLexeme.{ProjectLexeme}
+use Rattle.mas_project.specs.declared.piece.PieceMeaning.{PieceMeaning}
+use Rattle.mas_project.specs.declared.piece.NextPiece.{NextPiece}
+use Rattle.mas_project.specs.declared.piece.NextPiece.TheVariants as turn
 use Rattle.mas_project.specs.declared.state.State.{State}
 use Rattle.mas_project.specs.declared.state.State.TheVariants as state
 use Rattle.mas_project.specs.declared.syntax.AgentLine.{AgentLine}
@@ -36,23 +36,23 @@ use Rattle.mas_project.proofs.Named.{Seen, none_seen, one_seen, one_twice, all_s
 -- ---- one piece
 
 -- a piece in its turn says something, or is refused
-abbrev PieceTold : Turn → List Tok → ℕ → Type 0
-PieceTold at piece number = ((m : Said) × Reads at (lexemes piece) m) ⊎ ((f : ProjectFault) × IsRefusedPiece piece number (Some at) f)
+abbrev PieceTold : NextPiece → List Tok → ℕ → Type 0
+PieceTold at piece number = ((m : PieceMeaning) × Reads at (lexemes piece) m) ⊎ ((f : ProjectFault) × IsRefusedPiece piece number (Some at) f)
 
-whole_or_early : (at : Turn) (piece : List Tok) (number : ℕ) (s : State) → run (begin at) (lexemes piece) ≡ Ok s → PieceTold at piece number
+whole_or_early : (at : NextPiece) (piece : List Tok) (number : ℕ) (s : State) → run (begin at) (lexemes piece) ≡ Ok s → PieceTold at piece number
 whole_or_early at piece number (state.Whole m) e = inl (m, sound at (lexemes piece) m e)
 whole_or_early at piece number s e = inr (clause_at number (slice_get piece 0), too_early (machine.early at (lexemes piece) s e (λ m same. absurd cc)) refl)
 
-no_break : (s : State) (ws : List Lexeme) → run s ws ≡ Err [] → ⊥
+no_break : (s : State) (ws : List ProjectLexeme) → run s ws ≡ Err [] → ⊥
 no_break s ws e = go (breaks s ws [] e)
   where
     go : Breaks s ws [] → ⊥
     go b = let same : [] ≡ b.word ∷ b.rest = b.left in cc
 
-piece_told : (at : Turn) (piece : List Tok) (number : ℕ) → PieceTold at piece number
+piece_told : (at : NextPiece) (piece : List Tok) (number : ℕ) → PieceTold at piece number
 piece_told at piece number = go (run (begin at) (lexemes piece)) refl
   where
-    go : (r : Result State (List Lexeme)) → run (begin at) (lexemes piece) ≡ r → PieceTold at piece number
+    go : (r : Result State (List ProjectLexeme)) → run (begin at) (lexemes piece) ≡ r → PieceTold at piece number
     go (Ok s) e = whole_or_early at piece number s e
     go (Err []) e = absurd (no_break (begin at) (lexemes piece) e)
     go (Err (w ∷ us)) e = inr (stop_fault number piece w, stops w (machine.stops at (lexemes piece) us w e) refl)
@@ -63,11 +63,11 @@ piece_told at piece number = go (run (begin at) (lexemes piece)) refl
 abbrev PiecesTold : List Tok → Type 0
 PiecesTold ts = ((p : ProjectText) × SayProject (pieces ts) p) ⊎ ((f : ProjectFault) × FirstRefused ts f)
 
-all_said : (ts : List Tok) (ms : List Said) (at : Option Turn) → ReadsAll (Some turn.Title) (pieces ts) ms at → PiecesTold ts
+all_said : (ts : List Tok) (ms : List PieceMeaning) (at : Option NextPiece) → ReadsAll (Some turn.Title) (pieces ts) ms at → PiecesTold ts
 all_said ts ms None r = inl (all_added nothing ms, record { meant = ms; reads = r; says = refl })
 all_said ts ms (Some at) r = inr (clause_at (length (pieces ts) + 1) (slice_get ts (length ts - 1)), missing ms at r refl)
 
-told_from : (ts : List Tok) (rest before : List (List Tok)) (ms : List Said) (at : Option Turn) → pieces ts ≡ before ++ rest
+told_from : (ts : List Tok) (rest before : List (List Tok)) (ms : List PieceMeaning) (at : Option NextPiece) → pieces ts ≡ before ++ rest
     → ReadsAll (Some turn.Title) before ms at → PiecesTold ts
 told_from ts [] before ms at e r =
     let P : List (List Tok) → Type 0 = λ ps. ReadsAll (Some turn.Title) ps ms at in

@@ -1,8 +1,8 @@
 -- What is true of projects.
 use Rattle.std.specs.Prelude.{◌≡◌, ℕ, ◌≤◌, List, Result}
-use Rattle.mas_project.specs.declared.lexeme.Lexeme.{Lexeme}
-use Rattle.mas_project.specs.declared.piece.Said.{Said}
-use Rattle.mas_project.specs.declared.piece.Turn.{Turn}
+use Rattle.mas_project.specs.declared.lexeme.ProjectLexeme.{ProjectLexeme}
+use Rattle.mas_project.specs.declared.piece.PieceMeaning.{PieceMeaning}
+use Rattle.mas_project.specs.declared.piece.NextPiece.{NextPiece}
 use Rattle.mas_project.specs.declared.syntax.ProjectText.{ProjectText}
 use Rattle.mas_project.specs.declared.fault.ProjectFault.{ProjectFault}
 use Rattle.mas_project.specs.Grammar.{Reads}
@@ -11,7 +11,7 @@ use Rattle.mas_project.specs.Projects.{IsProject, IsAnswer}
 
 -- a piece says one thing at most
 abbrev pub OneReading : Type 0
-OneReading = (at : Turn) (ts : List Lexeme) (s t : Said) → Reads at ts s → Reads at ts t → s ≡ t
+OneReading = (at : NextPiece) (ts : List ProjectLexeme) (s t : PieceMeaning) → Reads at ts s → Reads at ts t → s ≡ t
 
 -- bytes have one answer
 abbrev pub OneAnswer : Type 0

@@ -5,8 +5,8 @@ use Rattle.asl_lexer.specs.declared.token.Word.{Word}
 use Rattle.asl_lexer.specs.declared.token.Word.TheVariants as word
 use Rattle.asl_lexer.specs.declared.token.Sign.TheVariants as sign
 use Rattle.asl_lexer.specs.Words as words
-use Rattle.mas_project.specs.declared.piece.Said.{Said}
-use Rattle.mas_project.specs.declared.piece.Turn.{Turn}
+use Rattle.mas_project.specs.declared.piece.PieceMeaning.{PieceMeaning}
+use Rattle.mas_project.specs.declared.piece.NextPiece.{NextPiece}
 use Rattle.mas_project.specs.Lexemes.{lexemes}
 use Rattle.mas_project.specs.Grammar.{Reads, next_turn}
 
@@ -22,7 +22,7 @@ abbrev pub pieces : List Tok → List (List Tok)
 pieces ts = words.pieces ends_piece ts
 
 -- each piece reads in its turn, from one turn to another; where no piece comes any more, there is none
-pub data ReadsAll : Option Turn → List (List Tok) → List Said → Option Turn → Type 0 where
-  none_left : {at : Option Turn} → ReadsAll at [] [] at
-  next_piece : {at : Turn} {end : Option Turn} {piece : List Tok} {ps : List (List Tok)} {meant : Said} {rest : List Said}
+pub data ReadsAll : Option NextPiece → List (List Tok) → List PieceMeaning → Option NextPiece → Type 0 where
+  none_left : {at : Option NextPiece} → ReadsAll at [] [] at
+  next_piece : {at : NextPiece} {end : Option NextPiece} {piece : List Tok} {ps : List (List Tok)} {meant : PieceMeaning} {rest : List PieceMeaning}
       → Reads at (lexemes piece) meant → ReadsAll (next_turn meant) ps rest end → ReadsAll (Some at) (piece ∷ ps) (meant ∷ rest) end

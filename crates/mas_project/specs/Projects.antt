@@ -6,10 +6,10 @@ use Rattle.std.specs.Str.{bytes_eq}
 use Rattle.asl_lexer.specs.declared.token.Tok.{Tok}
 use Rattle.asl_lexer.specs.declared.token.LexFault.{LexFault}
 use Rattle.asl_lexer.specs.Lexing.{AreTokens, IsFirstFault}
-use Rattle.mas_project.specs.declared.piece.Entry.{Entry}
-use Rattle.mas_project.specs.declared.piece.Said.{Said}
-use Rattle.mas_project.specs.declared.piece.Said.TheVariants as said
-use Rattle.mas_project.specs.declared.piece.Turn.TheVariants as turn
+use Rattle.mas_project.specs.declared.piece.AgentEntry.{AgentEntry}
+use Rattle.mas_project.specs.declared.piece.PieceMeaning.{PieceMeaning}
+use Rattle.mas_project.specs.declared.piece.PieceMeaning.TheVariants as said
+use Rattle.mas_project.specs.declared.piece.NextPiece.TheVariants as turn
 use Rattle.mas_project.specs.declared.syntax.AgentLine.{AgentLine}
 use Rattle.mas_project.specs.declared.syntax.ProjectText.{ProjectText}
 use Rattle.mas_project.specs.declared.fault.ProjectFault.{ProjectFault}
@@ -21,23 +21,23 @@ use Rattle.mas_project.specs.Faults.{UnlessMemory, FirstRefused}
 -- ---- what the pieces say together
 
 -- an entry without a number is one agent
-abbrev pub count_of : Entry → ℕ
+abbrev pub count_of : AgentEntry → ℕ
 count_of entry = option_map_or (λ n. n) entry.count 1
 
-abbrev pub line_of : Entry → AgentLine
+abbrev pub line_of : AgentEntry → AgentLine
 line_of entry = record { name = entry.name; file = entry.file; count = count_of entry; numbered = is_some entry.count }
 
-abbrev pub with_entry : ProjectText → Entry → ProjectText
+abbrev pub with_entry : ProjectText → AgentEntry → ProjectText
 with_entry p entry = record { name = p.name; world = p.world; agents = p.agents ++ line_of entry ∷ [] }
 
 -- what is said before, with what one piece says
-abbrev pub added : ProjectText → Said → ProjectText
+abbrev pub added : ProjectText → PieceMeaning → ProjectText
 added p (said.Title name) = record { name = name; world = p.world; agents = p.agents }
 added p (said.First world entry) = with_entry (record { name = p.name; world = world; agents = p.agents }) entry
 added p (said.Next entry) = with_entry p entry
 added p said.End = p
 
-abbrev pub all_added : ProjectText → List Said → ProjectText
+abbrev pub all_added : ProjectText → List PieceMeaning → ProjectText
 all_added p [] = p
 all_added p (meant ∷ rest) = all_added (added p meant) rest
 
@@ -46,7 +46,7 @@ nothing = record { name = []; world = None; agents = [] }
 
 -- the pieces are a whole project, this one
 pub record SayProject (ps : List (List Tok)) (p : ProjectText) : Type 0 where
-  pub meant : List Said
+  pub meant : List PieceMeaning
   pub reads : ReadsAll (Some turn.Title) ps meant None
   pub says : p ≡ all_added nothing meant
 

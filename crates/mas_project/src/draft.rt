@@ -4,7 +4,7 @@ ghost use Rattle.std.specs.Prelude.{◌≡◌, OnOk};
 ghost use Rattle.mas_project.specs.Projects.{line_of};
 ghost use Rattle.mas_project.specs.inner.Drafts as spec;
 
-use crate::piece::{Entry, Said};
+use crate::piece::{AgentEntry, PieceMeaning};
 use crate::syntax::{AgentLine, ProjectText};
 use asl_term::sequence::{Seq, Starved};
 use std::alloc::Global;
@@ -31,7 +31,7 @@ pub fn no_draft(alloc: Global) -> Draft
     }
 }
 
-fn capped_line(entry: Entry) -> AgentLine
+fn capped_line(entry: AgentEntry) -> AgentLine
     ensures { result ≡ spec.capped (line_of entry) }
 {
     let numbered = entry.count.is_some();
@@ -44,7 +44,7 @@ fn capped_line(entry: Entry) -> AgentLine
     }
 }
 
-fn add_entry(draft: &mut Draft, entry: Entry) -> Result<(), Starved>
+fn add_entry(draft: &mut Draft, entry: AgentEntry) -> Result<(), Starved>
     ensures { OnOk result (draft.new ≡ spec.entry_drafted draft.old entry) }
 {
     draft.agents = draft.agents.saturating_add(entry.count.unwrap_or(1));
@@ -52,19 +52,19 @@ fn add_entry(draft: &mut Draft, entry: Entry) -> Result<(), Starved>
 }
 
 /// With what a piece says.
-pub fn add(draft: &mut Draft, said: Said) -> Result<(), Starved>
+pub fn add(draft: &mut Draft, said: PieceMeaning) -> Result<(), Starved>
     ensures { OnOk result (draft.new ≡ spec.drafted draft.old said) }
 {
     match said {
-        Said::Title(name) => {
+        PieceMeaning::Title(name) => {
             draft.text.name = name;
             Ok(())
         }
-        Said::First(world, entry) => {
+        PieceMeaning::First(world, entry) => {
             draft.text.world = world;
             add_entry(draft, entry)
         }
-        Said::Next(entry) => add_entry(draft, entry),
-        Said::End => Ok(()),
+        PieceMeaning::Next(entry) => add_entry(draft, entry),
+        PieceMeaning::End => Ok(()),
     }
 }

@@ -1,4 +1,8 @@
-//! The file of a project: which agents there are, from which files, and in which world.
+//! The reader of a project file: its agents, their source files, the world's file and the names of the agents.
+//!
+//! May stand on: asl_term, asl_lexer
+//!
+//! Must not: open the files that it names, start a thread, wait, print.
 #![tactic(auto)]
 
 pub mod draft;

@@ -4,7 +4,7 @@ use asl_term::syntax::Text;
 
 /// Which piece comes.
 #[derive(Clone, Copy, Debug, PartialEq, Eq, Drop)]
-pub enum Turn {
+pub enum NextPiece {
     /// The name of the project.
     Title,
     /// The options and the first entry.
@@ -15,7 +15,7 @@ pub enum Turn {
 
 /// An entry: the name of an agent, its file, and a number where one stands there.
 #[derive(Drop)]
-pub struct Entry {
+pub struct AgentEntry {
     pub name: Text,
     pub file: Text,
     pub count: Option<u64>,
@@ -23,11 +23,11 @@ pub struct Entry {
 
 /// What a piece says.
 #[derive(Drop)]
-pub enum Said {
+pub enum PieceMeaning {
     /// The name of the project.
     Title(Text),
     /// The file of the world, where one is named, and the first entry.
-    First(Option<Text>, Entry),
-    Next(Entry),
+    First(Option<Text>, AgentEntry),
+    Next(AgentEntry),
     End,
 }

@@ -14,9 +14,9 @@ ghost use Rattle.mas_project.specs.inner.Drafts.{SayDraft, SomeDraft, IsTested, 
 
 use crate::draft::{Draft, add, no_draft};
 use crate::fault::ProjectFault;
-use crate::lexeme::Lexeme;
+use crate::lexeme::ProjectLexeme;
 use crate::names::{MOST_AGENTS, name_twice};
-use crate::piece::{Said, Turn};
+use crate::piece::{NextPiece, PieceMeaning};
 use crate::reading::{Outcome, read};
 use crate::syntax::ProjectText;
 use asl_lexer::lexing::tokens;
@@ -27,9 +27,9 @@ use asl_term::sequence::Starved;
 use std::alloc::Global;
 
 /// `{`, `;` and `}` end the pieces of a project.
-pub struct Entries;
+pub struct ProjectPieces;
 
-impl Ends for Entries {
+impl Ends for ProjectPieces {
     ghost ends = { ends_piece };
 
     fn ends_piece(word: Word) -> bool {
@@ -42,14 +42,14 @@ impl Ends for Entries {
     }
 }
 
-fn next_turn(said: &Said) -> Option<Turn>
+fn next_turn(said: &PieceMeaning) -> Option<NextPiece>
     ensures { result ≡ grammar.next_turn said.now }
 {
     match said {
-        Said::Title(_) => Some(Turn::First),
-        Said::First(_, _) => Some(Turn::Later),
-        Said::Next(_) => Some(Turn::Later),
-        Said::End => None,
+        PieceMeaning::Title(_) => Some(NextPiece::First),
+        PieceMeaning::First(_, _) => Some(NextPiece::Later),
+        PieceMeaning::Next(_) => Some(NextPiece::Later),
+        PieceMeaning::End => None,
     }
 }
 
@@ -70,13 +70,18 @@ fn clause(number: u64, t: Option<&Tok>) -> ProjectFault
     }
 }
 
-fn stop(alloc: Global, number: u64, piece: &[Tok], word: Lexeme) -> Result<ProjectFault, Starved>
+fn stop(
+    alloc: Global,
+    number: u64,
+    piece: &[Tok],
+    word: ProjectLexeme,
+) -> Result<ProjectFault, Starved>
     ensures { IfOk result (λ f. f ≡ faults.stop_fault number piece.now word) }
 {
     match word {
-        Lexeme::Atom(word) => Ok(ProjectFault::Option { number, word }),
-        Lexeme::Var(word) => Ok(ProjectFault::Option { number, word }),
-        Lexeme::OpenSquare => Ok(ProjectFault::Option {
+        ProjectLexeme::Atom(word) => Ok(ProjectFault::Option { number, word }),
+        ProjectLexeme::Var(word) => Ok(ProjectFault::Option { number, word }),
+        ProjectLexeme::OpenSquare => Ok(ProjectFault::Option {
             number,
             word: text_of(alloc, b"[")?,
         }),
@@ -86,7 +91,12 @@ fn stop(alloc: Global, number: u64, piece: &[Tok], word: Lexeme) -> Result<Proje
 
 /// What a piece says, the one of this number.
 #[tactic(auto, using(crate::proofs::Refused::of_piece))]
-fn said(alloc: Global, turn: Turn, number: u64, piece: &[Tok]) -> Result<Said, ProjectFault>
+fn said(
+    alloc: Global,
+    turn: NextPiece,
+    number: u64,
+    piece: &[Tok],
+) -> Result<PieceMeaning, ProjectFault>
     ensures ok { IfOk result (Reads turn (lexemes piece.now)) }
     ensures err { IfErr result (UnlessMemory (IsRefusedPiece piece.now number (Some turn))) }
 {
@@ -104,10 +114,10 @@ fn draft_of(alloc: Global, toks: &[Tok]) -> Result<Draft, ProjectFault>
     ensures err { IfErr result (UnlessMemory (FirstRefused toks.now)) }
 {
     let mut draft = no_draft(alloc);
-    let mut turn = Some(Turn::Title);
+    let mut turn = Some(NextPiece::Title);
     let mut number: u64 = 0;
     let mut rest = toks;
-    'pieces: while let Some((piece, behind)) = cut::<Entries>(rest) {
+    'pieces: while let Some((piece, behind)) = cut::<ProjectPieces>(rest) {
         number += 1;
         let Some(at) = turn else {
             return Err(clause(number, piece.first()));

@@ -5,8 +5,8 @@ ghost use Rattle.mas_project.specs.Lexemes.{lexemes};
 ghost use Rattle.mas_project.specs.inner.Outcomes as spec;
 ghost use Rattle.mas_project.specs.inner.Outcomes.{IsOutcome};
 
-use crate::lexeme::{Lexeme, lexeme_behind};
-use crate::piece::{Said, Turn};
+use crate::lexeme::{ProjectLexeme, lexeme_behind};
+use crate::piece::{NextPiece, PieceMeaning};
 use crate::state::State;
 use crate::step::{begin, step};
 use asl_lexer::token::Tok;
@@ -16,11 +16,11 @@ use std::alloc::Global;
 /// How a piece reads.
 #[derive(Drop)]
 pub enum Outcome {
-    Whole(Said),
+    Whole(PieceMeaning),
     /// It ends, and a reading wants more.
     Early,
     /// No reading goes on with this word.
-    Stops(Lexeme),
+    Stops(ProjectLexeme),
 }
 
 fn ended(state: State) -> Outcome
@@ -34,7 +34,7 @@ fn ended(state: State) -> Outcome
 
 /// What a piece says, or where it leaves the grammar.
 #[tactic(auto, using(crate::proofs::Words::words))]
-pub fn read(alloc: Global, turn: Turn, piece: &[Tok]) -> Result<Outcome, Starved>
+pub fn read(alloc: Global, turn: NextPiece, piece: &[Tok]) -> Result<Outcome, Starved>
     ensures { IfOk result (IsOutcome turn (lexemes piece.now)) }
 {
     let mut state = begin(turn);

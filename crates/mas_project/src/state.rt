@@ -1,6 +1,6 @@
 //! How far the reading of a piece has come.
 
-use crate::piece::{Entry, Said};
+use crate::piece::{AgentEntry, PieceMeaning};
 use asl_term::syntax::Text;
 
 /// In which piece an entry stands: in the first, before which a file of the world may have been named, or later.
@@ -12,7 +12,7 @@ pub enum Before {
 
 /// Which options stood there.
 #[derive(Drop)]
-pub struct Options {
+pub struct SeenOptions {
     pub infrastructure: bool,
     pub world: Option<Text>,
 }
@@ -27,7 +27,7 @@ pub enum State {
     /// `{`, behind this name.
     Brace(Text),
     /// An option or `agents`.
-    Options(Options),
+    SeenOptions(SeenOptions),
     /// `:` behind `infrastructure`.
     InfrastructureColon(Option<Text>),
     /// `Centralised`
@@ -51,7 +51,7 @@ pub enum State {
     /// A number behind name and file.
     Count(Before, Text, Text),
     /// `;` behind all of an entry.
-    Semicolon(Before, Entry),
+    Semicolon(Before, AgentEntry),
     /// Nothing: the piece is whole.
-    Whole(Said),
+    Whole(PieceMeaning),
 }

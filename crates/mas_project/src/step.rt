@@ -4,33 +4,33 @@ ghost use Rattle.std.specs.Prelude.{◌≡◌, IfOk};
 ghost use Rattle.mas_project.specs.Grammar.{asl};
 ghost use Rattle.mas_project.specs.inner.Steps as spec;
 
-use crate::lexeme::Lexeme;
-use crate::piece::{Entry, Said, Turn};
-use crate::state::{Before, Options, State};
+use crate::lexeme::ProjectLexeme;
+use crate::piece::{AgentEntry, NextPiece, PieceMeaning};
+use crate::state::{Before, SeenOptions, State};
 use asl_term::copying::copy_text;
 use asl_term::sequence::Starved;
 use asl_term::syntax::Text;
 use std::alloc::Global;
 
 /// How the reading of a piece begins.
-pub fn begin(turn: Turn) -> State
+pub fn begin(turn: NextPiece) -> State
     ensures { result ≡ spec.begin turn }
 {
     match turn {
-        Turn::Title => State::Start,
-        Turn::First => State::Options(Options {
+        NextPiece::Title => State::Start,
+        NextPiece::First => State::SeenOptions(SeenOptions {
             infrastructure: false,
             world: None,
         }),
-        Turn::Later => State::Later,
+        NextPiece::Later => State::Later,
     }
 }
 
-fn start(word: Lexeme) -> Option<State>
+fn start(word: ProjectLexeme) -> Option<State>
     ensures { result ≡ spec.start_by word }
 {
     match word {
-        Lexeme::Var(w) => {
+        ProjectLexeme::Var(w) => {
             if w.as_slice() == b"MAS".as_slice() {
                 Some(State::Title)
             } else {
@@ -41,34 +41,34 @@ fn start(word: Lexeme) -> Option<State>
     }
 }
 
-fn title(word: Lexeme) -> Option<State>
+fn title(word: ProjectLexeme) -> Option<State>
     ensures { result ≡ spec.title_by word }
 {
     match word {
-        Lexeme::Atom(name) => Some(State::Brace(name)),
+        ProjectLexeme::Atom(name) => Some(State::Brace(name)),
         _ => None,
     }
 }
 
-fn brace(name: Text, word: Lexeme) -> Option<State>
+fn brace(name: Text, word: ProjectLexeme) -> Option<State>
     ensures { result ≡ spec.brace_by name word }
 {
     match word {
-        Lexeme::OpenBrace => Some(State::Whole(Said::Title(name))),
+        ProjectLexeme::OpenBrace => Some(State::Whole(PieceMeaning::Title(name))),
         _ => None,
     }
 }
 
-fn colon(next: State, word: Lexeme) -> Option<State>
+fn colon(next: State, word: ProjectLexeme) -> Option<State>
     ensures { result ≡ spec.colon_by next word }
 {
     match word {
-        Lexeme::Colon => Some(next),
+        ProjectLexeme::Colon => Some(next),
         _ => None,
     }
 }
 
-fn infrastructure_option(seen: Options) -> Option<State>
+fn infrastructure_option(seen: SeenOptions) -> Option<State>
     ensures { result ≡ spec.infrastructure_option seen }
 {
     if seen.infrastructure {
@@ -77,7 +77,7 @@ fn infrastructure_option(seen: Options) -> Option<State>
     Some(State::InfrastructureColon(seen.world))
 }
 
-fn environment_option(seen: Options) -> Option<State>
+fn environment_option(seen: SeenOptions) -> Option<State>
     ensures { result ≡ spec.environment_option seen.infrastructure seen.world }
 {
     match seen.world {
@@ -86,7 +86,7 @@ fn environment_option(seen: Options) -> Option<State>
     }
 }
 
-fn named_option(seen: Options, word: &Text) -> Option<State>
+fn named_option(seen: SeenOptions, word: &Text) -> Option<State>
     ensures { result ≡ spec.named_option seen word.now }
 {
     let name = word.as_slice();
@@ -102,22 +102,22 @@ fn named_option(seen: Options, word: &Text) -> Option<State>
     None
 }
 
-fn option(seen: Options, word: Lexeme) -> Option<State>
+fn option(seen: SeenOptions, word: ProjectLexeme) -> Option<State>
     ensures { result ≡ spec.options_by seen word }
 {
     match word {
-        Lexeme::Atom(name) => named_option(seen, &name),
+        ProjectLexeme::Atom(name) => named_option(seen, &name),
         _ => None,
     }
 }
 
-fn infrastructure(world: Option<Text>, word: Lexeme) -> Option<State>
+fn infrastructure(world: Option<Text>, word: ProjectLexeme) -> Option<State>
     ensures { result ≡ spec.infrastructure_by world word }
 {
     match word {
-        Lexeme::Var(w) => {
+        ProjectLexeme::Var(w) => {
             if w.as_slice() == b"Centralised".as_slice() {
-                Some(State::Options(Options {
+                Some(State::SeenOptions(SeenOptions {
                     infrastructure: true,
                     world,
                 }))
@@ -135,57 +135,57 @@ fn with_world(infrastructure: bool, name: Text) -> Result<State, Starved>
 {
     let mut file = name;
     file.append(b".env")?;
-    Ok(State::Options(Options {
+    Ok(State::SeenOptions(SeenOptions {
         infrastructure,
         world: Some(file),
     }))
 }
 
-fn environment(infrastructure: bool, word: Lexeme) -> Result<Option<State>, Starved>
+fn environment(infrastructure: bool, word: ProjectLexeme) -> Result<Option<State>, Starved>
     ensures { IfOk result (λ o. o ≡ spec.environment_by infrastructure word) }
 {
     match word {
-        Lexeme::Atom(name) => Ok(Some(with_world(infrastructure, name)?)),
-        Lexeme::Var(name) => Ok(Some(with_world(infrastructure, name)?)),
+        ProjectLexeme::Atom(name) => Ok(Some(with_world(infrastructure, name)?)),
+        ProjectLexeme::Var(name) => Ok(Some(with_world(infrastructure, name)?)),
         _ => Ok(None),
     }
 }
 
-fn said_of(before: Before, entry: Entry) -> Said
+fn said_of(before: Before, entry: AgentEntry) -> PieceMeaning
     ensures { result ≡ spec.said_of before entry }
 {
     match before {
-        Before::First(world) => Said::First(world, entry),
-        Before::Next => Said::Next(entry),
+        Before::First(world) => PieceMeaning::First(world, entry),
+        Before::Next => PieceMeaning::Next(entry),
     }
 }
 
-fn first(world: Option<Text>, word: Lexeme) -> Option<State>
+fn first(world: Option<Text>, word: ProjectLexeme) -> Option<State>
     ensures { result ≡ spec.first_by world word }
 {
     match word {
-        Lexeme::Atom(name) => Some(State::Name(Before::First(world), name)),
+        ProjectLexeme::Atom(name) => Some(State::Name(Before::First(world), name)),
         _ => None,
     }
 }
 
-fn later(word: Lexeme) -> Option<State>
+fn later(word: ProjectLexeme) -> Option<State>
     ensures { result ≡ spec.later_by word }
 {
     match word {
-        Lexeme::Atom(name) => Some(State::Name(Before::Next, name)),
-        Lexeme::CloseBrace => Some(State::Whole(Said::End)),
+        ProjectLexeme::Atom(name) => Some(State::Name(Before::Next, name)),
+        ProjectLexeme::CloseBrace => Some(State::Whole(PieceMeaning::End)),
         _ => None,
     }
 }
 
-fn file(before: Before, name: Text, file: Text, word: Lexeme) -> Option<State>
+fn file(before: Before, name: Text, file: Text, word: ProjectLexeme) -> Option<State>
     ensures { result ≡ spec.file_by before name file word }
 {
     match word {
-        Lexeme::Hash => Some(State::Count(before, name, file)),
-        Lexeme::Semicolon => {
-            let entry = Entry {
+        ProjectLexeme::Hash => Some(State::Count(before, name, file)),
+        ProjectLexeme::Semicolon => {
+            let entry = AgentEntry {
                 name,
                 file,
                 count: None,
@@ -205,12 +205,17 @@ fn asl_file(alloc: Global, name: &Text) -> Result<Text, Starved>
     Ok(file)
 }
 
-fn name(alloc: Global, before: Before, name: Text, word: Lexeme) -> Result<Option<State>, Starved>
+fn name(
+    alloc: Global,
+    before: Before,
+    name: Text,
+    word: ProjectLexeme,
+) -> Result<Option<State>, Starved>
     ensures { IfOk result (λ o. o ≡ spec.name_by before name word) }
 {
     match word {
-        Lexeme::Atom(stem) => Ok(Some(State::Stem(before, name, stem))),
-        Lexeme::Str(file) => Ok(Some(State::File(before, name, file))),
+        ProjectLexeme::Atom(stem) => Ok(Some(State::Stem(before, name, stem))),
+        ProjectLexeme::Str(file) => Ok(Some(State::File(before, name, file))),
         other => {
             let own = asl_file(alloc, &name)?;
             Ok(file(before, name, own, other))
@@ -218,11 +223,16 @@ fn name(alloc: Global, before: Before, name: Text, word: Lexeme) -> Result<Optio
     }
 }
 
-fn stem(before: Before, name: Text, stem: Text, word: Lexeme) -> Result<Option<State>, Starved>
+fn stem(
+    before: Before,
+    name: Text,
+    stem: Text,
+    word: ProjectLexeme,
+) -> Result<Option<State>, Starved>
     ensures { IfOk result (λ o. o ≡ spec.stem_by before name stem word) }
 {
     match word {
-        Lexeme::Suffix => {
+        ProjectLexeme::Suffix => {
             let mut file = stem;
             file.append(b".asl")?;
             Ok(Some(State::File(before, name, file)))
@@ -231,15 +241,15 @@ fn stem(before: Before, name: Text, stem: Text, word: Lexeme) -> Result<Option<S
     }
 }
 
-fn count(before: Before, name: Text, file: Text, word: Lexeme) -> Option<State>
+fn count(before: Before, name: Text, file: Text, word: ProjectLexeme) -> Option<State>
     ensures { result ≡ spec.count_by before name file word }
 {
     match word {
-        Lexeme::Number(n) => {
+        ProjectLexeme::Number(n) => {
             if n == 0 {
                 return None;
             }
-            let entry = Entry {
+            let entry = AgentEntry {
                 name,
                 file,
                 count: Some(n),
@@ -250,25 +260,25 @@ fn count(before: Before, name: Text, file: Text, word: Lexeme) -> Option<State>
     }
 }
 
-fn semicolon(before: Before, entry: Entry, word: Lexeme) -> Option<State>
+fn semicolon(before: Before, entry: AgentEntry, word: ProjectLexeme) -> Option<State>
     ensures { result ≡ spec.semicolon_by before entry word }
 {
     match word {
-        Lexeme::Semicolon => Some(State::Whole(said_of(before, entry))),
+        ProjectLexeme::Semicolon => Some(State::Whole(said_of(before, entry))),
         _ => None,
     }
 }
 
 /// The state behind one word more, unless no reading goes on with it.
 #[tactic(auto, unfolding(crate::specs::inner::Steps::step))]
-pub fn step(alloc: Global, state: State, word: Lexeme) -> Result<Option<State>, Starved>
+pub fn step(alloc: Global, state: State, word: ProjectLexeme) -> Result<Option<State>, Starved>
     ensures { IfOk result (λ o. o ≡ spec.step state word) }
 {
     match state {
         State::Start => Ok(start(word)),
         State::Title => Ok(title(word)),
         State::Brace(name) => Ok(brace(name, word)),
-        State::Options(seen) => Ok(option(seen, word)),
+        State::SeenOptions(seen) => Ok(option(seen, word)),
         State::InfrastructureColon(world) => Ok(colon(State::Infrastructure(world), word)),
         State::Infrastructure(world) => Ok(infrastructure(world, word)),
         State::EnvironmentColon(seen) => Ok(colon(State::Environment(seen), word)),

@@ -2,12 +2,13 @@
 use Rattle.std.proofs.Common.{◌≡◌, ℕ, inl, inr, Bool, true, false, true≢false, Option, Some, None, is_some, Result, Ok, Err, IfOk, OnOk, IfErr}
 use Rattle.std.proofs.Common.{OnErr, List, [], ◌∷◌, ◌++◌, cond, length, sym, ap, ◌∙◌, subst, append-nil, refl, arith}
 use Rattle.std.specs.Option.{option_to_list}
+use Rattle.std.proofs.lemmas.Option.{same_Some}
 use Rattle.asl_term.specs.declared.sequence.Starved.{Starved}
-use Rattle.mas_lists.specs.Lists.{StartsWith, Each}
-use Rattle.mas_disk.specs.Disk.{DiskState}
-use Rattle.mas_disk.specs.declared.disk.DiskFail.{DiskFail}
-use Rattle.mas_journal.specs.declared.journal.Journal.{Journal}
-use Rattle.mas_journal.specs.Kept.{IsTurn}
+use Rattle.mas_board_lists.specs.Lists.{StartsWith, Each}
+use Rattle.mas_record_disk.specs.Disk.{DiskState}
+use Rattle.mas_record_disk.specs.declared.disk.DiskFail.{DiskFail}
+use Rattle.mas_record_journal.specs.declared.journal.Journal.{Journal}
+use Rattle.mas_record_journal.specs.Kept.{IsTurn}
 use Rattle.mas_mind.specs.declared.mind.Outs.{Outs}
 use Rattle.mas_mind.specs.declared.mind.Feedback.{Feedback}
 use Rattle.mas_mind.specs.declared.mind.End.TheVariants.{Budget}
@@ -19,23 +20,26 @@ use Rattle.mas_board.specs.declared.seats.Sensed.TheVariants as answer
 use Rattle.mas_board.specs.Boards as board
 use Rattle.mas_board.specs.Boards.{State, Noted, seat_at, is_gone}
 use Rattle.mas_board.specs.Seating.{IsAt, IsSound, HasSensed, SenseLeaves, HasEmitted, HasLeft, IsInputFor}
-use Rattle.mas_turns.specs.declared.turn.Turn.{Turn}
-use Rattle.mas_turns.specs.declared.turn.Turn.TheVariants as turn
-use Rattle.mas_views.specs.declared.view.View.{View}
-use Rattle.mas_views.specs.Views.{Turns, Opening, noted}
-use Rattle.mas_views.specs.Steps.{of_first, Sits, Made, Stands, took, gave}
-use Rattle.mas_views.specs.Rule.{Taken, MayGive}
+use Rattle.mas_board_turns.specs.declared.turn.Turn.{Turn}
+use Rattle.mas_board_turns.specs.declared.turn.Turn.TheVariants as turn
+use Rattle.mas_board_turns.specs.declared.view.SideView.{SideView}
+use Rattle.mas_board_turns.specs.Views.{Turns, Opening, noted}
+use Rattle.mas_board_turns.specs.Steps.{of_first, Sits, Made, Stands, took, gave}
 use Rattle.mas_record.specs.declared.deck.Deck.{Deck}
 use Rattle.mas_record.specs.declared.deck.DeckFault.{DeckFault}
 use Rattle.mas_record.specs.declared.deck.DeckFault.TheVariants as fault
+use Rattle.mas_record.specs.declared.side.DeckView.{DeckView}
 use Rattle.mas_record.specs.declared.ticket.Ticket.{Ticket}
 use Rattle.mas_record.specs.Faults.{fault_of}
-use Rattle.mas_record.specs.Rule.{IsKept, shown, showing}
+use Rattle.mas_record.specs.Rule.{IsJournalled, IsKept, shown}
+use Rattle.mas_record.specs.Views as view
+use Rattle.mas_record.specs.Standing.{KeepsStill, DeckTaken, DeckMayGive}
 use Rattle.mas_record.specs.Entries.{Appended, NotedIn, entered, IsWritten, IsTornNow, IsAsItWas, IsSeen}
-use Rattle.mas_turns.specs.Answers.{sensed, made_by_sense, made_by_emit}
-use Rattle.mas_record.specs.Tickets.{answered, HasEntry, HasFault, known, turns_of, first_of, met_by, phase_of, agents_of, Met, Exchanged}
+use Rattle.mas_board_turns.specs.Answers.{sensed, made_by_sense, made_by_emit}
+use Rattle.mas_record.specs.Tickets.{answered, HasEntry, HasFault, knows, known, turns_of, first_of, met_by, phase_of, agents_of, Met, IsGivenBack, Exchanged}
 use Rattle.mas_record.specs.Tickets.{SenseRecorded, GivenIf, SenseRefused, EmitRecorded, LeaveRecorded, TurnRefused}
-use Rattle.mas_record.proofs.Kept.{kept_noted, shown_open}
+use Rattle.mas_record.proofs.RecorderRule.{kept_noted, shown_open}
+use Rattle.mas_record.proofs.Standing.{noted_still}
 
 -- ---- what a taking tells
 
@@ -43,22 +47,22 @@ alone : (first board : State) (a : ℕ) (es : Turns) → es ≡ (a, of_first es)
 alone first board a es e h = (subst (Each (Stands first board)) e h).0
 
 pub met_is : {A D : Type 0} {state : D → DiskState} (old new : Ticket A D) (x : Deck A D) → Sits old.number false (known old) → new.number ≡ old.number →
-    Taken (showing state) (known old) x (known new) → Met state old new x
+    DeckTaken state (knows old) x (knows new) → Met state old new x
 met_is old new x s n t = record {
   number = n;
-  goes_on = t.sees;
-  stands = alone (first_of old).board.state x.board.state old.number (known old).turns s.turns t.stands;
+  goes_on = t.taken.sees;
+  stands = alone (first_of old).board.state x.board.state old.number (known old).turns s.turns t.taken.stands;
   taken = t.is;
-  kept = t.kept;
+  kept = t.taken.kept;
 }
 
 -- the same, where the call began with this ticket
 pub met_from : {A D : Type 0} {state : D → DiskState} (old mid new : Ticket A D) (x : Deck A D) → Sits mid.number false (known mid) → mid.number ≡ old.number
-    → known mid ≡ known old →
-    new.number ≡ mid.number → Taken (showing state) (known mid) x (known new) → Met state old new x
+    → knows mid ≡ knows old →
+    new.number ≡ mid.number → DeckTaken state (knows mid) x (knows new) → Met state old new x
 met_from {A} {D} {state} old mid new x s m k n t =
-    let h = subst (λ (v : View). Taken (showing state) v x (known new)) k t in
-    let i = subst (λ (u : ℕ × View). Sits u.0 false u.1) (λ j. (m j, k j)) s in
+    let h = subst (λ (v : DeckView D). DeckTaken state v x (knows new)) k t in
+    let i = subst (λ (u : ℕ × DeckView D). Sits u.0 false u.1.side) (λ j. (m j, k j)) s in
     met_is old new x i (n ∙ m) h
 
 first_noted : (a : ℕ) (made : Option Turn) (ts : List Turn) (es : Turns) → es ≡ (a, ts) ∷ [] → of_first (noted made es) ≡ of_first es ++ option_to_list made
@@ -88,45 +92,73 @@ module _ {A D : Type 0} (state : D → DiskState) (old mid : Ticket A D) (x : De
   is_turn s = let a = m.stands.at.agent in let n = m.number in
       record { some = (let l = a.from_one in omega arith); few = (let l = a.named in let f = s.limits.few in omega (arith, l, f, n)) }
 
+  on_side : known mid ≡ took (known old) (shown x)
+  on_side = ap (λ (v : DeckView D). v.side) m.taken
+
+  same_met : (met : Journal D) → (knows mid).met ≡ Some met → x.journal ≡ met
+  same_met met e = same_Some x.journal met (sym (ap (λ (v : DeckView D). v.met) m.taken) ∙ e)
+
   -- board and journal may be given back, after this was made of the board and noted in the journal
   pub may_give : (z : Deck A D) (made : Option Turn) (written : Result (Unit {0}) DiskFail) → Made made x.board mid.number z.board
       → z.board.halted ≡ x.board.halted → x.journal.torn ≡ None →
-      NotedIn state made mid.number x.journal z.journal written → MayGive (showing state) made mid.number (known mid) z
+      NotedIn state made mid.number x.journal z.journal written → DeckMayGive state made mid.number (knows mid) z
   may_give z made written h halted open_now n = record {
-    makes = subst (λ (b : Noted). Made made b mid.number (shown z)) (sym (ap (λ (v : View). v.met) m.taken)) (shown_made made mid.number x z h);
-    kept = subst (λ (o : Opening). IsKept state o z) (sym (ap (λ (v : View). v.first) m.taken))
-        (kept_noted state (first_of old) x z mid.number made written m.kept open_now h halted n);
+    gives = record {
+      makes = subst (λ (b : Noted). Made made b mid.number (shown z)) (sym (ap (λ (v : SideView). v.met) on_side)) (shown_made made mid.number x z h);
+      kept = subst (λ (o : Opening). IsKept state o z) (sym (ap (λ (v : SideView). v.first) on_side))
+          (kept_noted state (first_of old) x z mid.number made written m.kept open_now h halted n);
+    };
+    keeps = λ met e. subst (λ (j : Journal D). KeepsStill state j z.journal) (same_met met e)
+        (noted_still state made mid.number x.journal z.journal written n);
   }
 
   -- or as they are
-  pub may_return : MayGive (showing state) None mid.number (known mid) x
+  pub may_return : DeckMayGive state None mid.number (knows mid) x
   may_return = record {
-    makes = subst (λ (b : Noted). Made None b mid.number (shown x)) (sym (ap (λ (v : View). v.met) m.taken)) (refl, refl);
-    kept = subst (λ (o : Opening). IsKept state o x) (sym (ap (λ (v : View). v.first) m.taken)) m.kept;
+    gives = record {
+      makes = subst (λ (b : Noted). Made None b mid.number (shown x)) (sym (ap (λ (v : SideView). v.met) on_side)) (refl, refl);
+      kept = subst (λ (o : Opening). IsKept state o x) (sym (ap (λ (v : SideView). v.first) on_side)) m.kept;
+    };
+    keeps = λ met e. subst (λ (j : Journal D). KeepsStill state j x.journal) (same_met met e) (λ back h. h);
   }
 
-  module _ (new : Ticket A D) (z : Deck A D) (made : Option Turn) (n : new.number ≡ mid.number) (g : known new ≡ gave made (known mid) (shown z)) where
+  module _ (new : Ticket A D) (z : Deck A D) (made : Option Turn) (n : new.number ≡ mid.number) (g : knows new ≡ view.gave state made (knows mid) z) where
+    abbrev whole : knows new ≡ view.gave state made (view.took state (knows old) x) z
+    whole = g ∙ ap (λ (v : DeckView D). view.gave state made v z) m.taken
+
     abbrev back : known new ≡ gave made (took (known old) (shown x)) (shown z)
-    back = g ∙ ap (λ (v : View). gave made v (shown z)) m.taken
+    back = ap (λ (v : DeckView D). v.side) whole
+
+    last_is : entered state x.journal z.journal ≡ view.entered_by (knows new)
+    last_is = sym (ap (λ (v : DeckView D). view.entered_by v) whole)
 
     met_again : met_by new ≡ shown x
-    met_again = ap (λ (v : View). v.met) back
+    met_again = ap (λ (v : SideView). v.met) back
 
     is_seen : IsSeen (entered state x.journal z.journal) (met_by new) (shown z)
     is_seen = record { on_entry = ap (λ (b : Noted). b.halted) met_again; on_exit = refl }
 
-    exchanged : Sits old.number false (known old) → Made made x.board old.number z.board → Exchanged old new made (shown z)
-    exchanged s h =
+    given_back : IsJournalled z.board.schedule z.journal.turns z.journal.torn → IsGivenBack old new
+    given_back t = record {
+      journal = z.journal;
+      noted = ap (λ (v : DeckView D). v.left) whole;
+      tells = subst (λ (l : List ℕ). IsJournalled l z.journal.turns z.journal.torn) (sym (ap (λ (v : SideView). v.seen) back)) t;
+    }
+
+    exchanged : Sits old.number false (known old) → IsJournalled z.board.schedule z.journal.turns z.journal.torn → Made made x.board old.number z.board
+        → Exchanged old new made (shown z)
+    exchanged s t h =
         let e = sym met_again in
         record {
           number = n ∙ m.number;
-          first = ap (λ (v : View). v.first) back;
+          first = ap (λ (v : SideView). v.first) back;
           goes_on = subst (λ (b : Noted). StartsWith b.schedule (known old).seen) e m.goes_on;
           makes = subst (λ (b : Noted). Made made b old.number (shown z)) e (shown_made made old.number x z h);
-          turns = ap (λ (v : View). of_first v.turns) back ∙ first_noted old.number made (turns_of old) (known old).turns s.turns;
-          seen = ap (λ (v : View). v.seen) back;
-          torn = ap (λ (v : View). v.halted) back;
+          turns = ap (λ (v : SideView). of_first v.turns) back ∙ first_noted old.number made (turns_of old) (known old).turns s.turns;
+          seen = ap (λ (v : SideView). v.seen) back;
+          torn = ap (λ (v : SideView). v.halted) back;
           stands = subst (λ (b : Noted). Stands (first_of old).board.state b.state (old.number, turns_of old)) e m.stands;
+          recorded = given_back t;
         }
 
 -- ---- what each call of the board makes of it
@@ -205,13 +237,13 @@ module _ {A D : Type 0} (state : D → DiskState) (old mid new : Ticket A D) (x 
     sense_is : Made (made_by_sense r) x.board mid.number z.board
     sense_is = subst (Made (made_by_sense r) x.board mid.number) (sym b) (sense_makes mid.number r x.board y (at_phase state old mid x m Idle idle) h l e)
 
-    pub sense_gives : MayGive (showing state) (made_by_sense r) mid.number (known mid) z
+    pub sense_gives : DeckMayGive state (made_by_sense r) mid.number (knows mid) z
     sense_gives =
         may_give state old mid x m z (made_by_sense r) w sense_is (ap (λ (q : Noted). q.halted) b ∙ sense_halted mid.number r x.board y h e) open_now i
 
-    sense_exchanged : known new ≡ gave (made_by_sense r) (known mid) (shown z) → Exchanged old new (made_by_sense r) (shown z)
+    sense_exchanged : knows new ≡ view.gave state (made_by_sense r) (knows mid) z → Exchanged old new (made_by_sense r) (shown z)
     sense_exchanged g =
-        exchanged state old mid x m new z (made_by_sense r) n g sits (subst (λ (k : ℕ). Made (made_by_sense r) x.board k z.board) m.number sense_is)
+        exchanged state old mid x m new z (made_by_sense r) n g sits sense_gives.gives.kept.tells (subst (λ (k : ℕ). Made (made_by_sense r) x.board k z.board) m.number sense_is)
 
   given_if : (s : Sensed) (y : Noted) → SenseLeaves x.board y mid.number s → GivenIf old s
   given_if (answer.Input i) y l = record {
@@ -244,7 +276,7 @@ module _ {A D : Type 0} (state : D → DiskState) (old mid new : Ticket A D) (x 
   from_after y b h torn = sym (shown_open z (ap (λ (k : Noted). k.halted) b ∙ h ∙ m.kept.runs) torn ∙ b)
 
   sensed_from : (s : Sensed) (y : Noted) → z.board ≡ y → HasSensed x.board y mid.number s → NotedIn state (sensed s) mid.number x.journal z.journal (Ok tt) →
-      known new ≡ gave (sensed s) (known mid) (shown z) → ◌≡◌ {A = Noted × Noted × ℕ} (x.board, y, mid.number) (met_by new, shown z, old.number)
+      knows new ≡ view.gave state (sensed s) (knows mid) z → ◌≡◌ {A = Noted × Noted × ℕ} (x.board, y, mid.number) (met_by new, shown z, old.number)
   sensed_from s y b h i g =
       let p = from_met (met_again state old mid x m new z (sensed s) n g) in
       let q = from_after y b h.halted (still_open state mid.number (sensed s) x.journal z.journal open_now i) in
@@ -252,13 +284,14 @@ module _ {A D : Type 0} (state : D → DiskState) (old mid new : Ticket A D) (x 
 
   pub sense_recorded : (r : Result Sensed Starved) (w : Result (Unit {0}) DiskFail) (y : Noted) → z.board ≡ y → phase_of old ≡ Idle
       → IfOk r (HasSensed x.board y mid.number) → IfOk r (SenseLeaves x.board y mid.number) →
-      OnErr r (y ≡ x.board) → NotedIn state (made_by_sense r) mid.number x.journal z.journal w → known new ≡ gave (made_by_sense r) (known mid) (shown z)
+      OnErr r (y ≡ x.board) → NotedIn state (made_by_sense r) mid.number x.journal z.journal w → knows new ≡ view.gave state (made_by_sense r) (knows mid) z
       → IfOk (answered r w) (SenseRecorded old new)
   sense_recorded (Ok s) (Ok tt) y b idle h l e i g = record {
     after = shown z;
     entered = entered state x.journal z.journal;
     exchanged = sense_exchanged (Ok s) (Ok tt) y b idle h l e i g;
     seen = is_seen state old mid x m new z (sensed s) n g;
+    last = last_is state old mid x m new z (sensed s) n g;
     answered = subst (λ (t : Noted × Noted × ℕ). HasSensed t.0 t.1 t.2 s) (sensed_from s y b h i g) h;
     leaves = subst (λ (t : Noted × Noted × ℕ). SenseLeaves t.0 t.1 t.2 s) (sensed_from s y b h i g) l;
     entry = entry_of s y l i;
@@ -268,7 +301,7 @@ module _ {A D : Type 0} (state : D → DiskState) (old mid new : Ticket A D) (x 
 
   pub sense_refused : (r : Result Sensed Starved) (w : Result (Unit {0}) DiskFail) (y : Noted) → z.board ≡ y → phase_of old ≡ Idle
       → IfOk r (HasSensed x.board y mid.number) → IfOk r (SenseLeaves x.board y mid.number) →
-      OnErr r (y ≡ x.board) → NotedIn state (made_by_sense r) mid.number x.journal z.journal w → known new ≡ gave (made_by_sense r) (known mid) (shown z)
+      OnErr r (y ≡ x.board) → NotedIn state (made_by_sense r) mid.number x.journal z.journal w → knows new ≡ view.gave state (made_by_sense r) (knows mid) z
       → IfErr (answered r w) (SenseRefused old new)
   sense_refused (Ok s) (Ok u) y b idle h l e i g = tt
   sense_refused (Ok s) (Err f) y b idle h l e i g = record {
@@ -277,6 +310,7 @@ module _ {A D : Type 0} (state : D → DiskState) (old mid new : Ticket A D) (x 
     entered = entered state x.journal z.journal;
     exchanged = sense_exchanged (Ok s) (Err f) y b idle h l e i g;
     seen = is_seen state old mid x m new z (sensed s) n g;
+    last = last_is state old mid x m new z (sensed s) n g;
     cause = fault_in state mid.number (sensed s) x.journal z.journal f open_now i;
   }
   sense_refused (Err q) w y b idle h l e i g = record {
@@ -285,6 +319,7 @@ module _ {A D : Type 0} (state : D → DiskState) (old mid new : Ticket A D) (x 
     entered = entered state x.journal z.journal;
     exchanged = sense_exchanged (Err q) w y b idle h l e i g;
     seen = is_seen state old mid x m new z None n g;
+    last = last_is state old mid x m new z None n g;
     cause = nothing_in state x.journal z.journal open_now i.0;
   }
 
@@ -296,23 +331,24 @@ module _ {A D : Type 0} (state : D → DiskState) (old mid new : Ticket A D) (x 
     emit_is : Made (made_by_emit outs r) x.board mid.number z.board
     emit_is = subst (Made (made_by_emit outs r) x.board mid.number) (sym b) (emit_makes mid.number outs r x.board y (at_phase state old mid x m Busy busy) h e)
 
-    pub emit_gives : MayGive (showing state) (made_by_emit outs r) mid.number (known mid) z
+    pub emit_gives : DeckMayGive state (made_by_emit outs r) mid.number (knows mid) z
     emit_gives =
         may_give state old mid x m z (made_by_emit outs r) w emit_is (ap (λ (q : Noted). q.halted) b ∙ emit_halted mid.number outs r x.board y h e) open_now i
 
-    emit_exchanged : known new ≡ gave (made_by_emit outs r) (known mid) (shown z) → Exchanged old new (made_by_emit outs r) (shown z)
+    emit_exchanged : knows new ≡ view.gave state (made_by_emit outs r) (knows mid) z → Exchanged old new (made_by_emit outs r) (shown z)
     emit_exchanged g =
-        exchanged state old mid x m new z (made_by_emit outs r) n g sits (subst (λ (k : ℕ). Made (made_by_emit outs r) x.board k z.board) m.number emit_is)
+        exchanged state old mid x m new z (made_by_emit outs r) n g sits emit_gives.gives.kept.tells (subst (λ (k : ℕ). Made (made_by_emit outs r) x.board k z.board) m.number emit_is)
 
   pub emit_recorded : (outs : Outs) (r : Result (Option Feedback) Starved) (w : Result (Unit {0}) DiskFail) (y : Noted) → z.board ≡ y → phase_of old ≡ Busy
       → IfOk r (HasEmitted x.board y mid.number outs) →
       OnErr r (y ≡ x.board) → NotedIn state (made_by_emit outs r) mid.number x.journal z.journal w
-      → known new ≡ gave (made_by_emit outs r) (known mid) (shown z) → IfOk (answered r w) (EmitRecorded old new outs)
+      → knows new ≡ view.gave state (made_by_emit outs r) (knows mid) z → IfOk (answered r w) (EmitRecorded old new outs)
   emit_recorded outs (Ok f) (Ok tt) y b busy h e i g = record {
     after = shown z;
     entered = entered state x.journal z.journal;
     exchanged = emit_exchanged outs (Ok f) (Ok tt) y b busy h e i g;
     seen = is_seen state old mid x m new z (Some (turn.Emitted outs f)) n g;
+    last = last_is state old mid x m new z (Some (turn.Emitted outs f)) n g;
     answered =
         (let p = from_met (met_again state old mid x m new z (Some (turn.Emitted outs f)) n g) in
         let q = from_after y b h.halted i.ok.open_now in
@@ -325,7 +361,7 @@ module _ {A D : Type 0} (state : D → DiskState) (old mid new : Ticket A D) (x 
   pub emit_refused : (outs : Outs) (r : Result (Option Feedback) Starved) (w : Result (Unit {0}) DiskFail) (y : Noted) → z.board ≡ y → phase_of old ≡ Busy
       → IfOk r (HasEmitted x.board y mid.number outs) →
       OnErr r (y ≡ x.board) → NotedIn state (made_by_emit outs r) mid.number x.journal z.journal w
-      → known new ≡ gave (made_by_emit outs r) (known mid) (shown z) → IfErr (answered r w) (TurnRefused old new)
+      → knows new ≡ view.gave state (made_by_emit outs r) (knows mid) z → IfErr (answered r w) (TurnRefused old new)
   emit_refused outs (Ok f) (Ok u) y b busy h e i g = tt
   emit_refused outs (Ok f) (Err q) y b busy h e i g = record {
     made = Some (turn.Emitted outs f);
@@ -333,6 +369,7 @@ module _ {A D : Type 0} (state : D → DiskState) (old mid new : Ticket A D) (x 
     entered = entered state x.journal z.journal;
     exchanged = emit_exchanged outs (Ok f) (Err q) y b busy h e i g;
     seen = is_seen state old mid x m new z (Some (turn.Emitted outs f)) n g;
+    last = last_is state old mid x m new z (Some (turn.Emitted outs f)) n g;
     cause = inl (fault_in state mid.number (Some (turn.Emitted outs f)) x.journal z.journal q open_now i);
   }
   emit_refused outs (Err q) w y b busy h e i g = record {
@@ -341,6 +378,7 @@ module _ {A D : Type 0} (state : D → DiskState) (old mid new : Ticket A D) (x 
     entered = entered state x.journal z.journal;
     exchanged = emit_exchanged outs (Err q) w y b busy h e i g;
     seen = is_seen state old mid x m new z None n g;
+    last = last_is state old mid x m new z None n g;
     cause = inl (nothing_in state x.journal z.journal open_now i.0);
   }
 
@@ -348,21 +386,24 @@ module _ {A D : Type 0} (state : D → DiskState) (old mid new : Ticket A D) (x 
   leave_is busy h = ((at_phase state old mid x m Busy busy, h.state), h.schedule)
 
   pub leave_gives : (w : Result (Unit {0}) DiskFail) → phase_of old ≡ Busy → HasLeft x.board z.board mid.number Budget
-      → Appended state mid.number x.journal z.journal w → MayGive (showing state) (Some turn.Gone) mid.number (known mid) z
+      → Appended state mid.number x.journal z.journal w → DeckMayGive state (Some turn.Gone) mid.number (knows mid) z
   leave_gives w busy h i = may_give state old mid x m z (Some turn.Gone) w (leave_is busy h) h.halted open_now i
 
-  leave_exchanged : phase_of old ≡ Busy → HasLeft x.board z.board mid.number Budget → known new ≡ gave (Some turn.Gone) (known mid) (shown z)
+  leave_exchanged : (w : Result (Unit {0}) DiskFail) → phase_of old ≡ Busy → HasLeft x.board z.board mid.number Budget
+      → Appended state mid.number x.journal z.journal w → knows new ≡ view.gave state (Some turn.Gone) (knows mid) z
       → Exchanged old new (Some turn.Gone) (shown z)
-  leave_exchanged busy h g =
-      exchanged state old mid x m new z (Some turn.Gone) n g sits (subst (λ (k : ℕ). Made (Some turn.Gone) x.board k z.board) m.number (leave_is busy h))
+  leave_exchanged w busy h i g =
+      exchanged state old mid x m new z (Some turn.Gone) n g sits (leave_gives w busy h i).gives.kept.tells
+      (subst (λ (k : ℕ). Made (Some turn.Gone) x.board k z.board) m.number (leave_is busy h))
 
   leave_recorded : phase_of old ≡ Busy → HasLeft x.board z.board mid.number Budget → Appended state mid.number x.journal z.journal (Ok tt)
-      → known new ≡ gave (Some turn.Gone) (known mid) (shown z) → LeaveRecorded old new
+      → knows new ≡ view.gave state (Some turn.Gone) (knows mid) z → LeaveRecorded old new
   leave_recorded busy h i g = record {
     after = shown z;
     entered = entered state x.journal z.journal;
-    exchanged = leave_exchanged busy h g;
+    exchanged = leave_exchanged (Ok tt) busy h i g;
     seen = is_seen state old mid x m new z (Some turn.Gone) n g;
+    last = last_is state old mid x m new z (Some turn.Gone) n g;
     answered =
         (let p = from_met (met_again state old mid x m new z (Some turn.Gone) n g) in
         let q = from_after z.board refl h.halted i.ok.open_now in
@@ -371,26 +412,27 @@ module _ {A D : Type 0} (state : D → DiskState) (old mid new : Ticket A D) (x 
   }
 
   leave_refused : (f : DiskFail) → phase_of old ≡ Busy → HasLeft x.board z.board mid.number Budget → Appended state mid.number x.journal z.journal (Err f)
-      → known new ≡ gave (Some turn.Gone) (known mid) (shown z) →
+      → knows new ≡ view.gave state (Some turn.Gone) (knows mid) z →
       TurnRefused old new (fault_of f)
   leave_refused f busy h i g = record {
     made = Some turn.Gone;
     after = shown z;
     entered = entered state x.journal z.journal;
-    exchanged = leave_exchanged busy h g;
+    exchanged = leave_exchanged (Err f) busy h i g;
     seen = is_seen state old mid x m new z (Some turn.Gone) n g;
+    last = last_is state old mid x m new z (Some turn.Gone) n g;
     cause = inl (f, refl, torn_in state mid.number x.journal z.journal f open_now i);
   }
 
   pub leave_told : (w : Result (Unit {0}) DiskFail) → phase_of old ≡ Busy → HasLeft x.board z.board mid.number Budget
       → Appended state mid.number x.journal z.journal w →
-      known new ≡ gave (Some turn.Gone) (known mid) (shown z) → OnOk (answered {T = Unit {0}} (Ok tt) w) (LeaveRecorded old new)
+      knows new ≡ view.gave state (Some turn.Gone) (knows mid) z → OnOk (answered {T = Unit {0}} (Ok tt) w) (LeaveRecorded old new)
   leave_told (Ok tt) busy h i g = leave_recorded busy h i g
   leave_told (Err f) busy h i g = tt
 
   pub leave_fault : (w : Result (Unit {0}) DiskFail) → phase_of old ≡ Busy → HasLeft x.board z.board mid.number Budget
       → Appended state mid.number x.journal z.journal w →
-      known new ≡ gave (Some turn.Gone) (known mid) (shown z) → IfErr (answered {T = Unit {0}} (Ok tt) w) (TurnRefused old new)
+      knows new ≡ view.gave state (Some turn.Gone) (knows mid) z → IfErr (answered {T = Unit {0}} (Ok tt) w) (TurnRefused old new)
   leave_fault (Ok u) busy h i g = tt
   leave_fault (Err f) busy h i g = leave_refused f busy h i g
 
@@ -398,17 +440,17 @@ module _ {A D : Type 0} (state : D → DiskState) (old mid new : Ticket A D) (x 
 
 pub returned : {A D : Type 0} (state : D → DiskState) (old mid new : Ticket A D) (x : Deck A D) → Met state old mid x → new.number ≡ mid.number
     → Sits old.number false (known old) →
-    known new ≡ gave None (known mid) (shown x) → Exchanged old new None (met_by new)
+    knows new ≡ view.gave state None (knows mid) x → Exchanged old new None (met_by new)
 returned state old mid new x m n sits g =
-    subst (Exchanged old new None) (sym (met_again state old mid x m new x None n g)) (exchanged state old mid x m new x None n g sits (refl, refl))
+    subst (Exchanged old new None) (sym (met_again state old mid x m new x None n g)) (exchanged state old mid x m new x None n g sits m.kept.tells (refl, refl))
 
 -- ---- on a torn journal
 
 module _ {A D : Type 0} (state : D → DiskState) (old mid new : Ticket A D) (x : Deck A D) (m : Met state old mid x) (n : new.number ≡ mid.number)
     (sits : Sits old.number false (known old)) (why : DiskFail)
-    (torn : x.journal.torn ≡ Some why) (g : known new ≡ gave None (known mid) (shown x)) where
+    (torn : x.journal.torn ≡ Some why) (g : knows new ≡ view.gave state None (knows mid) x) where
   same_exchanged : Exchanged old new None (shown x)
-  same_exchanged = exchanged state old mid x m new x None n g sits (refl, refl)
+  same_exchanged = exchanged state old mid x m new x None n g sits m.kept.tells (refl, refl)
 
   met_same : shown x ≡ met_by new
   met_same = sym (met_again state old mid x m new x None n g)
@@ -418,6 +460,9 @@ module _ {A D : Type 0} (state : D → DiskState) (old mid new : Ticket A D) (x 
 
   same_seen : IsSeen (entered state x.journal x.journal) (met_by new) (shown x)
   same_seen = is_seen state old mid x m new x None n g
+
+  same_last : entered state x.journal x.journal ≡ view.entered_by (knows new)
+  same_last = last_is state old mid x m new x None n g
 
   halted_sensed : HasSensed (shown x) (shown x) old.number answer.Halted
   halted_sensed = record {
@@ -432,6 +477,7 @@ module _ {A D : Type 0} (state : D → DiskState) (old mid new : Ticket A D) (x 
     entered = entered state x.journal x.journal;
     exchanged = same_exchanged;
     seen = same_seen;
+    last = same_last;
     answered = subst (λ (b : Noted). HasSensed b (shown x) old.number answer.Halted) met_same halted_sensed;
     leaves = subst (λ (b : Noted). SenseLeaves b (shown x) old.number answer.Halted) met_same (is_halted, refl);
     entry = (why, torn, record { torn = refl; faults = refl });
@@ -444,5 +490,6 @@ module _ {A D : Type 0} (state : D → DiskState) (old mid new : Ticket A D) (x 
     entered = entered state x.journal x.journal;
     exchanged = same_exchanged;
     seen = same_seen;
+    last = same_last;
     cause = inr record { why = why; nothing = refl; torn = torn; fault_is = e; same = record { torn = refl; faults = refl } };
   }

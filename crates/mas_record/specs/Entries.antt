@@ -1,16 +1,16 @@
 -- What becomes of the journal in a call.
 use Rattle.std.specs.Prelude.{◌≡◌, ℕ, true, Option, None, Some, is_some, Result, Ok, OnOk, IfErr}
 use Rattle.mas_io.specs.Causes.{Rose}
-use Rattle.mas_disk.specs.Disk.{Image, DiskState}
-use Rattle.mas_disk.specs.Calls.{picked_file, HasCause}
-use Rattle.mas_disk.specs.declared.disk.DiskFail.{DiskFail}
-use Rattle.mas_disk.specs.declared.disk.DiskFail.TheVariants as fail
-use Rattle.mas_journal.specs.declared.journal.Journal.{Journal}
-use Rattle.mas_journal.specs.Journals.{RecoversEither}
-use Rattle.mas_journal.specs.Moments.{Ran}
-use Rattle.mas_journal.specs.Kept.{IsJournal, IsAppended, IsTornBy, AllRecover}
+use Rattle.mas_record_disk.specs.Disk.{Image, DiskState}
+use Rattle.mas_record_disk.specs.Calls.{picked_file, HasCause}
+use Rattle.mas_record_disk.specs.declared.disk.DiskFail.{DiskFail}
+use Rattle.mas_record_disk.specs.declared.disk.DiskFail.TheVariants as fail
+use Rattle.mas_record_journal.specs.declared.journal.Journal.{Journal}
+use Rattle.mas_record_journal.specs.Journals.{RecoversEither}
+use Rattle.mas_record_journal.specs.Moments.{Ran}
+use Rattle.mas_record_journal.specs.Kept.{IsJournal, IsAppended, IsTornBy, AllRecover}
 use Rattle.mas_board.specs.Boards.{Noted}
-use Rattle.mas_turns.specs.declared.turn.Turn.{Turn}
+use Rattle.mas_board_turns.specs.declared.turn.Turn.{Turn}
 
 -- ---- appending
 

@@ -1,17 +1,17 @@
 -- What is always kept of board and journal.
 use Rattle.std.specs.Prelude.{◌≡◌, ℕ, ◌≤◌, true, false, Option, None, Some, is_some, List}
-use Rattle.mas_lists.specs.Lists.{StartsWith}
+use Rattle.mas_board_lists.specs.Lists.{StartsWith}
 use Rattle.mas_io.specs.Causes.{Rose}
-use Rattle.mas_disk.specs.Disk.{Image, DiskState}
-use Rattle.mas_disk.specs.Calls.{name_or_none, picked_file}
-use Rattle.mas_disk.specs.declared.disk.DiskFail.{DiskFail}
-use Rattle.mas_disk.specs.declared.disk.DiskFail.TheVariants.{Failed}
-use Rattle.mas_journal.specs.declared.journal.Journal.{Journal}
-use Rattle.mas_journal.specs.Journals.{Recovers}
-use Rattle.mas_journal.specs.Kept.{IsJournal}
+use Rattle.mas_record_disk.specs.Disk.{Image, DiskState}
+use Rattle.mas_record_disk.specs.Calls.{name_or_none, picked_file}
+use Rattle.mas_record_disk.specs.declared.disk.DiskFail.{DiskFail}
+use Rattle.mas_record_disk.specs.declared.disk.DiskFail.TheVariants.{Failed}
+use Rattle.mas_record_journal.specs.declared.journal.Journal.{Journal}
+use Rattle.mas_record_journal.specs.Journals.{Recovers}
+use Rattle.mas_record_journal.specs.Kept.{IsJournal}
 use Rattle.mas_board.specs.Boards.{Noted}
-use Rattle.mas_views.specs.Views.{Opening}
-use Rattle.mas_views.specs.Rule.{Showing}
+use Rattle.mas_board_turns.specs.Views.{Opening}
+use Rattle.mas_board_turns.specs.Rule.{Showing}
 use Rattle.mas_record.specs.declared.deck.Deck.{Deck}
 
 -- the turns that the journal has are those of the schedule; or a refusal tore it, and they are a beginning of the schedule
@@ -40,14 +40,6 @@ pub record IsSince (first : Opening) (schedule : List ℕ) (s : DiskState) (torn
   pub counted : first.faults ≤ s.faults
   pub rose : torn ≡ Some Failed → Rose first.faults s.faults
   pub images : s.told ≡ true → (c : Image) → s.left_since first.moment (name_or_none s.picked) c → RecoversWithin first.board.schedule schedule c
-
--- a crash since this moment leaves only what a crash may leave now
-abbrev pub IsOnlyNow : DiskState → Type 0
-IsOnlyNow s = (name : List ℕ) (c : Image) → s.left_since s.moment name c → (s.file name).may_leave c
-
--- what a crash may leave now it may leave since any earlier moment
-abbrev pub IsCounted : DiskState → Type 0
-IsCounted s = (t : ℕ) (name : List ℕ) (c : Image) → t ≤ s.moment → (s.file name).may_leave c → s.left_since t name c
 
 -- how it stands with this board and this journal
 abbrev pub opening_at : {D : Type 0} → (D → DiskState) → Noted → Journal D → Opening

@@ -3,9 +3,10 @@ use Rattle.std.specs.Prelude.{◌≡◌, ℕ, ◌<◌, ◌+◌, ◌⊎◌, Bool,
 use Rattle.std.specs.Option.{option_to_list}
 use Rattle.crossbeam_queue.specs.Passes.{view, IsPassOf}
 use Rattle.asl_term.specs.declared.sequence.Starved.{Starved}
-use Rattle.mas_lists.specs.Lists.{StartsWith, Each, Row}
-use Rattle.mas_disk.specs.Disk.{DiskState}
-use Rattle.mas_disk.specs.declared.disk.DiskFail.{DiskFail}
+use Rattle.mas_board_lists.specs.Lists.{StartsWith, Each, Row}
+use Rattle.mas_record_disk.specs.Disk.{DiskState}
+use Rattle.mas_record_disk.specs.declared.disk.DiskFail.{DiskFail}
+use Rattle.mas_record_journal.specs.declared.journal.Journal.{Journal}
 use Rattle.mas_mind.specs.declared.mind.Input.{Input}
 use Rattle.mas_mind.specs.declared.mind.Outs.{Outs}
 use Rattle.mas_mind.specs.declared.mind.Feedback.{Feedback}
@@ -15,22 +16,25 @@ use Rattle.mas_board.specs.declared.seats.Sensed.{Sensed}
 use Rattle.mas_board.specs.declared.seats.Sensed.TheVariants as answer
 use Rattle.mas_board.specs.Boards.{Noted, seat_at}
 use Rattle.mas_board.specs.Seating.{HasSensed, SenseLeaves, HasEmitted, HasLeft, IsInputFor}
-use Rattle.mas_turns.specs.declared.turn.Turn.{Turn}
-use Rattle.mas_turns.specs.declared.turn.Turn.TheVariants as turn
-use Rattle.mas_turns.specs.Turns.{Entry, Plays, of, phase_after, cycles_in}
-use Rattle.mas_turns.specs.Answers.{sensed}
-use Rattle.mas_views.specs.declared.view.View.{View}
-use Rattle.mas_views.specs.Views.{Opening, no_opening}
-use Rattle.mas_views.specs.Steps.{of_first, Sits, Made, Stands, took}
-use Rattle.mas_views.specs.Rule.{order}
+use Rattle.mas_board_turns.specs.declared.turn.Turn.{Turn}
+use Rattle.mas_board_turns.specs.declared.turn.Turn.TheVariants as turn
+use Rattle.mas_board_turns.specs.Turns.{Entry, Plays, of, phase_after, cycles_in}
+use Rattle.mas_board_turns.specs.Answers.{sensed}
+use Rattle.mas_board_turns.specs.declared.view.SideView.{SideView}
+use Rattle.mas_board_turns.specs.Views.{Opening, no_opening}
+use Rattle.mas_board_turns.specs.Steps.{of_first, Sits, Made, Stands}
+use Rattle.mas_board_turns.specs.Rule.{order}
 use Rattle.mas_record.specs.declared.deck.Deck.{Deck}
 use Rattle.mas_record.specs.declared.deck.DeckFault.{DeckFault}
 use Rattle.mas_record.specs.declared.deck.DeckFault.TheVariants as fault
 use Rattle.mas_record.specs.declared.recorder.Recorder.{Recorder}
+use Rattle.mas_record.specs.declared.side.DeckView.{DeckView}
 use Rattle.mas_record.specs.declared.ticket.Ticket.{Ticket}
 use Rattle.mas_record.specs.Faults.{fault_of}
-use Rattle.mas_record.specs.Rule.{IsKept, opening, shown}
+use Rattle.mas_record.specs.Rule.{IsJournalled, IsKept, opening}
 use Rattle.mas_record.specs.Entries.{Entered, IsWritten, IsTornNow, IsAsItWas, IsSeen}
+use Rattle.mas_record.specs.Views.{took, entered_by}
+use Rattle.mas_record.specs.Standing.{IsStill}
 
 -- ---- answers
 
@@ -67,8 +71,16 @@ pub record WasTorn (f : DeckFault) (made : Option Turn) (e : Entered) : Type 0 w
 
 module _ {A D : Type 0} where
   -- what a ticket knows
-  abbrev pub known : Ticket A D → View
-  known t = view t.pass
+  abbrev pub knows : Ticket A D → DeckView D
+  knows t = view t.pass
+
+  -- what it knows of the board
+  abbrev pub known : Ticket A D → SideView
+  known t = (knows t).side
+
+  -- the journal as it was given back, each time, the last one first
+  abbrev pub journals_of : Ticket A D → List (Journal D)
+  journals_of t = (knows t).left
 
   -- the turns that its agent has made since the opening, in order
   abbrev pub turns_of : Ticket A D → List Turn
@@ -113,8 +125,14 @@ module _ {A D : Type 0} where
     pub number : new.number ≡ old.number
     pub goes_on : StartsWith x.board.schedule (seen_by old)
     pub stands : Stands (first_of old).board.state x.board.state (old.number, turns_of old)
-    pub taken : known new ≡ took (known old) (shown x)
+    pub taken : knows new ≡ took state (knows old) x
     pub kept : IsKept state (first_of old) x
+
+  -- the journal is given back once; where it is not torn it has the turns that the ticket has seen, and else a beginning of them
+  pub record IsGivenBack (old new : Ticket A D) : Type 0 where
+    pub journal : Journal D
+    pub noted : journals_of new ≡ journal ∷ journals_of old
+    pub tells : IsJournalled (seen_by new) journal.turns journal.torn
 
   -- one exchange of a ticket: the board that it met goes on from what it had seen; a turn was made of it and noted, or nothing
   -- was made; and it was given back so
@@ -127,12 +145,14 @@ module _ {A D : Type 0} where
     pub seen : seen_by new ≡ after.schedule
     pub torn : left_torn new ≡ after.halted
     pub stands : Stands (first_of old).board.state (met_by new).state (old.number, turns_of old)
+    pub recorded : IsGivenBack old new
 
   -- ---- a Sense
 
   pub record SenseRecorded (old new : Ticket A D) (s : Sensed) : Type 0 where
     pub after : Noted
     pub entered : Entered
+    pub last : entered ≡ entered_by (knows new)
     pub exchanged : Exchanged old new (sensed s) after
     pub seen : IsSeen entered (met_by new) after
     pub answered : HasSensed (met_by new) after old.number s
@@ -154,6 +174,7 @@ module _ {A D : Type 0} where
     pub made : Option Turn
     pub after : Noted
     pub entered : Entered
+    pub last : entered ≡ entered_by (knows new)
     pub exchanged : Exchanged old new made after
     pub seen : IsSeen entered (met_by new) after
     pub cause : HasFault f made entered
@@ -163,6 +184,7 @@ module _ {A D : Type 0} where
   pub record EmitRecorded (old new : Ticket A D) (outs : Outs) (feedback : Option Feedback) : Type 0 where
     pub after : Noted
     pub entered : Entered
+    pub last : entered ≡ entered_by (knows new)
     pub exchanged : Exchanged old new (Some (turn.Emitted outs feedback)) after
     pub seen : IsSeen entered (met_by new) after
     pub answered : HasEmitted (met_by new) after old.number outs feedback
@@ -171,6 +193,7 @@ module _ {A D : Type 0} where
   pub record LeaveRecorded (old new : Ticket A D) : Type 0 where
     pub after : Noted
     pub entered : Entered
+    pub last : entered ≡ entered_by (knows new)
     pub exchanged : Exchanged old new (Some turn.Gone) after
     pub seen : IsSeen entered (met_by new) after
     pub answered : HasLeft (met_by new) after old.number Budget
@@ -180,6 +203,7 @@ module _ {A D : Type 0} where
     pub made : Option Turn
     pub after : Noted
     pub entered : Entered
+    pub last : entered ≡ entered_by (knows new)
     pub exchanged : Exchanged old new made after
     pub seen : IsSeen entered (met_by new) after
     pub cause : HasFault f made entered ⊎ WasTorn f made entered
@@ -213,7 +237,8 @@ module _ {A D : Type 0} where
     pub all : length tickets ≡ length (first_by tickets).board.state.seats
 
   -- one log leads from the first board to this one; after the opening it is in the order of the schedule, and it has the turns of
-  -- each ticket; what each ticket has seen is a beginning of the schedule; and board and journal are as they are always kept
+  -- each ticket; what each ticket has seen is a beginning of the schedule; board and journal are as they are always kept; and at no
+  -- moment since a ticket gave the journal back would a crash have left less than what it had then
   pub record Closed (state : D → DiskState) (tickets : List (Ticket A D)) (x : Deck A D) : Type 0 where
     pub log : List Entry
     pub plays : Plays (first_by tickets).board.state log x.board.state
@@ -221,3 +246,4 @@ module _ {A D : Type 0} where
     pub turns : Each (λ (t : Ticket A D). of t.number log ≡ turns_of t) tickets
     pub seen : Each (λ (t : Ticket A D). StartsWith x.board.schedule (seen_by t)) tickets
     pub kept : IsKept state (first_by tickets) x
+    pub still : Each (λ (t : Ticket A D). Each (IsStill state x.journal) (journals_of t)) tickets

@@ -5,31 +5,33 @@ ghost use Rattle.crossbeam_queue.specs.Passes.{view, IsPassOf};
 ghost use Rattle.mas_mind.specs.Minds.{AreOuts};
 ghost use Rattle.mas_board.specs.declared.seats.Phase.TheVariants.{Idle, Busy};
 ghost use Rattle.mas_board.specs.Boards.{no_outs, is_gone};
-ghost use Rattle.mas_journal.specs.declared.back.BackWhy.TheVariants.{Memory};
-ghost use Rattle.mas_journal.specs.Kept.{IsJournal, IsTurn};
-ghost use Rattle.mas_lists.specs.Lists.{Each};
-ghost use Rattle.mas_turns.specs.declared.turn.Turn.TheVariants.{Gone};
-ghost use Rattle.mas_turns.specs.Answers as turns;
-ghost use Rattle.mas_views.specs.Steps as step;
-ghost use Rattle.mas_views.specs.Rule.{MayGive};
+ghost use Rattle.mas_record_disk.specs.PastDisk.{IsCounted, IsOnlyNow};
+ghost use Rattle.mas_record_journal.specs.declared.back.BackWhy.TheVariants.{Memory};
+ghost use Rattle.mas_record_journal.specs.Kept.{IsJournal, IsTurn};
+ghost use Rattle.mas_board_lists.specs.Lists.{Each};
+ghost use Rattle.mas_board_turns.specs.declared.turn.Turn.TheVariants.{Gone};
+ghost use Rattle.mas_board_turns.specs.Answers as turns;
 ghost use Rattle.mas_record.specs.Rule as rule;
 ghost use Rattle.mas_record.specs.Entries as entries;
+ghost use Rattle.mas_record.specs.Views as views;
+ghost use Rattle.mas_record.specs.Standing as standing;
 ghost use Rattle.mas_record.specs.Tickets as spec;
 ghost use Rattle.mas_record.specs.Gathering as gathering;
 
 use crate::deck::{Deck, DeckFault};
-use crate::rule::{Closes, Gives, Kept, Opens, Takes};
+use crate::rule::{RecorderCloses, RecorderGives, RecorderOpens, RecorderRule, RecorderTakes};
+use crate::side::{DeckView, SplitsDeck};
 use crate::ticket::{Ticket, Tickets};
 use asl_term::room::Roomy;
 use asl_term::sequence::Starved;
 use crossbeam_queue::{Pass, RuledArrayQueue};
 use mas_board::board::Board;
 use mas_board::seats::{Phase, Sensed};
-use mas_disk::disk::{Disk, DiskFail};
-use mas_journal::back::{Back, BackWhy};
-use mas_journal::journal::Journal;
+use mas_board_turns::view::{Departs, Making, Nothing};
 use mas_mind::mind::{Feedback, Outs};
-use mas_views::view::{Departs, Making, Nothing, Parts, View};
+use mas_record_disk::disk::{Disk, DiskFail};
+use mas_record_journal::back::{Back, BackWhy};
+use mas_record_journal::journal::Journal;
 use mas_world::artifact::Artifact;
 use std::alloc::Global;
 use std::marker::Brand;
@@ -38,12 +40,12 @@ use std::sync::Wait;
 use std::thread;
 use std::thread::Threads;
 
-pub type Line<A, D> = RuledArrayQueue<Deck<A, D>, View, Kept>;
+pub type RecorderQueue<A, D> = RuledArrayQueue<Deck<A, D>, DeckView<D>, RecorderRule>;
 
 /// The place of board and journal between two calls.
 #[derive(Drop)]
 pub struct Recorder<A: Artifact, D: Disk + Send> {
-    pub line: Line<A, D>,
+    pub line: RecorderQueue<A, D>,
 }
 
 /// Lays board and journal out for the agents, with a ticket for each, in order. Want of memory gives the disk back as it was.
@@ -63,14 +65,14 @@ pub fn open_recorder<R: Threads + Wait + Sync, A: Artifact, D: Disk + Send>(
     if tickets.reserve(agents as u64).is_err() {
         return Err(starved(journal));
     }
-    let Ok((line, pass)) = Line::ruled(alloc, 1) else {
+    let Ok((line, pass)) = RecorderQueue::ruled(alloc, 1) else {
         return Err(starved(journal));
     };
     let recorder = Recorder { line };
     only_now(&journal);
     let mut pass = recorder.begin(rt, pass, Deck { board, journal });
     for k in 0..agents {
-        let one = recorder.line.another::<Parts>(&mut pass);
+        let one = recorder.line.another::<SplitsDeck>(&mut pass);
         hand(
             &mut tickets,
             Ticket {
@@ -84,12 +86,12 @@ pub fn open_recorder<R: Threads + Wait + Sync, A: Artifact, D: Disk + Send>(
 
 /// Since this moment a crash leaves of the disk only what it may leave now.
 fn only_now<D: Disk>(journal: &Journal<D>)
-    ensures { rule.IsOnlyNow (D.state journal.now.disk) }
+    ensures { IsOnlyNow (D.state journal.now.disk) }
 {}
 
 /// What a crash may leave of the disk now it may leave since any earlier moment.
 fn counts_now<D: Disk>(journal: &Journal<D>)
-    ensures { rule.IsCounted (D.state journal.now.disk) }
+    ensures { IsCounted (D.state journal.now.disk) }
 {}
 
 /// One more ticket, for which there is room.
@@ -193,18 +195,18 @@ impl<A: Artifact, D: Disk + Send> Recorder<A, D> {
     fn begin<R: Wait>(
         &self,
         rt: &R,
-        mut pass: Pass<Deck<A, D>, View>,
+        mut pass: Pass<Deck<A, D>, DeckView<D>>,
         mut deck: Deck<A, D>,
-    ) -> Pass<Deck<A, D>, View>
+    ) -> Pass<Deck<A, D>, DeckView<D>>
         requires pass { IsPassOf self.now.line pass }
-        requires empty { (view pass).started ≡ false }
+        requires empty { (view pass).side.started ≡ false }
         requires shown { rule.shown deck ≡ deck.board }
         requires kept { rule.IsKept D.state (rule.opening D.state deck) deck }
         ensures pass { IsPassOf self.now.line result }
-        ensures opened { view result ≡ step.opened (rule.opening D.state deck) }
+        ensures opened { view result ≡ views.opened (rule.opening D.state deck) }
     {
         for _ in rt.forever() {
-            match self.line.try_push_as::<Opens>(&mut pass, deck) {
+            match self.line.try_push_as::<RecorderOpens>(&mut pass, deck) {
                 Ok(()) => return pass,
                 Err(back) => deck = back,
             }
@@ -220,7 +222,7 @@ impl<A: Artifact, D: Disk + Send> Recorder<A, D> {
         ensures met { spec.Met D.state ticket.old ticket.new result }
     {
         for _ in rt.forever() {
-            if let Some(deck) = self.line.try_pop_as::<Takes>(&mut ticket.pass) {
+            if let Some(deck) = self.line.try_pop_as::<RecorderTakes>(&mut ticket.pass) {
                 return deck;
             }
             thread::yield_now();
@@ -231,13 +233,17 @@ impl<A: Artifact, D: Disk + Send> Recorder<A, D> {
     /// Gives board and journal back, with the turn that was made.
     fn give<K: Making, R: Wait>(&self, rt: &R, ticket: &mut Ticket<A, D>, mut deck: Deck<A, D>)
         requires hand { spec.HasTicket self.now true ticket.old }
-        requires made { MayGive (rule.showing D.state) K.made ticket.old.number (spec.known ticket.old) deck }
+        requires made { standing.DeckMayGive D.state K.made ticket.old.number (spec.knows ticket.old) deck }
         ensures ticket { spec.IsTicketOf self.now ticket.new }
         ensures number { ticket.new.number ≡ ticket.old.number }
-        ensures gave { spec.known ticket.new ≡ step.gave K.made (spec.known ticket.old) (rule.shown deck) }
+        ensures gave { spec.knows ticket.new ≡ views.gave D.state K.made (spec.knows ticket.old) deck }
     {
+        only_now(&deck.journal);
         for _ in rt.forever() {
-            match self.line.try_push_as::<Gives<K>>(&mut ticket.pass, deck) {
+            match self
+                .line
+                .try_push_as::<RecorderGives<K>>(&mut ticket.pass, deck)
+            {
                 Ok(()) => return,
                 Err(back) => deck = back,
             }
@@ -255,10 +261,10 @@ impl<A: Artifact, D: Disk + Send> Recorder<A, D> {
     )
         requires hand { spec.HasTicket self.now true ticket.old }
         requires noted { K.made ≡ turns.made_by_sense answer.now }
-        requires made { MayGive (rule.showing D.state) (turns.made_by_sense answer.now) ticket.old.number (spec.known ticket.old) deck }
+        requires made { standing.DeckMayGive D.state (turns.made_by_sense answer.now) ticket.old.number (spec.knows ticket.old) deck }
         ensures ticket { spec.IsTicketOf self.now ticket.new }
         ensures number { ticket.new.number ≡ ticket.old.number }
-        ensures gave { spec.known ticket.new ≡ step.gave (turns.made_by_sense answer.now) (spec.known ticket.old) (rule.shown deck) }
+        ensures gave { spec.knows ticket.new ≡ views.gave D.state (turns.made_by_sense answer.now) (spec.knows ticket.old) deck }
     {
         self.give::<K, R>(rt, ticket, deck)
     }
@@ -274,10 +280,10 @@ impl<A: Artifact, D: Disk + Send> Recorder<A, D> {
     )
         requires hand { spec.HasTicket self.now true ticket.old }
         requires noted { K.made ≡ turns.made_by_emit outs.now.value answer.now }
-        requires made { MayGive (rule.showing D.state) (turns.made_by_emit outs.now.value answer.now) ticket.old.number (spec.known ticket.old) deck }
+        requires made { standing.DeckMayGive D.state (turns.made_by_emit outs.now.value answer.now) ticket.old.number (spec.knows ticket.old) deck }
         ensures ticket { spec.IsTicketOf self.now ticket.new }
         ensures number { ticket.new.number ≡ ticket.old.number }
-        ensures gave { spec.known ticket.new ≡ step.gave (turns.made_by_emit outs.now.value answer.now) (spec.known ticket.old) (rule.shown deck) }
+        ensures gave { spec.knows ticket.new ≡ views.gave D.state (turns.made_by_emit outs.now.value answer.now) (spec.knows ticket.old) deck }
     {
         self.give::<K, R>(rt, ticket, deck)
     }
@@ -377,11 +383,11 @@ impl<A: Artifact, D: Disk + Send> Recorder<A, D> {
     /// Takes the views of these tickets into the pass.
     fn gather(
         &self,
-        mut pass: Pass<Deck<A, D>, View>,
+        mut pass: Pass<Deck<A, D>, DeckView<D>>,
         mut tickets: Tickets<A, D>,
-    ) -> Pass<Deck<A, D>, View>
+    ) -> Pass<Deck<A, D>, DeckView<D>>
         requires pass { IsPassOf self.now.line pass }
-        requires gathers { gathering.Gathers (view pass) }
+        requires gathers { gathering.Gathers (view pass).side }
         requires tickets { Each (spec.IsTicketOf self.now) tickets }
         ensures pass { IsPassOf self.now.line result }
         ensures joined { view result ≡ gathering.joined (view pass) tickets }
@@ -391,7 +397,7 @@ impl<A: Artifact, D: Disk + Send> Recorder<A, D> {
                 number: _,
                 pass: other,
             } = ticket;
-            self.line.absorb::<Parts>(&mut pass, other);
+            self.line.absorb::<SplitsDeck>(&mut pass, other);
         }
         pass
     }
@@ -406,7 +412,7 @@ impl<A: Artifact, D: Disk + Send> Recorder<A, D> {
         };
         let Ticket { number: _, pass } = first;
         let mut pass = self.gather(pass, tickets);
-        match self.line.pop_as::<Closes, R>(rt, &mut pass) {
+        match self.line.pop_as::<RecorderCloses, R>(rt, &mut pass) {
             Some(deck) => deck,
             None => unreachable!(),
         }

@@ -1,70 +1,67 @@
 //! The rule that ties what each ticket knows to the board and the journal.
 
 use crate::deck::Deck;
+use crate::side::DeckView;
 use crossbeam_queue::protocol::{Lesson, Outcome, Protocol};
-use mas_disk::disk::Disk;
-use mas_views::view::{Making, View};
+use mas_board_turns::view::Making;
+use mas_record_disk::disk::Disk;
 use mas_world::artifact::Artifact;
 use std::marker::PhantomData;
 
 /// The rule of the queue in which board and journal lie.
-pub struct Kept;
+pub struct RecorderRule;
 
-impl<A: Artifact, D: Disk + Send> Protocol<Deck<A, D>, View> for Kept {
-    ghost use Rattle.mas_views.specs.Steps.{blank};
-    ghost use Rattle.mas_views.specs.Rule.{Holds};
-    ghost use Rattle.mas_record.specs.Rule.{showing};
+impl<A: Artifact, D: Disk + Send> Protocol<Deck<A, D>, DeckView<D>> for RecorderRule {
+    ghost use Rattle.mas_record.specs.Views.{blank};
+    ghost use Rattle.mas_record.specs.Standing.{DeckHolds};
 
-    ghost holds = { Holds (showing D.state) };
+    ghost holds = { DeckHolds D.state };
 
     ghost first = { blank };
 }
 
 /// Board and journal come.
-pub struct Opens;
+pub struct RecorderOpens;
 
-impl<A: Artifact, D: Disk + Send> Outcome<Deck<A, D>, View> for Opens {
+impl<A: Artifact, D: Disk + Send> Outcome<Deck<A, D>, DeckView<D>> for RecorderOpens {
     ghost use Rattle.std.specs.Prelude.{◌≡◌};
-    ghost use Rattle.mas_views.specs.Steps.{opened};
     ghost use Rattle.mas_record.specs.Rule.{opening};
+    ghost use Rattle.mas_record.specs.Views.{opened};
 
     ghost then = { λ v x w. w ≡ opened (opening D.state x) };
 }
 
 /// A ticket takes board and journal.
-pub struct Takes;
+pub struct RecorderTakes;
 
-impl<A: Artifact, D: Disk + Send> Outcome<Deck<A, D>, View> for Takes {
-    ghost use Rattle.mas_views.specs.Rule.{Taken};
-    ghost use Rattle.mas_record.specs.Rule.{showing};
+impl<A: Artifact, D: Disk + Send> Outcome<Deck<A, D>, DeckView<D>> for RecorderTakes {
+    ghost use Rattle.mas_record.specs.Standing.{DeckTaken};
 
-    ghost then = { Taken (showing D.state) };
+    ghost then = { DeckTaken D.state };
 }
 
 /// A ticket gives board and journal back.
-pub struct Gives<K: Making> {
+pub struct RecorderGives<K: Making> {
     of: PhantomData<K>,
 }
 
-impl<K: Making, A: Artifact, D: Disk + Send> Outcome<Deck<A, D>, View> for Gives<K> {
+impl<K: Making, A: Artifact, D: Disk + Send> Outcome<Deck<A, D>, DeckView<D>> for RecorderGives<K> {
     ghost use Rattle.std.specs.Prelude.{◌≡◌};
-    ghost use Rattle.mas_views.specs.Steps.{gave};
-    ghost use Rattle.mas_record.specs.Rule.{shown};
+    ghost use Rattle.mas_record.specs.Views.{gave};
 
-    ghost then = { λ v x w. w ≡ gave K.made v (shown x) };
+    ghost then = { λ v x w. w ≡ gave D.state K.made v x };
 }
 
 /// Whoever has every agent takes board and journal for good.
-pub struct Closes;
+pub struct RecorderCloses;
 
-impl<A: Artifact, D: Disk + Send> Outcome<Deck<A, D>, View> for Closes {
-    ghost use Rattle.mas_views.specs.Rule.{Told};
-    ghost use Rattle.mas_record.specs.Rule.{showing};
+impl<A: Artifact, D: Disk + Send> Outcome<Deck<A, D>, DeckView<D>> for RecorderCloses {
+    ghost use Rattle.mas_record.specs.Standing.{DeckTold};
 
-    ghost then = { λ v x w. Told (showing D.state) v x };
+    ghost then = { λ v x w. DeckTold D.state v x };
 }
 
-impl<A: Artifact, D: Disk + Send> Lesson<Deck<A, D>, View> for Closes {
+impl<A: Artifact, D: Disk + Send> Lesson<Deck<A, D>, DeckView<D>> for RecorderCloses {
     ghost use Rattle.std.specs.Prelude.{◌≡◌, length};
 
     ghost fact = { λ v items. length items ≡ 1 };

@@ -11,9 +11,9 @@ use Rattle.mas_report.specs.Limits.{IsWithin}
 use Rattle.mas_report.specs.Report.{options_line, agents_text, world_text, route_text, content_text, message_line, box_text, boxes_text, mail_text, first_line, front_text, report_text, IsReport}
 use Rattle.mas_report.specs.declared.reading.Told.{Told}
 use Rattle.mas_report.specs.Reading.{AreWords, Shows}
-use Rattle.mas_schedule.specs.Schedule.{IsVersion, line_feed, schedule_text, printed, AllFromOne}
-use Rattle.mas_schedule.specs.Reading.{IsCount, AreLines}
-use Rattle.mas_schedule.proofs.RunLemmas.{is_schedule, printed_last}
+use Rattle.mas_report_schedule.specs.Schedule.{IsVersion, line_feed, schedule_text, printed, AllFromOne}
+use Rattle.mas_report_schedule.specs.Reading.{IsCount, AreLines}
+use Rattle.mas_report_schedule.proofs.RunLemmas.{is_schedule, printed_last}
 
 -- ---- lines
 

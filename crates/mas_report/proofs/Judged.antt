@@ -4,11 +4,11 @@ use Rattle.std.specs.Prelude.{MatchOption, Result, Ok, Err, IfOk}
 use Rattle.mas_mind.specs.Minds.{Kind}
 use Rattle.mas_board.specs.Boards.{State, Noted, is_gone}
 use Rattle.mas_board.specs.Seating.{IsSound}
-use Rattle.mas_board.specs.declared.seats.Place.{Place}
+use Rattle.mas_board.specs.declared.seats.AgentPlace.{AgentPlace}
 use Rattle.mas_core.specs.Platform.{Platform, turn, and_run, run, ended, first_here, opening_platform}
 use Rattle.mas_core.specs.Replay.{Stuck, Came, follow_on, follow, RanAlong, Faulted}
 use Rattle.mas_core.specs.declared.replay.PlayFault.TheVariants as play
-use Rattle.mas_schedule.specs.Schedule.{printed, AllFromOne}
+use Rattle.mas_report_schedule.specs.Schedule.{printed, AllFromOne}
 use Rattle.mas_report.specs.declared.options.Options.{Options}
 use Rattle.mas_report.specs.Report.{latest, report_text, is_spent, IsAnyReport, IsOwnRun, IsRenewal}
 use Rattle.mas_report.proofs.Numbered.{run_numbers}
@@ -38,7 +38,7 @@ here_by true e a f h k = k h
 here_by false e a f h k = absurd cc
 
 -- where every agent has left there is none that has not
-pub none_here : (a : ℕ) (seats : List Place) → ended seats ≡ true → first_here a seats ≡ None
+pub none_here : (a : ℕ) (seats : List AgentPlace) → ended seats ≡ true → first_here a seats ≡ None
 none_here a [] e = refl
 none_here a (seat ∷ seats) e = here_by (is_gone seat.phase) (ended seats) a (first_here (a + 1) seats) e (none_here (a + 1) seats)
 

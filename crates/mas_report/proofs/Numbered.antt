@@ -9,12 +9,12 @@ use Rattle.mas_mind.specs.declared.mind.Thought.TheVariants as thought
 use Rattle.mas_mind.specs.Minds.{Kind}
 use Rattle.mas_board.specs.declared.seats.Phase.{Phase}
 use Rattle.mas_board.specs.declared.seats.Phase.TheVariants.{Idle, Busy, Left as Gone}
-use Rattle.mas_board.specs.declared.seats.Place.{Place}
+use Rattle.mas_board.specs.declared.seats.AgentPlace.{AgentPlace}
 use Rattle.mas_board.specs.declared.seats.Sensed.{Sensed}
 use Rattle.mas_board.specs.declared.seats.Sensed.TheVariants.{Input as Given, Left, Ahead, Halted}
 use Rattle.mas_board.specs.Boards.{State, sense, seat_at, is_at_limit, all_quiet, is_ahead, left_cycles, left_stopped, left_quiet, ahead, given}
 use Rattle.mas_core.specs.Platform.{Platform, after_sense, think, after_thought, turn_in, is_agent, turn, and_run, run}
-use Rattle.mas_schedule.specs.Schedule.{AllFromOne}
+use Rattle.mas_report_schedule.specs.Schedule.{AllFromOne}
 
 some_same : {A : Type 0} {x y : A} → Some x ≡ Some y → x ≡ y
 some_same e = cc

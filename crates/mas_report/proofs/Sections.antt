@@ -3,7 +3,7 @@ use Rattle.std.proofs.Common.{ℕ, zero, suc, ◌≡◌, ◌≤◌, ◌<◌, ◌
 use Rattle.std.specs.List.{flat_map, list_any}
 use Rattle.std.proofs.lemmas.Option.{slice_get_past}
 use Rattle.mas_mind.specs.declared.mind.Message.{Message}
-use Rattle.mas_board.specs.declared.seats.Place.{Place}
+use Rattle.mas_board.specs.declared.seats.AgentPlace.{AgentPlace}
 use Rattle.mas_board.specs.Boards.{State, seat_at, seat_of, seat_or_none, name_of}
 use Rattle.mas_report.specs.Report.{agent_text, lines_or_none, agents_text, box_text, boxes_text, is_budget, is_spent}
 
@@ -66,7 +66,7 @@ letters_past line box k out total l h = letters_end line box k out total (slice_
 
 -- ---- spent searches
 
-first_at : (seats : List Place) (n : ℕ) → n < length seats → drop n seats ≡ seat_or_none (slice_get seats n) ∷ drop (n + 1) seats
+first_at : (seats : List AgentPlace) (n : ℕ) → n < length seats → drop n seats ≡ seat_or_none (slice_get seats n) ∷ drop (n + 1) seats
 first_at [] n l = absurd (omega (arith, l))
 first_at (seat ∷ seats) zero l = refl
 first_at (seat ∷ seats) (suc k) l =
@@ -74,7 +74,7 @@ first_at (seat ∷ seats) (suc k) l =
     let same : suc (k + 1) ≡ suc k + 1 = omega arith in
     first_at seats k less ∙ ap (λ n. seat_or_none (slice_get seats k) ∷ drop n (seat ∷ seats)) same
 
-first_of : (seats : List Place) (a : ℕ) → 1 ≤ a → a ≤ length seats → drop (a - 1) seats ≡ seat_of seats a ∷ drop a seats
+first_of : (seats : List AgentPlace) (a : ℕ) → 1 ≤ a → a ≤ length seats → drop (a - 1) seats ≡ seat_of seats a ∷ drop a seats
 first_of seats a l h =
     let less : a - 1 < length seats = omega (arith, l, h) in
     let same : a - 1 + 1 ≡ a = omega (arith, l) in
@@ -90,7 +90,7 @@ spent_next s a l h b e =
     let same : a + 1 - 1 ≡ a = omega arith in
     ap (λ k. is_spent (drop k s.seats)) same ∙ sym (ap is_spent (first_of s.seats a l h) ∙ ap (λ x. x || is_spent (drop a s.seats)) b) ∙ e
 
-past : (seats : List Place) (k : ℕ) → length seats ≤ k → drop k seats ≡ []
+past : (seats : List AgentPlace) (k : ℕ) → length seats ≤ k → drop k seats ≡ []
 past [] zero l = refl
 past [] (suc k) l = refl
 past (seat ∷ seats) zero l = absurd (omega (arith, l))

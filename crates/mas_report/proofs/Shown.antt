@@ -12,10 +12,10 @@ use Rattle.mas_report.specs.declared.reading.Told.{Told}
 use Rattle.mas_report.specs.Report.{level_word, field, limits_text, options_line, first_line}
 use Rattle.mas_report.specs.Reading.{BeginsVersioned, NoVersion, AreWords, BeginsWith, NoOptions, Tells, TellsNothing, Shows, ShowsNothing, OneShown, ShownPrinted}
 use Rattle.mas_report.specs.inner.Likely.{is_digit, from_digit, with_digit, number_on, number_at, next_number, level_by, likely_with, likely}
-use Rattle.mas_schedule.specs.Schedule.{IsVersion, line_feed, lines_text, printed}
-use Rattle.mas_schedule.specs.Reading.{EndsIn, EndsInNone}
-use Rattle.mas_schedule.proofs.Ends.{are_short, one_end}
-use Rattle.mas_schedule.proofs.Told.{printed-lines}
+use Rattle.mas_report_schedule.specs.Schedule.{IsVersion, line_feed, lines_text, printed}
+use Rattle.mas_report_schedule.specs.Reading.{EndsIn, EndsInNone}
+use Rattle.mas_report_schedule.proofs.Ends.{are_short, one_end}
+use Rattle.mas_report_schedule.proofs.Told.{printed-lines}
 
 -- ---- a number
 

@@ -3,8 +3,8 @@ use Rattle.std.specs.Prelude.{ℕ, ◌≡◌, ◌<◌, ◌^◌, List, ◌++◌}
 use Rattle.mas_report.specs.declared.options.Options.{Options}
 use Rattle.mas_report.specs.declared.reading.Told.{Told}
 use Rattle.mas_report.specs.Report.{first_line, options_line}
-use Rattle.mas_schedule.specs.Schedule.{IsVersion, printed}
-use Rattle.mas_schedule.specs.Reading.{EndsIn}
+use Rattle.mas_report_schedule.specs.Schedule.{IsVersion, printed}
+use Rattle.mas_report_schedule.specs.Reading.{EndsIn}
 
 -- the bytes begin with the first line of this version, and this is behind it
 pub record BeginsVersioned (bytes : List ℕ) (version : ℕ) (rest : List ℕ) : Type 0 where

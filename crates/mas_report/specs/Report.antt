@@ -16,12 +16,12 @@ use Rattle.mas_mind.specs.Minds.{verb_text, Kind}
 use Rattle.mas_world.specs.Worlds.{World, facts}
 use Rattle.mas_board.specs.declared.seats.Phase.{Phase}
 use Rattle.mas_board.specs.declared.seats.Phase.TheVariants.{Idle, Busy, Left as Gone}
-use Rattle.mas_board.specs.declared.seats.Place.{Place}
+use Rattle.mas_board.specs.declared.seats.AgentPlace.{AgentPlace}
 use Rattle.mas_board.specs.Boards.{State, Noted, seat_at, box_of, name_of, name_or_none}
 use Rattle.mas_core.specs.Platform.{Platform, run, ended}
 use Rattle.mas_core.specs.Replay.{RanAlong}
 use Rattle.mas_report.specs.declared.options.Options.{Options}
-use Rattle.mas_schedule.specs.Schedule.{schedule_text, line_feed, printed}
+use Rattle.mas_report_schedule.specs.Schedule.{schedule_text, line_feed, printed}
 
 abbrev pub level_word : Level → List ℕ
 level_word Say = codes "say"
@@ -59,7 +59,7 @@ unfoldable pub end_line : List ℕ → Phase → ℕ → List ℕ
 end_line name phase cycle = codes "end " ++ (name ++ (codes " " ++ (phase_word phase ++ (field (codes " ") cycle ++ line_feed))))
 
 -- the section of an agent: its name, its lines and its end
-unfoldable pub agent_text : List ℕ → List ℕ → Place → List ℕ
+unfoldable pub agent_text : List ℕ → List ℕ → AgentPlace → List ℕ
 agent_text name lines seat = agent_line name ++ (lines ++ end_line name seat.phase seat.cycle)
 
 abbrev pub lines_or_none : {V : Type 0} → (V → List ℕ) → Option V → List ℕ
@@ -131,7 +131,7 @@ is_budget (Gone Budget) = true
 is_budget other = false
 
 -- some end is `budget`
-abbrev pub is_spent : List Place → Bool
+abbrev pub is_spent : List AgentPlace → Bool
 is_spent seats = list_any (λ s. is_budget s.phase) seats
 
 -- the text is the report, of this version, of the run from p along the numbers for which its own last line stands: every turn

@@ -4,7 +4,7 @@ ghost use Rattle.std.specs.Prelude.{◌≡◌, IfOk, MatchOption};
 ghost use Rattle.mas_core.specs.Fits.{Start};
 ghost use Rattle.mas_core.specs.Platform.{opening_platform};
 ghost use Rattle.mas_report.specs.Report.{latest, report_text, IsAnyReport, IsOwnRun, IsRenewal, Decided};
-ghost use Rattle.mas_schedule.specs.Schedule.{AllFromOne, IsVersion, printed};
+ghost use Rattle.mas_report_schedule.specs.Schedule.{AllFromOne, IsVersion, printed};
 
 use crate::options::Options;
 use crate::report::{LATEST, report};

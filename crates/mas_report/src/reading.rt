@@ -9,8 +9,8 @@ use crate::report::put_options;
 use asl_term::sequence::{Seq, Starved};
 use asl_term::syntax::Numbers;
 use mas_mind::mind::Level;
-use mas_schedule::last::last_schedule;
-use mas_schedule::reading::Number;
+use mas_report_schedule::last::last_schedule;
+use mas_report_schedule::reading::Number;
 use std::alloc::Global;
 
 /// What a report tells of its run: the version, the options, and the agents' numbers in the order of their turns.

@@ -7,7 +7,7 @@ ghost use Rattle.asl_term.specs.Names.{name_at};
 ghost use Rattle.mas_board.specs.Boards as board;
 ghost use Rattle.mas_board.specs.Seating.{IsSound};
 ghost use Rattle.mas_report.specs.Report as spec;
-ghost use Rattle.mas_schedule.specs.Schedule.{AllFromOne, IsVersion, printed};
+ghost use Rattle.mas_report_schedule.specs.Schedule.{AllFromOne, IsVersion, printed};
 
 use crate::options::Options;
 use asl_term::names::Names;
@@ -20,7 +20,7 @@ use mas_board::seats::Phase;
 use mas_core::robin::Done;
 use mas_mind::mind::{End, Level, Message, verb_text};
 use mas_mind::thinking::Mind;
-use mas_schedule::schedule::put_schedule;
+use mas_report_schedule::schedule::put_schedule;
 use mas_world::artifact::Artifact;
 use mas_world::world::World;
 use std::alloc::Global;

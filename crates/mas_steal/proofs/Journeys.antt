@@ -1,20 +1,20 @@
 -- The agents of a run by stealing workers, before and after.
 use Rattle.std.proofs.Common.{◌≡◌, ℕ, suc, ◌-◌, ◌<◌, Some, List, [], ◌∷◌, ◌++◌, length, map, slice_get, sym, refl, ap, ◌∙◌, subst, append_assoc, length-append, arith}
 use Rattle.mas_mind.specs.Minds.{Kind}
-use Rattle.mas_turns.specs.Follows.{resting}
+use Rattle.mas_board_turns.specs.Follows.{resting}
 use Rattle.mas_baton.specs.declared.baton.Baton.{Baton}
 use Rattle.mas_baton.specs.Seats.{IsSeatOf}
-use Rattle.mas_lists.specs.Lists.{Each, times, numbers_from}
-use Rattle.mas_lists.proofs.Sums.{each_append, each_map}
-use Rattle.mas_ready.specs.Rule.{numbers, CameOf}
-use Rattle.mas_going.specs.declared.going.Going.{Going}
-use Rattle.mas_going.specs.Goings.{Became, Went as WentOn, Stopped}
+use Rattle.mas_board_lists.specs.Lists.{Each, times, numbers_from}
+use Rattle.mas_board_lists.proofs.Sums.{each_append, each_map}
+use Rattle.mas_pool_ready.specs.Rule.{numbers, CameOf}
+use Rattle.mas_pool_task.specs.declared.going.Going.{Going}
+use Rattle.mas_pool_task.specs.Goings.{Became, GoingWent, Stopped}
 use Rattle.mas_pool.specs.Workers.{number_of, AreAt, EndedOf}
 use Rattle.mas_pool.proofs.Workers.{taken_seat, goes_back, has_ended}
 use Rattle.mas_pool.proofs.Together.{Total}
-use Rattle.mas_rack.specs.Rule.{Waits}
-use Rattle.mas_rack.specs.Turns.{Went, Ended}
-use Rattle.mas_rack.specs.Racks.{first_home, AllWait, Answered}
+use Rattle.mas_steal_rack.specs.Rule.{Waits}
+use Rattle.mas_steal_rack.specs.Turns.{Went, Ended}
+use Rattle.mas_steal_rack.specs.Racks.{first_home, AllWait, Answered}
 use Rattle.mas_steal.specs.declared.journey.Journey.{Journey}
 use Rattle.mas_steal.specs.Journeys.{home_of, goings_of, IsFrom, AreSetOut, IsUnderWay}
 
@@ -110,7 +110,7 @@ module _ {V A : Type 0} (k : Kind V) where
       let h = same_home b first (home_of j) e in
       subst (λ (z : Baton A × List (Going V A)). IsSeatOf z.0 j.going.seat) h (taken_seat k j.baton.value j.beginning.value.value j.going r.home r.came)
 
-  pub turn_again : (j : Journey V A) (g : Going V A) → IsUnderWay k j → WentOn k (resting j.going.mind) j.going g → Went number_at home_of (IsUnderWay k) j (record j { going = g })
+  pub turn_again : (j : Journey V A) (g : Going V A) → IsUnderWay k j → GoingWent k (resting j.going.mind) j.going g → Went number_at home_of (IsUnderWay k) j (record j { going = g })
   turn_again j g r w = record {
     same = w.same.number;
     home = refl;

@@ -2,10 +2,10 @@
 use Rattle.std.specs.Prelude.{◌≡◌, List, map}
 use Rattle.mas_mind.specs.Minds.{Kind}
 use Rattle.mas_baton.specs.declared.baton.Baton.{Baton}
-use Rattle.mas_lists.specs.Lists.{Each}
-use Rattle.mas_ready.specs.Rule.{CameOf}
-use Rattle.mas_going.specs.declared.going.Going.{Going}
-use Rattle.mas_going.specs.Goings.{Became}
+use Rattle.mas_board_lists.specs.Lists.{Each}
+use Rattle.mas_pool_ready.specs.Rule.{CameOf}
+use Rattle.mas_pool_task.specs.declared.going.Going.{Going}
+use Rattle.mas_pool_task.specs.Goings.{Became}
 use Rattle.mas_pool.specs.Workers.{number_of, AreAt}
 use Rattle.mas_steal.specs.declared.journey.Journey.{Journey}
 

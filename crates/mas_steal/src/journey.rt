@@ -1,16 +1,16 @@
 //! An agent on its way, with what all agents of its run have in common.
 
 ghost use Rattle.std.specs.Prelude.{◌≡◌, IfOk, map};
-ghost use Rattle.mas_turns.specs.Follows.{resting};
+ghost use Rattle.mas_board_turns.specs.Follows.{resting};
 ghost use Rattle.mas_steal.specs.Journeys as spec;
 
 use asl_term::sequence::{Seq, Starved};
 use mas_baton::baton::Baton;
-use mas_going::gate::Gate;
-use mas_going::going::{Going, Goings, cycle};
 use mas_mind::thinking::Mind;
-use mas_rack::agent::Agent;
-use mas_rack::turns::{Turned, Turns};
+use mas_pool_task::gate::Gate;
+use mas_pool_task::going::{Going, Goings, cycle};
+use mas_steal_rack::agent::ReadyAgent;
+use mas_steal_rack::turns::{AgentTurned, Turns};
 use mas_world::artifact::Artifact;
 use std::alloc::{AllocError, Global};
 use std::snapshot::Snapshot;
@@ -28,7 +28,7 @@ pub struct Journey<M: Mind, A: Artifact> {
     pub beginning: Snapshot<Beginning<M, A>>,
 }
 
-impl<M: Mind, A: Artifact> Agent for Journey<M, A> {
+impl<M: Mind, A: Artifact> ReadyAgent for Journey<M, A> {
     ghost use Rattle.mas_steal.specs.Journeys.{home_of, IsUnderWay};
 
     type Home = (Baton<A>, Goings<M, A>);
@@ -61,15 +61,15 @@ impl<'a, M: Mind, A: Artifact, G: Gate> Turns<Journey<M, A>> for Cycles<'a, M, A
         &self,
         rt: &R,
         mut agent: Journey<M, A>,
-    ) -> Turned<Journey<M, A>> {
+    ) -> AgentTurned<Journey<M, A>> {
         let before = agent.going.cycle;
         if !cycle(rt, self.alloc, self.baton, self.gate, &mut agent.going) {
-            return Turned::Ended(agent);
+            return AgentTurned::Ended(agent);
         }
         if agent.going.cycle == before {
-            return Turned::Ahead(agent);
+            return AgentTurned::Ahead(agent);
         }
-        Turned::Again(agent)
+        AgentTurned::Again(agent)
     }
 }
 

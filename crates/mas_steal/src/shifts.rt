@@ -1,19 +1,19 @@
 //! Workers side by side.
 
 ghost use Rattle.std.specs.Prelude.{◌≡◌, ◌<◌, ◌≤◌, length, IfOk};
-ghost use Rattle.mas_lists.specs.Lists.{Each, numbers_from};
-ghost use Rattle.mas_ready.specs.Rule.{numbers};
-ghost use Rattle.mas_going.specs.Goings.{Became};
+ghost use Rattle.mas_board_lists.specs.Lists.{Each, numbers_from};
+ghost use Rattle.mas_pool_ready.specs.Rule.{numbers};
+ghost use Rattle.mas_pool_task.specs.Goings.{Became};
 ghost use Rattle.mas_pool.specs.Workers as spec;
 
 use crate::journey::{Cycles, arrived, set_out};
 use asl_term::sequence::Starved;
 use mas_baton::baton::Baton;
-use mas_going::gate::Gate;
-use mas_going::going::Goings;
 use mas_mind::thinking::Mind;
-use mas_ready::ends::in_order;
-use mas_thieves::running::run_all;
+use mas_pool_ready::ends::in_order;
+use mas_pool_task::gate::Gate;
+use mas_pool_task::going::Goings;
+use mas_steal_thieves::running::run_all;
 use mas_world::artifact::Artifact;
 use std::alloc::Global;
 use std::snapshot::Snapshot;

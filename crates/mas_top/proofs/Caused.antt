@@ -2,18 +2,18 @@
 use Rattle.std.proofs.Common.{ℕ, ◌≡◌, inl, inr, Bool, true, false, List, Option, sym, subst, refl}
 use Rattle.asl_term.specs.declared.syntax.Filed.{Filed}
 use Rattle.mas_core.specs.declared.replay.PlayFault.TheVariants as play
-use Rattle.mas_schedule.specs.declared.reading.LineFault.TheVariants as line
+use Rattle.mas_report_schedule.specs.declared.reading.LineFault.TheVariants as line
 use Rattle.mas_io.specs.Causes.{Rose}
 use Rattle.mas_io.specs.Sink.{grown}
 use Rattle.mas_io.specs.Told.{Told, IsUnwritten}
 use Rattle.mas_io.specs.Writing.{IsCut}
-use Rattle.mas_reading.specs.declared.sources.Source.{Source}
-use Rattle.mas_reading.specs.declared.status.Status.{Status}
-use Rattle.mas_reading.specs.declared.status.Status.TheVariants.{Ok, No, Usage, Missing, ReadFault, WriteFault, Refused, Limit, Budget, Memory, DiskFault}
-use Rattle.mas_reading.specs.Statuses.{whole}
-use Rattle.mas_reading.proofs.Refusing.{refuses, Tells, no_report, first_by}
-use Rattle.mas_opening.specs.Opening.{Setup}
-use Rattle.mas_reading.specs.Known.{known}
+use Rattle.mas_top_files.specs.declared.sources.Source.{Source}
+use Rattle.mas_top_status.specs.declared.status.Status.{Status}
+use Rattle.mas_top_status.specs.declared.status.Status.TheVariants.{Ok, No, Usage, Missing, ReadFault, WriteFault, Refused, Limit, Budget, Memory, DiskFault}
+use Rattle.mas_top_status.specs.Statuses.{whole}
+use Rattle.mas_top_files.proofs.Refusing.{refuses, Tells, no_report, first_by}
+use Rattle.mas_top_opening.specs.Opening.{Setup}
+use Rattle.mas_top_files.specs.Known.{known}
 use Rattle.mas_top.specs.Runs.{Wanted, schedules, FileRefused, GivenRefused}
 use Rattle.mas_top.specs.declared.playing.ScheduleFault.TheVariants as fault
 use Rattle.mas_top.specs.Caused.{Texts, ForFiles, FileCaused}

@@ -6,16 +6,16 @@ use Rattle.mas_io.specs.Causes.{Rose}
 use Rattle.mas_io.specs.Sink.{grown}
 use Rattle.mas_io.specs.Told.{Told, IsUnwritten}
 use Rattle.mas_io.specs.Writing.{Wrote, IsCut}
-use Rattle.mas_reading.specs.declared.sources.Source.{Source}
-use Rattle.mas_reading.specs.declared.status.Status.{Status}
-use Rattle.mas_reading.specs.declared.status.Status.TheVariants.{Ok, No, Usage, Missing, ReadFault, WriteFault, Refused, Limit, Budget, Memory, DiskFault}
-use Rattle.mas_reading.specs.Files.{HasFile}
-use Rattle.mas_reading.specs.Known.{known}
-use Rattle.mas_reading.specs.Laws.{Surely}
-use Rattle.mas_reading.specs.Sources.{UnlessMemory}
-use Rattle.mas_reading.specs.Statuses.{verdict}
-use Rattle.mas_reading.proofs.Refusing.{refuses, no_report, first_by}
-use Rattle.mas_reading.proofs.Single.{with_file, one_source}
+use Rattle.mas_top_files.specs.declared.sources.Source.{Source}
+use Rattle.mas_top_status.specs.declared.status.Status.{Status}
+use Rattle.mas_top_status.specs.declared.status.Status.TheVariants.{Ok, No, Usage, Missing, ReadFault, WriteFault, Refused, Limit, Budget, Memory, DiskFault}
+use Rattle.mas_top_files.specs.Files.{HasFile}
+use Rattle.mas_top_files.specs.Known.{known}
+use Rattle.mas_top_files.specs.Laws.{Surely}
+use Rattle.mas_top_files.specs.Sources.{UnlessMemory}
+use Rattle.mas_top_status.specs.Statuses.{verdict}
+use Rattle.mas_top_files.proofs.Refusing.{refuses, no_report, first_by}
+use Rattle.mas_top_files.proofs.Single.{with_file, one_source}
 use Rattle.mas_top.specs.Checking.{IsJudged, answer_text, Claim, HasClaimed, IsDecided, reports, ClaimRefused, IsYes, IsNo, ClaimCaused, Judges, IsClaimComplete}
 use Rattle.mas_top.specs.Runs.{most_bytes}
 

@@ -7,29 +7,29 @@ use Rattle.mas_board.specs.Boards as boards
 use Rattle.mas_core.specs.Platform.{Platform}
 use Rattle.mas_core.specs.Replay.{RanAlong}
 use Rattle.mas_core.specs.Robin.{RanOut}
-use Rattle.mas_demo.specs.Files.{demo_files}
-use Rattle.mas_demo.specs.Lines.{demo_text}
+use Rattle.mas_top_demo.specs.Files.{demo_files}
+use Rattle.mas_top_demo.specs.Lines.{demo_text}
 use Rattle.mas_io.specs.Causes.{Rose}
 use Rattle.mas_io.specs.Sink.{grown}
 use Rattle.mas_io.specs.Told.{Told, IsUnwritten}
 use Rattle.mas_io.specs.Writing.{IsCut}
 use Rattle.mas_mind.specs.Minds.{Kind}
 use Rattle.env_file.specs.Worlds.{has_name}
-use Rattle.mas_demo.proofs.Described.{demo_not_refused}
+use Rattle.mas_top_demo.proofs.Described.{demo_not_refused}
 use Rattle.mas_report.specs.Limits.{defaults}
-use Rattle.mas_reading.proofs.Unless.{unless}
-use Rattle.mas_reading.specs.Files.{Reader, IsRefusal, unfetched, faulty, missing, too_long, failed, starved}
-use Rattle.mas_reading.specs.Known.{known}
-use Rattle.mas_reading.specs.Sources.{HasSource, FirstRefused, AreRefused, UnlessMemory}
-use Rattle.mas_reading.specs.declared.sources.Source.{Source}
-use Rattle.mas_reading.specs.declared.status.Status.{Status}
-use Rattle.mas_reading.specs.declared.status.Status.TheVariants.{Ok, No, Usage, Missing, ReadFault, WriteFault, Refused, Limit, Budget, Memory, DiskFault}
+use Rattle.mas_top_files.proofs.Unless.{unless}
+use Rattle.mas_top_files.specs.Files.{Reader, IsRefusal, unfetched, faulty, missing, too_long, failed, starved}
+use Rattle.mas_top_files.specs.Known.{known}
+use Rattle.mas_top_files.specs.Sources.{HasSource, FirstRefused, AreRefused, UnlessMemory}
+use Rattle.mas_top_files.specs.declared.sources.Source.{Source}
+use Rattle.mas_top_status.specs.declared.status.Status.{Status}
+use Rattle.mas_top_status.specs.declared.status.Status.TheVariants.{Ok, No, Usage, Missing, ReadFault, WriteFault, Refused, Limit, Budget, Memory, DiskFault}
 use Rattle.mas_top.specs.Demo.{DemoHas, IsToldRun, IsDemo, DemoRefused, DemoCaused, IsDemoComplete}
 use Rattle.mas_report.specs.declared.options.Options.{Options}
 use Rattle.mas_world.specs.Worlds.{Used}
-use Rattle.mas_opening.specs.Opening.{Setup, setup, opening}
+use Rattle.mas_top_opening.specs.Opening.{Setup, setup, opening}
 use Rattle.mas_top.specs.Ways.{Way, way_of}
-use Rattle.mas_reading.proofs.Refusing.{tells, Tells, first_by}
+use Rattle.mas_top_files.proofs.Refusing.{tells, Tells, first_by}
 use Rattle.mas_top.proofs.Runs.{by_workers}
 
 -- the lines of a run by so many workers

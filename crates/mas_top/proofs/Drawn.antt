@@ -7,21 +7,21 @@ use Rattle.mas_io.specs.Sink.{grown}
 use Rattle.mas_io.specs.Told.{Told}
 use Rattle.mas_io.specs.Writing.{Wrote}
 use Rattle.mas_io.specs.Causes.{Rose}
-use Rattle.mas_reading.specs.declared.sources.Source.{Source}
-use Rattle.mas_reading.specs.declared.status.Status.{Status}
-use Rattle.mas_reading.specs.declared.status.Status.TheVariants.{Ok, No, Usage, Missing, ReadFault, WriteFault, Refused, Limit, Budget, Memory, DiskFault}
-use Rattle.mas_reading.specs.Statuses.{whole}
-use Rattle.mas_reading.specs.Files.{HasFile, IsRefusal}
-use Rattle.mas_reading.specs.Known.{known}
-use Rattle.mas_reading.specs.Sources.{FirstRefused}
-use Rattle.mas_reading.proofs.Unless.{unless}
-use Rattle.mas_reading.proofs.Single.{with_file, one_source, not_refused, not_refused_file}
-use Rattle.mas_opening.specs.Opening.{Setup, opening}
+use Rattle.mas_top_files.specs.declared.sources.Source.{Source}
+use Rattle.mas_top_status.specs.declared.status.Status.{Status}
+use Rattle.mas_top_status.specs.declared.status.Status.TheVariants.{Ok, No, Usage, Missing, ReadFault, WriteFault, Refused, Limit, Budget, Memory, DiskFault}
+use Rattle.mas_top_status.specs.Statuses.{whole}
+use Rattle.mas_top_files.specs.Files.{HasFile, IsRefusal}
+use Rattle.mas_top_files.specs.Known.{known}
+use Rattle.mas_top_files.specs.Sources.{FirstRefused}
+use Rattle.mas_top_files.proofs.Unless.{unless}
+use Rattle.mas_top_files.proofs.Single.{with_file, one_source, not_refused, not_refused_file}
+use Rattle.mas_top_opening.specs.Opening.{Setup, opening}
 use Rattle.mas_top.specs.Runs.{How, by_workers, by_file, Wanted, Given, given, most_bytes, IsFollowed, HasWay, HasGiven, schedules, FileRefused, NoneRefused}
 use Rattle.mas_top.specs.Ways.{Way, alone, shared, along, IsScheduled}
 use Rattle.mas_top.specs.Caused.{Texts, ForFiles, FileCaused}
 use Rattle.mas_top.specs.Headline.{IsRunReportOf, IsHeadline, PrintsSchedule, IsComplete}
-use Rattle.mas_schedule.specs.Schedule.{printed}
+use Rattle.mas_report_schedule.specs.Schedule.{printed}
 use Rattle.mas_top.proofs.Followed.{file_same, one_schedule, followed_accepted}
 
 some_same : {A : Type 0} {x y : A} → Some x ≡ Some y → x ≡ y

@@ -6,12 +6,12 @@ use Rattle.mas_core.specs.Platform.{run, first_here}
 use Rattle.mas_core.specs.Replay.{follow}
 use Rattle.mas_core.specs.declared.replay.PlayFault.TheVariants as play
 use Rattle.mas_report.proofs.Judged.{came_stuck, follows, none_here}
-use Rattle.mas_schedule.specs.Reading.{IsSchedule}
-use Rattle.mas_schedule.specs.declared.reading.LineFault.TheVariants as line
-use Rattle.mas_schedule.proofs.Answered.{one_answer}
-use Rattle.mas_reading.specs.declared.sources.Source.{Source}
-use Rattle.mas_reading.proofs.Single.{Accepted}
-use Rattle.mas_opening.specs.Opening.{Setup, opening}
+use Rattle.mas_report_schedule.specs.Reading.{IsSchedule}
+use Rattle.mas_report_schedule.specs.declared.reading.LineFault.TheVariants as line
+use Rattle.mas_report_schedule.proofs.Answered.{one_answer}
+use Rattle.mas_top_files.specs.declared.sources.Source.{Source}
+use Rattle.mas_top_files.proofs.Single.{Accepted}
+use Rattle.mas_top_opening.specs.Opening.{Setup, opening}
 use Rattle.mas_top.specs.Runs.{by_file, IsFollowed, IsStopped, schedules}
 use Rattle.mas_top.specs.declared.playing.ScheduleFault.TheVariants as fault
 

@@ -7,17 +7,17 @@ use Rattle.mas_world.specs.Worlds.{Used}
 use Rattle.mas_core.specs.Replay.{Faulted}
 use Rattle.mas_core.specs.declared.replay.PlayFault.{PlayFault}
 use Rattle.mas_io.specs.declared.shelf.Fetched.TheVariants.{Bytes}
-use Rattle.mas_schedule.specs.Reading.{IsSchedule}
-use Rattle.mas_reading.specs.declared.sources.Source.{Source}
-use Rattle.mas_reading.specs.declared.status.Status.{Status}
-use Rattle.mas_reading.specs.Files.{Has, HasFile, IsRefusal, unfetched, IsUnfetched}
-use Rattle.mas_reading.specs.Known.{known}
-use Rattle.mas_reading.specs.Sources.{HasSource, FirstRefused, AreRefused}
-use Rattle.mas_reading.proofs.Fetched.{refused_by, refusal_from}
-use Rattle.mas_reading.proofs.Unless.{unless, unless_as}
+use Rattle.mas_report_schedule.specs.Reading.{IsSchedule}
+use Rattle.mas_top_files.specs.declared.sources.Source.{Source}
+use Rattle.mas_top_status.specs.declared.status.Status.{Status}
+use Rattle.mas_top_files.specs.Files.{Has, HasFile, IsRefusal, unfetched, IsUnfetched}
+use Rattle.mas_top_files.specs.Known.{known}
+use Rattle.mas_top_files.specs.Sources.{HasSource, FirstRefused, AreRefused}
+use Rattle.mas_top_files.proofs.Fetched.{refused_by, refusal_from}
+use Rattle.mas_top_files.proofs.Unless.{unless, unless_as}
 use Rattle.mas_report.specs.declared.options.Options.{Options}
-use Rattle.mas_opening.specs.Opening.{Setup, setup, opening}
-use Rattle.mas_opening.proofs.Able.{can_run}
+use Rattle.mas_top_opening.specs.Opening.{Setup, setup, opening}
+use Rattle.mas_top_opening.proofs.Able.{can_run}
 use Rattle.mas_top.specs.Runs.{by_workers, by_file, Wanted, wanted, given, most_bytes, IsStopped, IsUnfollowed, schedule_status, schedules, FileRefused, GivenRefused}
 use Rattle.mas_top.specs.declared.playing.ScheduleFault.{ScheduleFault}
 use Rattle.mas_top.specs.Ways.{along, way_of}

@@ -8,26 +8,26 @@ use Rattle.mas_io.specs.Causes.{Rose}
 use Rattle.mas_io.specs.Sink.{grown}
 use Rattle.mas_io.specs.Told.{Told, IsUnwritten}
 use Rattle.mas_io.specs.Writing.{Wrote, IsCut}
-use Rattle.mas_journal.specs.Journals.{recovered_image}
-use Rattle.mas_schedule.specs.Schedule.{printed}
+use Rattle.mas_record_journal.specs.Journals.{recovered_image}
+use Rattle.mas_report_schedule.specs.Schedule.{printed}
 use Rattle.mas_report.specs.declared.options.Options.{Options}
-use Rattle.mas_recorded.specs.declared.fault.RecordFault.{RecordFault}
-use Rattle.mas_recorded.specs.declared.fault.RecordFault.TheVariants as fault
-use Rattle.mas_recordings.specs.declared.report.Written.{Written}
-use Rattle.mas_reading.specs.declared.sources.Source.{Source}
-use Rattle.mas_reading.specs.declared.status.Status.{Status}
-use Rattle.mas_reading.specs.declared.status.Status.TheVariants.{Ok, No, Usage, Missing, ReadFault, WriteFault, Refused, Limit, Budget, Memory, DiskFault}
-use Rattle.mas_reading.specs.Known.{known}
-use Rattle.mas_reading.specs.Sources.{HasSource, FirstRefused, AreRefused}
-use Rattle.mas_reading.specs.Statuses.{whole}
-use Rattle.mas_reading.proofs.Refusing.{refuses}
+use Rattle.mas_record_run.specs.declared.fault.RecordFault.{RecordFault}
+use Rattle.mas_record_run.specs.declared.fault.RecordFault.TheVariants as fault
+use Rattle.mas_report.specs.declared.output.Output.{Output}
+use Rattle.mas_top_files.specs.declared.sources.Source.{Source}
+use Rattle.mas_top_status.specs.declared.status.Status.{Status}
+use Rattle.mas_top_status.specs.declared.status.Status.TheVariants.{Ok, No, Usage, Missing, ReadFault, WriteFault, Refused, Limit, Budget, Memory, DiskFault}
+use Rattle.mas_top_files.specs.Known.{known}
+use Rattle.mas_top_files.specs.Sources.{HasSource, FirstRefused, AreRefused}
+use Rattle.mas_top_status.specs.Statuses.{whole}
+use Rattle.mas_top_files.proofs.Refusing.{refuses}
 use Rattle.mas_world.specs.Worlds.{Used}
-use Rattle.mas_keeping.specs.declared.keep.Keeping.{Keeping}
-use Rattle.mas_keeping.specs.declared.keep.Keeping.TheVariants.{Anew, On}
-use Rattle.mas_keeping.specs.Keeping.{IsKept, KeepCause, fault_status, KeepRefused}
+use Rattle.mas_top_record.specs.declared.keep.Keeping.{Keeping}
+use Rattle.mas_top_record.specs.declared.keep.Keeping.TheVariants.{Anew, On}
+use Rattle.mas_top_record.specs.Keeping.{IsKept, KeepCause, fault_status, KeepRefused}
 use Rattle.mas_top.specs.Caused.{ForFiles}
 use Rattle.mas_top.specs.Headline.{IsHeadline}
-use Rattle.mas_opening.specs.Opening.{Setup, setup, opening}
+use Rattle.mas_top_opening.specs.Opening.{Setup, setup, opening}
 use Rattle.mas_top.specs.Recording.{Recorded, wanted_of, Lent, before_of, after_of, IsLeft, IsRecordedReport, RecordRefused, AnswerRefused}
 use Rattle.mas_top.specs.Recording.{RecordCaused, KeepsSchedule, KeepsPrinted, CanGoOn, IsRecordComplete}
 use Rattle.mas_top.specs.Runs.{given, HasGiven, NoneRefused}
@@ -96,7 +96,7 @@ module _ (l : Lent) where
 
   -- what the run of a source in a file comes to, for the names that are asked for
   pub answered : (o : Options) (objects : List Used) (r : Recorded) (held : Option (List Filed)) (source : Source) (before after : ℕ) (word file : List ℕ)
-      (result : Result Written Status) → word ≡ r.project → file ≡ r.file → HasSource (known objects) o.cycles held word source →
+      (result : Result Output Status) → word ≡ r.project → file ≡ r.file → HasSource (known objects) o.cycles held word source →
       MatchResult result (λ w. IsKept agent_kind o (opening (setup o objects) source) r.keeping file (before_of l) (after_of l) w.spent w.text)
       (KeepRefused agent_kind (opening (setup o objects) source) r.keeping file (before_of l) (after_of l)) →
       MatchResult result (λ w. ForFiles (IsRecordedReport l (setup o objects) r) (setup o objects) held (wanted_of r) w.spent w.text)

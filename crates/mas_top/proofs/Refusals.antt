@@ -7,19 +7,19 @@ use Rattle.mas_core.specs.Platform.{run, first_here}
 use Rattle.mas_core.specs.Replay.{Followed, Stuck, follow}
 use Rattle.mas_core.specs.declared.replay.PlayFault.{PlayFault}
 use Rattle.mas_core.specs.declared.replay.PlayFault.TheVariants as play
-use Rattle.mas_schedule.specs.Reading.{IsBadLine}
-use Rattle.mas_schedule.specs.declared.reading.LineFault.TheVariants as line
-use Rattle.mas_schedule.proofs.Answered.{one_answer}
-use Rattle.mas_reading.specs.declared.sources.Source.{Source}
-use Rattle.mas_reading.specs.declared.status.Status.{Status}
-use Rattle.mas_reading.specs.Files.{IsRefusal}
-use Rattle.mas_reading.specs.Known.{known}
-use Rattle.mas_reading.specs.Laws.{Surely}
-use Rattle.mas_reading.specs.Sources.{HasSource, FirstRefused, AreRefused}
-use Rattle.mas_reading.proofs.Unless.{unless}
-use Rattle.mas_reading.proofs.Single.{some_same, one_source, not_refused}
-use Rattle.mas_reading.proofs.Refusals.{OneFault, file_one, calm, one_refusal as one_of_project}
-use Rattle.mas_opening.specs.Opening.{Setup, opening}
+use Rattle.mas_report_schedule.specs.Reading.{IsBadLine}
+use Rattle.mas_report_schedule.specs.declared.reading.LineFault.TheVariants as line
+use Rattle.mas_report_schedule.proofs.Answered.{one_answer}
+use Rattle.mas_top_files.specs.declared.sources.Source.{Source}
+use Rattle.mas_top_status.specs.declared.status.Status.{Status}
+use Rattle.mas_top_files.specs.Files.{IsRefusal}
+use Rattle.mas_top_files.specs.Known.{known}
+use Rattle.mas_top_files.specs.Laws.{Surely}
+use Rattle.mas_top_files.specs.Sources.{HasSource, FirstRefused, AreRefused}
+use Rattle.mas_top_files.proofs.Unless.{unless}
+use Rattle.mas_top_files.proofs.Single.{some_same, one_source, not_refused}
+use Rattle.mas_top_files.proofs.Refusals.{OneFault, file_one, calm, one_refusal as one_of_project}
+use Rattle.mas_top_opening.specs.Opening.{Setup, opening}
 use Rattle.mas_top.specs.Runs.{Wanted, IsStopped, schedules, FileRefused, ScheduleRefused}
 use Rattle.mas_top.specs.declared.playing.ScheduleFault.TheVariants as fault
 use Rattle.mas_top.specs.Laws.{OneRefusal}

@@ -7,25 +7,25 @@ use Rattle.asl_cycle.specs.Agent.{Mindset, agent_kind}
 use Rattle.mas_mind.specs.Minds.{Kind}
 use Rattle.mas_board.specs.Boards.{no_seat}
 use Rattle.mas_core.specs.Platform.{Platform, run, ended}
-use Rattle.mas_laws.specs.Ends.{RunsEnd}
-use Rattle.mas_laws.specs.Lead.{NeverFarAhead}
-use Rattle.mas_laws.specs.Mail.{MailFromOpening}
-use Rattle.mas_laws.specs.Quiet.{QuietLasts}
-use Rattle.mas_schedule.specs.Reading.{IsCount}
-use Rattle.mas_schedule.specs.Schedule.{printed, AllFromOne}
-use Rattle.mas_schedule.proofs.RunLemmas.{is_schedule}
-use Rattle.mas_schedule.proofs.Sizes.{schedule_short}
+use Rattle.mas_core_laws.specs.Ends.{RunsEnd}
+use Rattle.mas_core_laws.specs.Lead.{NeverFarAhead}
+use Rattle.mas_core_laws.specs.Mail.{MailFromOpening}
+use Rattle.mas_core_laws.specs.Quiet.{QuietLasts}
+use Rattle.mas_report_schedule.specs.Reading.{IsCount}
+use Rattle.mas_report_schedule.specs.Schedule.{printed, AllFromOne}
+use Rattle.mas_report_schedule.proofs.RunLemmas.{is_schedule}
+use Rattle.mas_report_schedule.proofs.Sizes.{schedule_short}
 use Rattle.mas_report.specs.Report.{latest, front_text, report_text, is_spent, IsReport}
 use Rattle.mas_report.proofs.Backs.{told, shown, words_within}
 use Rattle.mas_report.proofs.Numbered.{run_numbers}
-use Rattle.mas_reading.specs.declared.sources.Source.{Source}
-use Rattle.mas_reading.specs.Projects.{most_cycles}
-use Rattle.mas_opening.specs.Opening.{Setup, opening, opening_minds, opening_world}
+use Rattle.mas_top_files.specs.declared.sources.Source.{Source}
+use Rattle.mas_top_files.specs.Projects.{most_cycles}
+use Rattle.mas_top_opening.specs.Opening.{Setup, opening, opening_minds, opening_world}
 use Rattle.mas_top.specs.Runs.{Wanted, Given, given, HasGiven}
 use Rattle.mas_top.specs.Ways.{along}
 use Rattle.mas_top.specs.Headline.{IsReportOf, IsRunReportOf}
 use Rattle.mas_top.specs.Laws.{CanRepeat, CanCheck, CanRenew, ReportsKeepLaws}
-use Rattle.mas_opening.proofs.Able.{can_run}
+use Rattle.mas_top_opening.proofs.Able.{can_run}
 
 some_same : {A : Type 0} {x y : A} → Some x ≡ Some y → x ≡ y
 some_same e = cc

@@ -7,7 +7,7 @@ use Rattle.mas_board.specs.Seating.{IsSound}
 use Rattle.mas_core.specs.Platform.{Platform, run, ended}
 use Rattle.mas_core.specs.Replay.{RanAlong}
 use Rattle.mas_core.specs.Robin.{turns, RanOut}
-use Rattle.mas_schedule.specs.Schedule.{printed, AllFromOne}
+use Rattle.mas_report_schedule.specs.Schedule.{printed, AllFromOne}
 use Rattle.mas_report.specs.declared.options.Options.{Options}
 use Rattle.mas_report.specs.Report.{latest, IsReport, report_text, is_spent}
 use Rattle.mas_report.proofs.Numbered.{run_numbers}

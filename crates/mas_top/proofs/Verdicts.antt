@@ -6,23 +6,23 @@ use Rattle.asl_term.specs.declared.syntax.Filed.{Filed}
 use Rattle.asl_cycle.specs.Agent.{agent_kind}
 use Rattle.mas_world.specs.Worlds.{Used}
 use Rattle.mas_io.specs.declared.shelf.Fetched.TheVariants.{Bytes}
-use Rattle.mas_schedule.specs.Schedule.{IsVersion, printed}
+use Rattle.mas_report_schedule.specs.Schedule.{IsVersion, printed}
 use Rattle.mas_report.specs.declared.options.Options.{Options}
 use Rattle.mas_report.specs.Limits.{IsWithin, defaults}
 use Rattle.mas_report.specs.Reading.{Shows, ShowsNothing}
 use Rattle.mas_report.specs.Report.{IsAnyReport, Decided}
 use Rattle.mas_report.specs.declared.reading.Told.{Told}
 use Rattle.mas_report.proofs.Shown.{one_shown, shown_printed}
-use Rattle.mas_reading.specs.declared.sources.Source.{Source}
-use Rattle.mas_reading.specs.declared.status.Status.{Status}
-use Rattle.mas_reading.specs.Files.{Has, HasFile, IsRefusal, unfetched, IsUnfetched}
-use Rattle.mas_reading.specs.Known.{known}
-use Rattle.mas_reading.specs.Projects.{most_cycles}
-use Rattle.mas_reading.specs.Sources.{HasSource, FirstRefused, AreRefused, UnlessMemory}
-use Rattle.mas_reading.proofs.Fetched.{refusal_from}
-use Rattle.mas_reading.proofs.Unless.{unless, unless_as}
-use Rattle.mas_top.specs.Checking.{Asks, IsAllowed, IsOwn, Says, IsJudged, Claim, IsDecided, reports, ClaimRefused}
-use Rattle.mas_opening.specs.Opening.{setup, opening}
+use Rattle.mas_top_files.specs.declared.sources.Source.{Source}
+use Rattle.mas_top_status.specs.declared.status.Status.{Status}
+use Rattle.mas_top_files.specs.Files.{Has, HasFile, IsRefusal, unfetched, IsUnfetched}
+use Rattle.mas_top_files.specs.Known.{known}
+use Rattle.mas_top_files.specs.Projects.{most_cycles}
+use Rattle.mas_top_files.specs.Sources.{HasSource, FirstRefused, AreRefused, UnlessMemory}
+use Rattle.mas_top_files.proofs.Fetched.{refusal_from}
+use Rattle.mas_top_files.proofs.Unless.{unless, unless_as}
+use Rattle.mas_top.specs.Checking.{ReportClaim, IsAllowed, IsOwn, Says, IsJudged, Claim, IsDecided, reports, ClaimRefused}
+use Rattle.mas_top_opening.specs.Opening.{setup, opening}
 use Rattle.mas_top.specs.Runs.{most_bytes}
 
 -- ---- what is allowed
@@ -72,18 +72,18 @@ pub not_allowed : (objects : List Used) (source : Source) (bytes : List ℕ) (t 
 not_allowed objects source bytes t s n h = n (subst (λ (x : Told). IsAllowed source x.options) (told_is objects source bytes t s h) h.allowed)
 
 -- such bytes are a report, and this is written, or they are none
-abbrev pub IsRun : Asks → List Used → Source → Told → List ℕ → Option (List ℕ) → Type 0
+abbrev pub IsRun : ReportClaim → List Used → Source → Told → List ℕ → Option (List ℕ) → Type 0
 IsRun asks objects source t bytes answer =
     let p = opening (setup t.options objects) source in
     MatchOption answer (IsAnyReport agent_kind t.version t.options p bytes → ⊥) (λ w. IsAnyReport agent_kind t.version t.options p bytes × Says asks objects source t w)
 
-own_by : (asks : Asks) (objects : List Used) (source : Source) (bytes : List ℕ) (t : Told) (answer : Option (List ℕ)) → Shows bytes t → IsAllowed source t.options →
+own_by : (asks : ReportClaim) (objects : List Used) (source : Source) (bytes : List ℕ) (t : Told) (answer : Option (List ℕ)) → Shows bytes t → IsAllowed source t.options →
     IsRun asks objects source t bytes answer → IsJudged asks objects source bytes answer
 own_by asks objects source bytes t None s a r =
     λ h. r (subst (λ (x : Told). IsAnyReport agent_kind x.version x.options (opening (setup x.options objects) source) bytes) (told_is objects source bytes t s h) h.report)
 own_by asks objects source bytes t (Some w) s a r = record { own = record { told = t; shows = s; allowed = a; report = r.0 }; says = r.1 }
 
-pub own_answer : {E : Type 0} (asks : Asks) (objects : List Used) (source : Source) (bytes : List ℕ) (t : Told) (answer : Result (Option (List ℕ)) E) → Shows bytes t →
+pub own_answer : {E : Type 0} (asks : ReportClaim) (objects : List Used) (source : Source) (bytes : List ℕ) (t : Told) (answer : Result (Option (List ℕ)) E) → Shows bytes t →
     Decided (IsAllowed source t.options) true → IfOk answer (IsRun asks objects source t bytes) → IfOk answer (IsJudged asks objects source bytes)
 own_answer asks objects source bytes t (Ok answer) s a h = own_by asks objects source bytes t answer s a h
 own_answer asks objects source bytes t (Err why) s a h = tt
@@ -94,7 +94,7 @@ pub unread : (name : List ℕ) (held : Option (List Filed)) (before after : ℕ)
     IsRefusal reports name held before after status
 unread name held before after status h = unfetched h
 
-pub judged : (asks : Asks) (objects : List Used) (held : Option (List Filed)) (source : Source) (name bytes : List ℕ) (answer : Option (List ℕ)) →
+pub judged : (asks : ReportClaim) (objects : List Used) (held : Option (List Filed)) (source : Source) (name bytes : List ℕ) (answer : Option (List ℕ)) →
     Has 268435456 held name (Bytes bytes) → IsJudged asks objects source bytes answer → HasFile most_bytes held name (λ b. IsJudged asks objects source b answer)
 judged asks objects held source name bytes answer h d = record { bytes = bytes; has = h; are = d }
 

@@ -3,9 +3,9 @@ use Rattle.std.specs.Prelude.{ℕ, Bool, true, false, List, Option}
 use Rattle.asl_term.specs.declared.syntax.Filed.{Filed}
 use Rattle.mas_io.specs.Told.{Told, IsUnwritten}
 use Rattle.mas_io.specs.Writing.{Wrote, WroteSome}
-use Rattle.mas_reading.specs.declared.status.Status.{Status}
-use Rattle.mas_reading.specs.declared.status.Status.TheVariants.{Ok, No, Usage, Missing, ReadFault, WriteFault, Refused, Limit, Budget, Memory, DiskFault}
-use Rattle.mas_opening.specs.Opening.{Setup}
+use Rattle.mas_top_status.specs.declared.status.Status.{Status}
+use Rattle.mas_top_status.specs.declared.status.Status.TheVariants.{Ok, No, Usage, Missing, ReadFault, WriteFault, Refused, Limit, Budget, Memory, DiskFault}
+use Rattle.mas_top_opening.specs.Opening.{Setup}
 use Rattle.mas_top.specs.Runs.{Wanted, Given, HasGiven, FileRefused}
 
 -- What is written: whether an end in it is `budget`, what is run, and the text.

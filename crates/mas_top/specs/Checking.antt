@@ -14,17 +14,17 @@ use Rattle.mas_report.specs.Limits.{IsWithin, defaults}
 use Rattle.mas_report.specs.Reading.{Shows}
 use Rattle.mas_report.specs.declared.reading.Told.{Told}
 use Rattle.mas_report.specs.Report.{IsAnyReport, IsRenewal}
-use Rattle.mas_reading.specs.declared.sources.Source.{Source}
-use Rattle.mas_reading.specs.declared.status.Status.{Status}
-use Rattle.mas_reading.specs.declared.status.Status.TheVariants.{Ok, No, Usage, Missing, ReadFault, WriteFault, Refused, Limit, Budget, Memory, DiskFault}
-use Rattle.mas_reading.specs.Files.{HasFile, Reader, IsRefusal}
-use Rattle.mas_reading.specs.Known.{known}
-use Rattle.mas_reading.specs.Laws.{Surely}
-use Rattle.mas_reading.specs.Projects.{most_cycles}
-use Rattle.mas_reading.specs.Sources.{HasSource, FirstRefused}
-use Rattle.mas_top.specs.declared.checking.Asks as code
-use Rattle.mas_top.specs.declared.checking.Asks.TheVariants as code_variant
-use Rattle.mas_opening.specs.Opening.{setup, opening}
+use Rattle.mas_top_files.specs.declared.sources.Source.{Source}
+use Rattle.mas_top_status.specs.declared.status.Status.{Status}
+use Rattle.mas_top_status.specs.declared.status.Status.TheVariants.{Ok, No, Usage, Missing, ReadFault, WriteFault, Refused, Limit, Budget, Memory, DiskFault}
+use Rattle.mas_top_files.specs.Files.{HasFile, Reader, IsRefusal}
+use Rattle.mas_top_files.specs.Known.{known}
+use Rattle.mas_top_files.specs.Laws.{Surely}
+use Rattle.mas_top_files.specs.Projects.{most_cycles}
+use Rattle.mas_top_files.specs.Sources.{HasSource, FirstRefused}
+use Rattle.mas_top.specs.declared.checking.ReportClaim as code
+use Rattle.mas_top.specs.declared.checking.ReportClaim.TheVariants as code_variant
+use Rattle.mas_top_opening.specs.Opening.{setup, opening}
 use Rattle.mas_top.specs.Runs.{most_bytes}
 
 -- The options are within their limits, and so are the cycles that the agents of the source may make together.
@@ -43,27 +43,27 @@ pub record IsOwn (objects : List Used) (source : Source) (bytes : List ℕ) : Ty
 -- ---- what is asked
 
 -- whether bytes are such a report, or for that report anew, as it is written now
-pub data Asks : Type 0 where
-  whether : Asks
-  anew : Asks
+pub data ReportClaim : Type 0 where
+  whether : ReportClaim
+  anew : ReportClaim
 
 -- what is written where they are, of a run from p: `yes`, or the report of the same options and the same schedule, of the
 -- version that is written
-abbrev pub SaysFrom : {V : Type 0} → Kind V → Asks → Told → Platform V → List ℕ → Type 0
+abbrev pub SaysFrom : {V : Type 0} → Kind V → ReportClaim → Told → Platform V → List ℕ → Type 0
 SaysFrom k whether told p w = w ≡ codes "yes\n"
 SaysFrom k anew told p w = IsRenewal k told.options p told.turns w
 
 -- of a run of this source among these artifacts
-abbrev pub Says : Asks → List Used → Source → Told → List ℕ → Type 0
+abbrev pub Says : ReportClaim → List Used → Source → Told → List ℕ → Type 0
 Says asks objects source told w = SaysFrom agent_kind asks told (opening (setup told.options objects) source) w
 
 -- the bytes are such a report, and this is what is written then
-pub record Affirms (asks : Asks) (objects : List Used) (source : Source) (bytes w : List ℕ) : Type 0 where
+pub record Affirms (asks : ReportClaim) (objects : List Used) (source : Source) (bytes w : List ℕ) : Type 0 where
   pub own : IsOwn objects source bytes
   pub says : Says asks objects source own.told w
 
 -- they are, and this is written; or they are not
-abbrev pub IsJudged : Asks → List Used → Source → List ℕ → Option (List ℕ) → Type 0
+abbrev pub IsJudged : ReportClaim → List Used → Source → List ℕ → Option (List ℕ) → Type 0
 IsJudged asks objects source bytes answer = MatchOption answer (IsOwn objects source bytes → ⊥) (Affirms asks objects source bytes)
 
 abbrev pub answer_text : Option (List ℕ) → List ℕ
@@ -72,11 +72,11 @@ answer_text (Some w) = w
 
 -- what is asked for, of the file of this name and the project of this word
 pub record Claim : Type 0 where
-  pub asks : Asks
+  pub asks : ReportClaim
   pub project : List ℕ
   pub report : List ℕ
 
-abbrev pub claim : Asks → List ℕ → List ℕ → Claim
+abbrev pub claim : ReportClaim → List ℕ → List ℕ → Claim
 claim asks project report = record { asks = asks; project = project; report = report }
 
 -- the files describe this source
@@ -143,7 +143,7 @@ ClaimCaused objects c before after DiskFault = ⊥
 -- ---- what follows, where the shelf tells its files
 
 -- what such a report is answered by was written, and it is one
-pub record SaysYes (asks : Asks) (objects : List Used) (source : Source) (bytes : List ℕ) (before after : Kept) : Type 0 where
+pub record SaysYes (asks : ReportClaim) (objects : List Used) (source : Source) (bytes : List ℕ) (before after : Kept) : Type 0 where
   pub text : List ℕ
   pub affirms : Affirms asks objects source bytes text
   pub written : after.written ≡ grown before.written text
@@ -170,6 +170,6 @@ IsClaimComplete objects c before after status =
 
 -- ---- how the code asks for it
 
-abbrev pub asks_of : code.Asks → Asks
+abbrev pub asks_of : code.ReportClaim → ReportClaim
 asks_of code_variant.Whether = whether
 asks_of code_variant.Anew = anew

@@ -4,18 +4,18 @@ use Rattle.asl_term.specs.declared.syntax.Filed.{Filed}
 use Rattle.asl_cycle.specs.Agent.{agent_kind}
 use Rattle.mas_mind.specs.Minds.{Kind}
 use Rattle.mas_core.specs.Platform.{Platform}
-use Rattle.mas_demo.specs.Files.{demo_files}
-use Rattle.mas_demo.specs.Lines.{demo_text}
+use Rattle.mas_top_demo.specs.Files.{demo_files}
+use Rattle.mas_top_demo.specs.Lines.{demo_text}
 use Rattle.env_file.specs.Worlds.{has_name}
 use Rattle.mas_io.specs.Causes.{Rose}
 use Rattle.mas_io.specs.Told.{Told, IsUnwritten}
 use Rattle.mas_io.specs.Writing.{Wrote, WroteSome}
-use Rattle.mas_reading.specs.Known.{known}
-use Rattle.mas_reading.specs.Sources.{HasSource, FirstRefused}
-use Rattle.mas_reading.specs.declared.sources.Source.{Source}
-use Rattle.mas_reading.specs.declared.status.Status.{Status}
-use Rattle.mas_reading.specs.declared.status.Status.TheVariants.{Ok, No, Usage, Missing, ReadFault, WriteFault, Refused, Limit, Budget, Memory, DiskFault}
-use Rattle.mas_opening.specs.Opening.{Setup, opening}
+use Rattle.mas_top_files.specs.Known.{known}
+use Rattle.mas_top_files.specs.Sources.{HasSource, FirstRefused}
+use Rattle.mas_top_files.specs.declared.sources.Source.{Source}
+use Rattle.mas_top_status.specs.declared.status.Status.{Status}
+use Rattle.mas_top_status.specs.declared.status.Status.TheVariants.{Ok, No, Usage, Missing, ReadFault, WriteFault, Refused, Limit, Budget, Memory, DiskFault}
+use Rattle.mas_top_opening.specs.Opening.{Setup, opening}
 use Rattle.mas_top.specs.Ways.{Way, IsScheduled, Leads}
 
 -- the demo's own files, of so many agents, describe this source

@@ -6,24 +6,24 @@ use Rattle.mas_io.specs.Causes.{Rose}
 use Rattle.mas_io.specs.Told.{Told, IsUnwritten}
 use Rattle.mas_mind.specs.Minds.{Kind}
 use Rattle.mas_core.specs.Platform.{Platform}
-use Rattle.mas_schedule.specs.Schedule.{printed}
+use Rattle.mas_report_schedule.specs.Schedule.{printed}
 use Rattle.mas_report.specs.declared.options.Options.{Options}
 use Rattle.mas_report.specs.Report.{latest, IsReport}
-use Rattle.mas_reading.specs.declared.status.Status.{Status}
-use Rattle.mas_reading.specs.declared.status.Status.TheVariants.{Usage, Memory}
-use Rattle.mas_lint.specs.Linting.{LintCaused}
-use Rattle.mas_both.specs.Caused.{Sites, sites, SitesCaused}
-use Rattle.mas_reading.specs.Known.{known}
-use Rattle.mas_reading.specs.Statuses.{whole}
+use Rattle.mas_top_status.specs.declared.status.Status.{Status}
+use Rattle.mas_top_status.specs.declared.status.Status.TheVariants.{Usage, Memory}
+use Rattle.mas_top_lint.specs.Linting.{LintCaused}
+use Rattle.mas_top_sites.specs.Caused.{Sites, sites, SitesCaused}
+use Rattle.mas_top_files.specs.Known.{known}
+use Rattle.mas_top_status.specs.Statuses.{whole}
 use Rattle.mas_top.specs.Caused.{Texts, FileCaused}
-use Rattle.mas_words.specs.Asked as words
-use Rattle.mas_words.specs.Plain.{AskForNothing, AskOnlyFor}
+use Rattle.mas_top_words.specs.Asked as words
+use Rattle.mas_top_words.specs.Plain.{AskForNothing, AskOnlyFor}
 use Rattle.mas_world.specs.Worlds.{Used}
 use Rattle.mas_report.specs.Limits.{defaults}
 use Rattle.mas_top.specs.Checking.{whether, anew, Claim, claim, ClaimCaused}
 use Rattle.mas_top.specs.Demo.{DemoCaused}
-use Rattle.mas_keeping.specs.declared.keep.Keeping.TheVariants.{Anew, On}
-use Rattle.mas_opening.specs.Opening.{Setup, setup, opening}
+use Rattle.mas_top_record.specs.declared.keep.Keeping.TheVariants.{Anew, On}
+use Rattle.mas_top_opening.specs.Opening.{Setup, setup, opening}
 use Rattle.mas_top.specs.Recording.{Recorded, recorded, wanted_of, Lent, RecordCaused}
 use Rattle.mas_top.specs.Runs.{by_workers, by_file, Wanted, wanted, Given, HasGiven, NoneRefused}
 use Rattle.mas_top.specs.Ways.{Way, way_of, IsScheduled}
@@ -84,106 +84,77 @@ IsComplete u wanted before after status =
 
 -- ---- what the words ask for
 
--- what holds of the files of a run or of a replay
-abbrev pub ForRuns : (Setup → Wanted → Type 0) → List Used → words.Asked → Type 0
-ForRuns Holds objects (words.run project options workers pool) = Holds (setup options objects) (wanted project (by_workers workers))
-ForRuns Holds objects (words.replay project schedule options) = Holds (setup options objects) (wanted project (by_file schedule))
-ForRuns Holds objects (words.record_to project file options workers) = Unit {0}
-ForRuns Holds objects (words.resume_from project file options workers) = Unit {0}
-ForRuns Holds objects (words.check project report) = Unit {0}
-ForRuns Holds objects (words.demo count workers) = Unit {0}
-ForRuns Holds objects (words.renew project report) = Unit {0}
-ForRuns Holds objects (words.sites one two options workers) = Unit {0}
-ForRuns Holds objects (words.lint project) = Unit {0}
+-- by what is promised of it: the report of a project's run, a run that is recorded, a claim that a report is that of a run, a demo
+-- of so many agents, two projects as two sites, whether a project's goals are covered
+pub data Request : Type 0 where
+  to_report : Setup → Wanted → Request
+  to_record : Setup → Recorded → Request
+  to_claim : Claim → Request
+  to_demo : Setup → ℕ → Way → Request
+  to_meet : Setup → Sites → Request
+  to_lint : List ℕ → Request
 
--- what holds of a run that is recorded in a file, by `record` and by `resume`
-abbrev pub ForRecords : (Setup → Recorded → Type 0) → List Used → words.Asked → Type 0
-ForRecords Holds objects (words.run project options workers pool) = Unit {0}
-ForRecords Holds objects (words.replay project schedule options) = Unit {0}
-ForRecords Holds objects (words.record_to project file options workers) = Holds (setup options objects) (recorded project file Anew workers)
-ForRecords Holds objects (words.resume_from project file options workers) = Holds (setup options objects) (recorded project file On workers)
-ForRecords Holds objects (words.check project report) = Unit {0}
-ForRecords Holds objects (words.demo count workers) = Unit {0}
-ForRecords Holds objects (words.renew project report) = Unit {0}
-ForRecords Holds objects (words.sites one two options workers) = Unit {0}
-ForRecords Holds objects (words.lint project) = Unit {0}
+-- a row for each command
+abbrev pub request : List Used → words.Asked → Request
+request objects (words.run project options workers pool) = to_report (setup options objects) (wanted project (by_workers workers))
+request objects (words.replay project schedule options) = to_report (setup options objects) (wanted project (by_file schedule))
+request objects (words.record_to project file options workers) = to_record (setup options objects) (recorded project file Anew workers)
+request objects (words.resume_from project file options workers) = to_record (setup options objects) (recorded project file On workers)
+request objects (words.check project report) = to_claim (claim whether project report)
+request objects (words.renew project report) = to_claim (claim anew project report)
+request objects (words.demo count workers) = to_demo (setup defaults objects) count (way_of workers)
+request objects (words.sites one two options workers) = to_meet (setup options objects) (sites one two workers)
+request objects (words.lint project) = to_lint project
 
--- what holds of the files of a run, a replay, and a run that is recorded
-abbrev pub ForReports : (Setup → Wanted → Type 0) → List Used → words.Asked → Type 0
-ForReports Holds objects asked = ForRuns Holds objects asked × ForRecords (λ u r. Holds u (wanted_of r)) objects asked
+-- what holds of the files of a run or of a replay, where one is asked for
+abbrev pub ForRuns : (Setup → Wanted → Type 0) → Request → Type 0
+ForRuns Holds (to_report u files) = Holds u files
+ForRuns Holds other = Unit {0}
 
--- what holds where nothing is recorded
-abbrev pub ForOthers : Type 0 → words.Asked → Type 0
-ForOthers Holds (words.record_to project file options workers) = Unit {0}
-ForOthers Holds (words.resume_from project file options workers) = Unit {0}
-ForOthers Holds asked = Holds
+-- of a run that is recorded in a file
+abbrev pub ForRecords : (Setup → Recorded → Type 0) → Request → Type 0
+ForRecords Holds (to_record u r) = Holds u r
+ForRecords Holds other = Unit {0}
 
--- what holds of a claim that a report is that of a run, by `check` and by `renew`
-abbrev pub ForClaims : (Claim → Type 0) → words.Asked → Type 0
-ForClaims Holds (words.run project options workers pool) = Unit {0}
-ForClaims Holds (words.replay project schedule options) = Unit {0}
-ForClaims Holds (words.record_to project file options workers) = Unit {0}
-ForClaims Holds (words.resume_from project file options workers) = Unit {0}
-ForClaims Holds (words.check project report) = Holds (claim whether project report)
-ForClaims Holds (words.demo count workers) = Unit {0}
-ForClaims Holds (words.renew project report) = Holds (claim anew project report)
-ForClaims Holds (words.sites one two options workers) = Unit {0}
-ForClaims Holds (words.lint project) = Unit {0}
+-- of the files of a run, a replay, and a run that is recorded
+abbrev pub ForReports : (Setup → Wanted → Type 0) → Request → Type 0
+ForReports Holds q = ForRuns Holds q × ForRecords (λ u r. Holds u (wanted_of r)) q
 
--- what holds of a project of which is asked whether its goals are covered
-abbrev pub ForLints : (List ℕ → Type 0) → words.Asked → Type 0
-ForLints Holds (words.run project options workers pool) = Unit {0}
-ForLints Holds (words.replay project schedule options) = Unit {0}
-ForLints Holds (words.record_to project file options workers) = Unit {0}
-ForLints Holds (words.resume_from project file options workers) = Unit {0}
-ForLints Holds (words.check project report) = Unit {0}
-ForLints Holds (words.demo count workers) = Unit {0}
-ForLints Holds (words.renew project report) = Unit {0}
-ForLints Holds (words.sites one two options workers) = Unit {0}
-ForLints Holds (words.lint project) = Holds project
+-- where nothing is recorded
+abbrev pub ForOthers : Type 0 → Request → Type 0
+ForOthers Holds (to_record u r) = Unit {0}
+ForOthers Holds other = Holds
 
--- what holds of two projects that run as two sites
-abbrev pub ForSites : (Setup → Sites → Type 0) → List Used → words.Asked → Type 0
-ForSites Holds objects (words.run project options workers pool) = Unit {0}
-ForSites Holds objects (words.replay project schedule options) = Unit {0}
-ForSites Holds objects (words.record_to project file options workers) = Unit {0}
-ForSites Holds objects (words.resume_from project file options workers) = Unit {0}
-ForSites Holds objects (words.check project report) = Unit {0}
-ForSites Holds objects (words.demo count workers) = Unit {0}
-ForSites Holds objects (words.renew project report) = Unit {0}
-ForSites Holds objects (words.sites one two options workers) = Holds (setup options objects) (sites one two workers)
-ForSites Holds objects (words.lint project) = Unit {0}
+-- of a claim that a report is that of a run
+abbrev pub ForClaims : (Claim → Type 0) → Request → Type 0
+ForClaims Holds (to_claim c) = Holds c
+ForClaims Holds other = Unit {0}
 
--- what holds of a demo of so many agents
-abbrev pub ForDemos : (Setup → ℕ → Way → Type 0) → List Used → words.Asked → Type 0
-ForDemos Holds objects (words.run project options workers pool) = Unit {0}
-ForDemos Holds objects (words.replay project schedule options) = Unit {0}
-ForDemos Holds objects (words.record_to project file options workers) = Unit {0}
-ForDemos Holds objects (words.resume_from project file options workers) = Unit {0}
-ForDemos Holds objects (words.check project report) = Unit {0}
-ForDemos Holds objects (words.demo count workers) = Holds (setup defaults objects) count (way_of workers)
-ForDemos Holds objects (words.renew project report) = Unit {0}
-ForDemos Holds objects (words.sites one two options workers) = Unit {0}
-ForDemos Holds objects (words.lint project) = Unit {0}
+-- of a demo
+abbrev pub ForDemos : (Setup → ℕ → Way → Type 0) → Request → Type 0
+ForDemos Holds (to_demo u count way) = Holds u count way
+ForDemos Holds other = Unit {0}
+
+-- of two sites
+abbrev pub ForSites : (Setup → Sites → Type 0) → Request → Type 0
+ForSites Holds (to_meet u s) = Holds u s
+ForSites Holds other = Unit {0}
+
+-- of a project of which is asked whether its goals are covered
+abbrev pub ForLints : (List ℕ → Type 0) → Request → Type 0
+ForLints Holds (to_lint project) = Holds project
+ForLints Holds other = Unit {0}
 
 -- ---- the cause of each status
 
--- of what the words ask for
-abbrev pub AskedCaused : (Setup → Texts) → List Used → Lent → Told → Told → Status → words.Asked → Type 0
-AskedCaused Is objects l before after status (words.run project options workers pool) =
-    let u = setup options objects in FileCaused (Is u) u (wanted project (by_workers workers)) before after status
-AskedCaused Is objects l before after status (words.replay project schedule options) =
-    let u = setup options objects in FileCaused (Is u) u (wanted project (by_file schedule)) before after status
-AskedCaused Is objects l before after status (words.record_to project file options workers) =
-    RecordCaused l (setup options objects) (recorded project file Anew workers) before after status
-AskedCaused Is objects l before after status (words.resume_from project file options workers) =
-    RecordCaused l (setup options objects) (recorded project file On workers) before after status
-AskedCaused Is objects l before after status (words.check project report) = ClaimCaused objects (claim whether project report) before after status
-AskedCaused Is objects l before after status (words.demo count workers) = DemoCaused (setup defaults objects) count (way_of workers) before after status
-AskedCaused Is objects l before after status (words.renew project report) = ClaimCaused objects (claim anew project report) before after status
-AskedCaused Is objects l before after status (words.sites one two options workers) =
-    SitesCaused (setup options objects) (sites one two workers) before after status
-AskedCaused Is objects l before after status (words.lint project) = LintCaused (known objects) project before after status
+-- of what is asked for
+abbrev pub AskedCaused : (Setup → Texts) → List Used → Lent → Told → Told → Status → Request → Type 0
+AskedCaused Is objects l before after status (to_report u files) = FileCaused (Is u) u files before after status
+AskedCaused Is objects l before after status (to_record u r) = RecordCaused l u r before after status
+AskedCaused Is objects l before after status (to_claim c) = ClaimCaused objects c before after status
+AskedCaused Is objects l before after status (to_demo u count way) = DemoCaused u count way before after status
+AskedCaused Is objects l before after status (to_meet u s) = SitesCaused u s before after status
+AskedCaused Is objects l before after status (to_lint project) = LintCaused (known objects) project before after status
 
 -- the words are not read
 pub record IsUsage (given : List (List ℕ)) (before after : Told) (status : Status) : Type 0 where
@@ -196,7 +167,7 @@ pub record HasCause (Is : Setup → Texts) (objects : List Used) (given : List (
   pub asked : words.Asked
   pub read : AskOnlyFor given asked
   pub permitted : words.IsPermitted asked
-  pub caused : AskedCaused Is objects l before after status asked
+  pub caused : AskedCaused Is objects l before after status (request objects asked)
 
 -- Usage exactly where the words are not read; else the cause for what they ask for
 abbrev pub WordsCaused : (Setup → Texts) → List Used → List (List ℕ) → Lent → Told → Told → Status → Type 0

@@ -6,18 +6,18 @@ use Rattle.mas_mind.specs.Minds.{IsAgent}
 use Rattle.mas_board.specs.Boards.{all_quiet}
 use Rattle.mas_board.specs.Seating.{AreLed}
 use Rattle.mas_core.specs.Platform.{Platform, run}
-use Rattle.mas_laws.specs.Mail.{sent, taken, unread}
-use Rattle.mas_laws.specs.Quiet.{turn_on, run_on, IsQuietTurn}
-use Rattle.mas_schedule.specs.Schedule.{IsVersion, schedule_text, printed}
+use Rattle.mas_core_laws.specs.Mail.{sent, taken, unread}
+use Rattle.mas_core_laws.specs.Quiet.{turn_on, run_on, IsQuietTurn}
+use Rattle.mas_report_schedule.specs.Schedule.{IsVersion, schedule_text, printed}
 use Rattle.mas_io.specs.Causes.{Rose}
-use Rattle.mas_reading.specs.declared.sources.Source.{Source}
-use Rattle.mas_reading.specs.declared.status.Status.{Status}
-use Rattle.mas_reading.specs.declared.status.Status.TheVariants.{Memory}
-use Rattle.mas_reading.specs.Laws.{Surely}
+use Rattle.mas_top_files.specs.declared.sources.Source.{Source}
+use Rattle.mas_top_status.specs.declared.status.Status.{Status}
+use Rattle.mas_top_status.specs.declared.status.Status.TheVariants.{Memory}
+use Rattle.mas_top_files.specs.Laws.{Surely}
 use Rattle.mas_report.specs.Limits.{IsWithin}
 use Rattle.mas_report.specs.Report.{latest, IsReport, IsRenewal}
 use Rattle.mas_top.specs.Checking.{IsOwn}
-use Rattle.mas_opening.specs.Opening.{Setup, opening}
+use Rattle.mas_top_opening.specs.Opening.{Setup, opening}
 use Rattle.mas_top.specs.Runs.{most_bytes, Wanted, Given, given, IsFollowed, HasGiven, FileRefused}
 use Rattle.mas_top.specs.Headline.{IsReportOf, IsRunReportOf}
 use Rattle.mas_top.specs.Ways.{along}

@@ -4,9 +4,9 @@ use Rattle.asl_cycle.specs.Agent.{agent_kind}
 use Rattle.mas_mind.specs.Minds.{Kind}
 use Rattle.mas_core.specs.Platform.{Platform}
 use Rattle.mas_report.specs.declared.options.Options.{Options}
-use Rattle.mas_reading.specs.declared.sources.Source.{Source}
+use Rattle.mas_top_files.specs.declared.sources.Source.{Source}
 use Rattle.mas_top.specs.Headline.{IsRunReport}
-use Rattle.mas_opening.specs.Opening.{Setup, opening}
+use Rattle.mas_top_opening.specs.Opening.{Setup, opening}
 use Rattle.mas_top.specs.Runs.{IsFollowed}
 use Rattle.mas_top.specs.Ways.{along, Leads}
 

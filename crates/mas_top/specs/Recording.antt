@@ -6,24 +6,24 @@ use Rattle.mas_core.specs.Replay.{follow, Stuck}
 use Rattle.mas_io.specs.Causes.{Rose}
 use Rattle.mas_io.specs.Told.{Told, IsUnwritten}
 use Rattle.mas_io.specs.Writing.{Wrote, WroteSome}
-use Rattle.mas_disk.specs.Disk.{bytes_of, DiskState}
-use Rattle.mas_journal.specs.Journals.{recovered_image}
-use Rattle.mas_journal.specs.Kept.{most_bytes}
-use Rattle.mas_schedule.specs.Schedule.{printed}
-use Rattle.mas_reading.specs.declared.sources.Source.{Source}
-use Rattle.mas_reading.specs.declared.status.Status.{Status}
-use Rattle.mas_reading.specs.declared.status.Status.TheVariants.{Ok, No, Usage, Missing, ReadFault, WriteFault, Refused, Limit, Budget, Memory, DiskFault}
-use Rattle.mas_reading.specs.Known.{known}
-use Rattle.mas_reading.specs.Sources.{HasSource}
-use Rattle.mas_reading.specs.Statuses.{whole}
-use Rattle.mas_recorded.specs.Runs.{WentOn}
-use Rattle.mas_keeping.specs.declared.keep.Keeping.{Keeping}
-use Rattle.mas_keeping.specs.declared.keep.Keeping.TheVariants.{Anew, On}
-use Rattle.mas_keeping.specs.Disks.{state_of}
-use Rattle.mas_keeping.specs.Keeping.{IsGoneOn, LeavesAll, IsKept, KeepRefused, IsSafe}
+use Rattle.mas_record_disk.specs.Disk.{bytes_of, DiskState}
+use Rattle.mas_record_journal.specs.Journals.{recovered_image}
+use Rattle.mas_record_journal.specs.Kept.{most_bytes}
+use Rattle.mas_report_schedule.specs.Schedule.{printed}
+use Rattle.mas_top_files.specs.declared.sources.Source.{Source}
+use Rattle.mas_top_status.specs.declared.status.Status.{Status}
+use Rattle.mas_top_status.specs.declared.status.Status.TheVariants.{Ok, No, Usage, Missing, ReadFault, WriteFault, Refused, Limit, Budget, Memory, DiskFault}
+use Rattle.mas_top_files.specs.Known.{known}
+use Rattle.mas_top_files.specs.Sources.{HasSource}
+use Rattle.mas_top_status.specs.Statuses.{whole}
+use Rattle.mas_record_run.specs.Runs.{WentOn}
+use Rattle.mas_top_record.specs.declared.keep.Keeping.{Keeping}
+use Rattle.mas_top_record.specs.declared.keep.Keeping.TheVariants.{Anew, On}
+use Rattle.mas_top_record.specs.Disks.{state_of}
+use Rattle.mas_top_record.specs.Keeping.{IsGoneOn, LeavesAll, IsKept, KeepRefused, IsSafe}
 use Rattle.mas_top.specs.declared.recording.Recorded as code
 use Rattle.mas_top.specs.Caused.{Texts, ForFiles, ForEnded}
-use Rattle.mas_opening.specs.Opening.{Setup, opening}
+use Rattle.mas_top_opening.specs.Opening.{Setup, opening}
 use Rattle.mas_top.specs.Runs.{by_workers, Wanted, wanted, FileRefused, NoneRefused}
 
 -- ---- what is recorded

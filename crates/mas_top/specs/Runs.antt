@@ -6,17 +6,17 @@ use Rattle.mas_core.specs.Replay.{Faulted}
 use Rattle.mas_core.specs.declared.replay.PlayFault.{PlayFault}
 use Rattle.mas_core.specs.declared.replay.PlayFault.TheVariants as play
 use Rattle.mas_report.specs.Limits.{IsFrom}
-use Rattle.mas_schedule.specs.Reading.{IsSchedule, IsFaultAt}
-use Rattle.mas_schedule.specs.declared.reading.LineFault.TheVariants as line
-use Rattle.mas_reading.specs.declared.sources.Source.{Source}
-use Rattle.mas_reading.specs.declared.status.Reason.TheVariants as reason
-use Rattle.mas_reading.specs.declared.status.Status.{Status}
-use Rattle.mas_reading.specs.declared.status.Status.TheVariants.{Refused, Memory}
-use Rattle.mas_reading.specs.Files.{HasFile, Reader, IsRefusal}
-use Rattle.mas_reading.specs.Known.{known}
-use Rattle.mas_reading.specs.Laws.{Surely}
-use Rattle.mas_reading.specs.Sources.{HasSource, FirstRefused, UnlessMemory}
-use Rattle.mas_opening.specs.Opening.{Setup, opening}
+use Rattle.mas_report_schedule.specs.Reading.{IsSchedule, IsFaultAt}
+use Rattle.mas_report_schedule.specs.declared.reading.LineFault.TheVariants as line
+use Rattle.mas_top_files.specs.declared.sources.Source.{Source}
+use Rattle.mas_top_status.specs.declared.status.Reason.TheVariants as reason
+use Rattle.mas_top_status.specs.declared.status.Status.{Status}
+use Rattle.mas_top_status.specs.declared.status.Status.TheVariants.{Refused, Memory}
+use Rattle.mas_top_files.specs.Files.{HasFile, Reader, IsRefusal}
+use Rattle.mas_top_files.specs.Known.{known}
+use Rattle.mas_top_files.specs.Laws.{Surely}
+use Rattle.mas_top_files.specs.Sources.{HasSource, FirstRefused, UnlessMemory}
+use Rattle.mas_top_opening.specs.Opening.{Setup, opening}
 use Rattle.mas_top.specs.Ways.{Way, alone, shared, along, way_of, Leads}
 use Rattle.mas_top.specs.declared.playing.ScheduleFault.{ScheduleFault}
 use Rattle.mas_top.specs.declared.playing.ScheduleFault.TheVariants as fault

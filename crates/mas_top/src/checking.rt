@@ -8,13 +8,13 @@ ghost use Rattle.mas_io.specs.Told.{told_of, IsKept};
 ghost use Rattle.mas_report.specs.Limits.{IsWithin};
 ghost use Rattle.mas_report.specs.Reading.{Shows};
 ghost use Rattle.mas_report.specs.Report.{Decided, IsAnyReport};
-ghost use Rattle.mas_schedule.specs.Schedule.{IsVersion, printed};
-ghost use Rattle.mas_reading.specs.Files.{HasFile, IsRefusal};
-ghost use Rattle.mas_reading.specs.Projects.{most_cycles};
-ghost use Rattle.mas_reading.specs.Sources.{UnlessMemory};
+ghost use Rattle.mas_report_schedule.specs.Schedule.{IsVersion, printed};
+ghost use Rattle.mas_top_files.specs.Files.{HasFile, IsRefusal};
+ghost use Rattle.mas_top_files.specs.Projects.{most_cycles};
+ghost use Rattle.mas_top_files.specs.Sources.{UnlessMemory};
 ghost use Rattle.mas_top.specs.Checking as spec;
-ghost use Rattle.mas_opening.specs.Fits.{CanRun};
-ghost use Rattle.mas_opening.specs.Opening.{objects_of, opening, setup};
+ghost use Rattle.mas_top_opening.specs.Fits.{CanRun};
+ghost use Rattle.mas_top_opening.specs.Opening.{objects_of, opening, setup};
 ghost use Rattle.mas_top.specs.Runs.{most_bytes};
 
 use crate::playing::{MOST_BYTES, read_source};
@@ -25,19 +25,19 @@ use mas_io::shelf::Shelf;
 use mas_io::sink::Sink;
 use mas_io::writing::write_all;
 use mas_mind::thinking::Mind;
-use mas_opening::opening::{Opened, open_source};
-use mas_reading::files::bytes_of;
-use mas_reading::sources::Source;
-use mas_reading::status::{Status, verdict};
 use mas_report::checking::{is_report_along, renewal_along};
 use mas_report::options::{Options, default_options, is_within};
 use mas_report::reading::{Told, read_report};
+use mas_top_files::files::bytes_of;
+use mas_top_files::sources::Source;
+use mas_top_opening::opening::{Opened, open_source};
+use mas_top_status::status::{Status, verdict};
 use mas_world::artifact::Artifact;
 use std::alloc::Global;
 
 /// What is asked of bytes: whether they are the report of a run, or for that report anew.
 #[derive(Clone, Copy)]
-pub enum Asks {
+pub enum ReportClaim {
     Whether,
     Anew,
 }
@@ -69,7 +69,7 @@ fn is_allowed(o: &Options, source: &Source) -> bool
 /// these bytes; None where it is not so.
 fn answer_along<M: Mind, A: Artifact>(
     alloc: Global,
-    asks: Asks,
+    asks: ReportClaim,
     told: &Told,
     opened: Opened<M, A>,
     bytes: &Text,
@@ -87,22 +87,22 @@ fn answer_along<M: Mind, A: Artifact>(
     let o = &told.options;
     let turns = &told.turns;
     match asks {
-        Asks::Whether => {
+        ReportClaim::Whether => {
             if is_report_along(alloc, version, o, board, minds, turns, bytes)? {
                 Ok(Some(text_of(alloc, b"yes\n")?))
             } else {
                 Ok(None)
             }
         }
-        Asks::Anew => renewal_along(alloc, version, o, board, minds, turns, bytes),
+        ReportClaim::Anew => renewal_along(alloc, version, o, board, minds, turns, bytes),
     }
 }
 
 /// The same for the run of a source.
-#[tactic(auto, using(mas_opening::proofs::Starts::starts))]
+#[tactic(auto, using(mas_top_opening::proofs::Starts::starts))]
 fn answer_of<A: Artifact>(
     alloc: Global,
-    asks: Asks,
+    asks: ReportClaim,
     told: &Told,
     source: Source,
     artifacts: Vec<A>,
@@ -129,7 +129,7 @@ fn answer_of<A: Artifact>(
 #[tactic(auto, using(crate::proofs::Verdicts::allowed_within))]
 fn answer_told<A: Artifact>(
     alloc: Global,
-    asks: Asks,
+    asks: ReportClaim,
     told: &Told,
     source: Source,
     artifacts: Vec<A>,
@@ -153,7 +153,7 @@ fn answer_told<A: Artifact>(
 #[tactic(auto, using(crate::proofs::Verdicts::shows_by))]
 fn answer<A: Artifact>(
     alloc: Global,
-    asks: Asks,
+    asks: ReportClaim,
     source: Source,
     artifacts: Vec<A>,
     bytes: &Text,
@@ -181,7 +181,7 @@ fn answer<A: Artifact>(
 #[tactic(auto, using(crate::proofs::Verdicts::unread, crate::proofs::Verdicts::judged))]
 fn judge_file<S: Shelf, A: Artifact>(
     alloc: Global,
-    asks: Asks,
+    asks: ReportClaim,
     source: Source,
     artifacts: Vec<A>,
     name: &Text,
@@ -207,10 +207,10 @@ fn judge_file<S: Shelf, A: Artifact>(
 }
 
 /// The answer for the file of the report and the project, or why a file is refused.
-#[tactic(auto, using(mas_opening::proofs::Able::can_run, crate::proofs::Verdicts::claimed))]
+#[tactic(auto, using(mas_top_opening::proofs::Able::can_run, crate::proofs::Verdicts::claimed))]
 fn judge<S: Shelf, A: Artifact>(
     alloc: Global,
-    asks: Asks,
+    asks: ReportClaim,
     project: &[u8],
     report: &[u8],
     shelf: &mut S,
@@ -250,7 +250,7 @@ fn answer_text(answer: &Option<Text>) -> &[u8]
 #[tactic(auto, using(crate::proofs::Claims::refused_claim, crate::proofs::Claims::written_answer, crate::proofs::Claims::cut_answer))]
 pub fn print_answer<S: Shelf, K: Sink, A: Artifact>(
     alloc: Global,
-    asks: Asks,
+    asks: ReportClaim,
     project: &[u8],
     report: &[u8],
     shelf: &mut S,

@@ -6,28 +6,28 @@ ghost use Rattle.asl_term.specs.declared.syntax.Filed.{Filed};
 ghost use Rattle.mas_core.specs.Fits.{Start};
 ghost use Rattle.mas_core.specs.Platform.{opening_platform};
 ghost use Rattle.mas_report.specs.Limits.{IsFrom, IsWithin, defaults};
-ghost use Rattle.mas_reading.specs.Sources.{UnlessMemory};
+ghost use Rattle.mas_top_files.specs.Sources.{UnlessMemory};
 ghost use Rattle.mas_top.specs.Demo as spec;
-ghost use Rattle.mas_opening.specs.Fits.{CanRun};
-ghost use Rattle.mas_opening.specs.Opening.{objects_of, opening, setup};
+ghost use Rattle.mas_top_opening.specs.Fits.{CanRun};
+ghost use Rattle.mas_top_opening.specs.Opening.{objects_of, opening, setup};
 ghost use Rattle.mas_top.specs.Ways.{way_of};
 
 use crate::playing::read_source;
 use asl_term::copying::text_of;
 use asl_term::sequence::Starved;
 use asl_term::syntax::Text;
-use mas_demo::files::demo_files;
-use mas_demo::lines::demo_lines;
-use mas_going::gate::Gate;
 use mas_io::sink::Sink;
 use mas_io::sure::sure_shelf;
 use mas_io::writing::write_all;
 use mas_mind::thinking::Mind;
-use mas_opening::opening::{Opened, open_source};
 use mas_pool::pool::run_pool;
-use mas_reading::sources::Source;
-use mas_reading::status::Status;
+use mas_pool_task::gate::Gate;
 use mas_report::options::{Options, default_options};
+use mas_top_demo::files::demo_files;
+use mas_top_demo::lines::demo_lines;
+use mas_top_files::sources::Source;
+use mas_top_opening::opening::{Opened, open_source};
+use mas_top_status::status::Status;
 use mas_world::artifact::Artifact;
 use std::alloc::Global;
 use std::sync::Wait;
@@ -61,7 +61,7 @@ fn lines_of_run<R: Threads + Wait + Sync, M: Mind + Send, A: Artifact + Send, G:
 }
 
 /// The lines that tell of the run of a source.
-#[tactic(auto, using(mas_opening::proofs::Starts::starts, asl_cycle::proofs::Sends::agent_send))]
+#[tactic(auto, using(mas_top_opening::proofs::Starts::starts, asl_cycle::proofs::Sends::agent_send))]
 fn lines_of_source<R: Threads + Wait + Sync, A: Artifact + Send, G: Gate + Sync>(
     rt: &R,
     alloc: Global,
@@ -101,7 +101,7 @@ fn demo_source<A: Artifact>(
 }
 
 /// The lines of the demo of so many agents, or why one of its files is refused.
-#[tactic(auto, using(mas_opening::proofs::Able::can_run, crate::proofs::Demos::told))]
+#[tactic(auto, using(mas_top_opening::proofs::Able::can_run, crate::proofs::Demos::told))]
 fn demo_of<R: Threads + Wait + Sync, A: Artifact + Send, G: Gate + Sync>(
     rt: &R,
     alloc: Global,

@@ -3,10 +3,10 @@
 ghost use Rattle.mas_top.specs.Laws.{NotRefused, OneRefusal, CanRepeat, CanCheck, CanRenew, ReportsKeepLaws};
 
 use asl_cycle::agent::Agent;
-use mas_laws::endings::runs_end;
-use mas_laws::lead::never_far_ahead;
-use mas_laws::mail::mail_in_order;
-use mas_laws::quiet::quiet_is_sound;
+use mas_core_laws::endings::runs_end;
+use mas_core_laws::lead::never_far_ahead;
+use mas_core_laws::mail::mail_in_order;
+use mas_core_laws::quiet::quiet_is_sound;
 
 /// Where files describe what is asked for, a run or a replay, none of them is refused.
 pub fn not_refused()

@@ -1,15 +1,15 @@
 //! Whether each goal of a project has a plan that covers it.
 
 ghost use Rattle.mas_io.specs.Told.{told_of, IsKept};
-ghost use Rattle.mas_lint.specs.Linting.{LintCaused};
-ghost use Rattle.mas_reading.specs.Known.{known};
-ghost use Rattle.mas_opening.specs.Opening.{objects_of};
+ghost use Rattle.mas_top_lint.specs.Linting.{LintCaused};
+ghost use Rattle.mas_top_files.specs.Known.{known};
+ghost use Rattle.mas_top_opening.specs.Opening.{objects_of};
 
 use mas_io::shelf::Shelf;
 use mas_io::sink::Sink;
-use mas_lint::linting::print_verdict;
-use mas_reading::known::known_names;
-use mas_reading::status::Status;
+use mas_top_files::known::known_names;
+use mas_top_lint::linting::print_verdict;
+use mas_top_status::status::Status;
 use mas_world::artifact::Artifact;
 use std::alloc::Global;
 

@@ -5,31 +5,31 @@ ghost use Rattle.asl_cycle.specs.Agent.{agent_kind};
 ghost use Rattle.mas_core.specs.Fits.{Start};
 ghost use Rattle.mas_core.specs.Platform.{opening_platform};
 ghost use Rattle.mas_io.specs.Told.{told_of, IsKept};
-ghost use Rattle.mas_keeping.specs.Disks.{state_of, IsFree};
-ghost use Rattle.mas_keeping.specs.Keeping as keeping;
-ghost use Rattle.mas_recorded.specs.Runs.{WentOn};
+ghost use Rattle.mas_top_record.specs.Disks.{state_of, IsFree};
+ghost use Rattle.mas_top_record.specs.Keeping as keeping;
+ghost use Rattle.mas_record_run.specs.Runs.{WentOn};
 ghost use Rattle.mas_report.specs.Limits.{IsFrom, IsWithin};
 ghost use Rattle.mas_top.specs.Caused.{ForFiles};
-ghost use Rattle.mas_opening.specs.Fits.{CanRun};
-ghost use Rattle.mas_opening.specs.Opening.{objects_of, opening, setup};
+ghost use Rattle.mas_top_opening.specs.Fits.{CanRun};
+ghost use Rattle.mas_top_opening.specs.Opening.{objects_of, opening, setup};
 ghost use Rattle.mas_top.specs.Recording as spec;
 ghost use Rattle.mas_top.specs.Recording.{lent, recorded_of};
 
 use crate::playing::read_source;
 use asl_term::copying::text_of;
 use asl_term::syntax::Text;
-use mas_disk::disk::Disk;
 use mas_io::shelf::Shelf;
 use mas_io::sink::Sink;
 use mas_io::writing::write_all;
-use mas_keeping::keep::{Keeping, keep_run};
-use mas_keeping::laws::untouched;
 use mas_mind::thinking::Mind;
-use mas_opening::opening::{Opened, open_source};
-use mas_reading::sources::Source;
-use mas_reading::status::{Status, whole};
-use mas_recordings::report::Written;
+use mas_record_disk::disk::Disk;
 use mas_report::options::Options;
+use mas_report::output::Output;
+use mas_top_files::sources::Source;
+use mas_top_opening::opening::{Opened, open_source};
+use mas_top_record::keep::{Keeping, keep_run};
+use mas_top_record::laws::untouched;
+use mas_top_status::status::{Status, whole};
 use mas_world::artifact::Artifact;
 use std::alloc::Global;
 use std::sync::Wait;
@@ -54,7 +54,7 @@ fn record_opened<R: Threads + Wait + Sync, M: Mind + Send, A: Artifact + Send, D
     r: &Recorded<'_>,
     file: &Text,
     disk: &mut Option<D>,
-) -> Result<Written, Status>
+) -> Result<Output, Status>
     requires start { Start M.kind opened.board opened.minds }
     requires workers { IsFrom 1 64 r.now.workers }
     requires free { IsFree D.state disk.old }
@@ -73,7 +73,7 @@ fn record_opened<R: Threads + Wait + Sync, M: Mind + Send, A: Artifact + Send, D
 }
 
 /// The report of the recorded run of a source.
-#[tactic(auto, using(mas_opening::proofs::Starts::starts, asl_cycle::proofs::Sends::agent_send, mas_keeping::proofs::Kept::starved))]
+#[tactic(auto, using(mas_top_opening::proofs::Starts::starts, asl_cycle::proofs::Sends::agent_send, mas_top_record::proofs::Kept::starved))]
 fn record_source<R: Threads + Wait + Sync, A: Artifact + Send, D: Disk + Send>(
     rt: &R,
     alloc: Global,
@@ -83,7 +83,7 @@ fn record_source<R: Threads + Wait + Sync, A: Artifact + Send, D: Disk + Send>(
     r: &Recorded<'_>,
     file: &Text,
     disk: &mut Option<D>,
-) -> Result<Written, Status>
+) -> Result<Output, Status>
     requires within { IsWithin o.now }
     requires can { CanRun (objects_of A.named A.table A.facts artifacts.items) source }
     requires workers { IsFrom 1 64 r.now.workers }
@@ -115,7 +115,7 @@ fn record_files<R: Threads + Wait + Sync, S: Shelf, A: Artifact + Send, D: Disk 
     shelf: &mut S,
     artifacts: Vec<A>,
     disk: &mut Option<D>,
-) -> Result<Written, Status>
+) -> Result<Output, Status>
     requires within { IsWithin o.now }
     requires workers { IsFrom 1 64 r.now.workers }
     requires free { IsFree D.state disk.old }

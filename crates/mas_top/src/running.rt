@@ -7,54 +7,29 @@ ghost use Rattle.mas_core.specs.Platform.{opening_platform};
 ghost use Rattle.mas_core.specs.Replay.{Faulted, RanAlong};
 ghost use Rattle.mas_core.specs.Robin.{RanOut};
 ghost use Rattle.mas_report.specs.Limits.{IsFrom, IsWithin};
-ghost use Rattle.mas_report.specs.Report as spec;
-ghost use Rattle.mas_schedule.specs.Schedule.{AllFromOne, printed};
-ghost use Rattle.mas_opening.specs.Fits.{CanRun};
+ghost use Rattle.mas_top_opening.specs.Fits.{CanRun};
 ghost use Rattle.mas_top.specs.Headline.{IsRunReport};
-ghost use Rattle.mas_opening.specs.Opening.{objects_of, opening, setup};
+ghost use Rattle.mas_top_opening.specs.Opening.{objects_of, opening, setup};
 ghost use Rattle.mas_top.specs.Playing.{IsReplayed};
 ghost use Rattle.mas_top.specs.Ways.{way_of};
 
 use asl_term::sequence::{Seq, Starved};
-use asl_term::syntax::Text;
 use mas_board::board::Board;
 use mas_core::replay::{PlayFault, replay};
 use mas_core::robin::Done;
-use mas_going::gate::Gate;
 use mas_mind::thinking::Mind;
-use mas_opening::opening::{Opened, open_source};
 use mas_pool::pool::run_pool;
-use mas_reading::sources::Source;
+use mas_pool_task::gate::Gate;
 use mas_report::options::Options;
-use mas_report::report::{LATEST, is_spent, report};
+use mas_report::output::{Output, output_of};
 use mas_steal::steal::run_stealing;
-use mas_words::asked::Pool;
+use mas_top_files::sources::Source;
+use mas_top_opening::opening::{Opened, open_source};
+use mas_top_words::asked::Pool;
 use mas_world::artifact::Artifact;
 use std::alloc::Global;
 use std::sync::Wait;
 use std::thread::Threads;
-
-/// What a run writes: its report, and whether an end in it is `budget`.
-#[derive(Drop)]
-pub struct Output {
-    pub text: Text,
-    pub spent: bool,
-}
-
-/// The report of a run that is done, and whether an end in it is `budget`.
-fn told<M: Mind, A: Artifact>(
-    alloc: Global,
-    o: &Options,
-    done: &Done<M, A>,
-) -> Result<Output, Starved>
-    ensures spent { IfOk result (λ out. out.spent ≡ spec.is_spent done.now.board.state.seats) }
-    ensures text { IfOk result (λ out. out.text ≡ spec.report_text M.kind.lines spec.latest o.now done.now.board.state done.now.minds done.now.board.schedule) }
-    ensures printed { AllFromOne 65535 done.now.board.schedule → IfOk result (λ out. printed out.text ≡ done.now.board.schedule) }
-{
-    let spent = is_spent(&done.board);
-    let text = report(alloc, LATEST, o, done)?;
-    Ok(Output { text, spent })
-}
 
 /// Runs all agents to their end by so many workers, which take them from this pool. The board and the minds are then those
 /// of the run along the board's own schedule; with one worker that is the round robin.
@@ -95,7 +70,7 @@ fn run_out<R: Threads + Wait + Sync, M: Mind + Send, A: Artifact + Send, G: Gate
     let Opened { board, minds } = opened;
     board.holds();
     let done = run_minds(rt, alloc, board, minds, pool, workers, gate)?;
-    match told(alloc, o, &done) {
+    match output_of(alloc, o, &done) {
         Ok(out) => {
             drop(done);
             Ok(out)
@@ -121,7 +96,7 @@ fn run_along<M: Mind, A: Artifact>(
     let Opened { board, minds } = opened;
     board.holds();
     let done = replay(alloc, board, minds, names)?;
-    match told(alloc, o, &done) {
+    match output_of(alloc, o, &done) {
         Ok(out) => {
             drop(done);
             Ok(out)
@@ -134,7 +109,7 @@ fn run_along<M: Mind, A: Artifact>(
 }
 
 /// The report of the run of a source by so many workers.
-#[tactic(auto, using(mas_opening::proofs::Starts::starts, asl_cycle::proofs::Sends::agent_send))]
+#[tactic(auto, using(mas_top_opening::proofs::Starts::starts, asl_cycle::proofs::Sends::agent_send))]
 pub fn run_source<R: Threads + Wait + Sync, A: Artifact + Send, G: Gate + Sync>(
     rt: &R,
     alloc: Global,
@@ -158,7 +133,7 @@ pub fn run_source<R: Threads + Wait + Sync, A: Artifact + Send, G: Gate + Sync>(
 }
 
 /// The report of the run of a source along these numbers.
-#[tactic(auto, using(mas_opening::proofs::Starts::starts))]
+#[tactic(auto, using(mas_top_opening::proofs::Starts::starts))]
 pub fn replay_source<A: Artifact>(
     alloc: Global,
     o: &Options,

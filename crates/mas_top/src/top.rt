@@ -1,41 +1,41 @@
 //! The top call: what the words ask for, from the files to the report.
 
 ghost use Rattle.std.specs.Prelude.{◌≡◌, true, is_some, map, string_bytes};
-ghost use Rattle.mas_both.specs.Caused.{AreSitesComplete, ReportsSites};
+ghost use Rattle.mas_top_sites.specs.Caused.{AreSitesComplete, ReportsSites};
 ghost use Rattle.mas_io.specs.Told.{told_of, IsKept};
-ghost use Rattle.mas_keeping.specs.Disks.{IsFree};
-ghost use Rattle.mas_lint.specs.Linting.{IsLintComplete, Lints};
-ghost use Rattle.mas_reading.specs.Known.{known};
+ghost use Rattle.mas_top_record.specs.Disks.{IsFree};
+ghost use Rattle.mas_top_lint.specs.Linting.{IsLintComplete, Lints};
+ghost use Rattle.mas_top_files.specs.Known.{known};
 ghost use Rattle.mas_report.specs.Limits.{IsWithin};
 ghost use Rattle.mas_top.specs.Caused.{FileCaused};
 ghost use Rattle.mas_top.specs.Checking.{IsClaimComplete, Judges};
 ghost use Rattle.mas_top.specs.Demo.{IsDemoComplete};
 ghost use Rattle.mas_top.specs.Headline.{AskedCaused, ForClaims, ForDemos, ForLints, ForOthers, ForRecords, ForReports, ForRuns, ForSites, WordsCaused};
-ghost use Rattle.mas_top.specs.Headline.{IsComplete, IsHeadline, IsRunReportOf, PrintsSchedule};
-ghost use Rattle.mas_opening.specs.Opening.{objects_of, setup};
+ghost use Rattle.mas_top.specs.Headline.{IsComplete, IsHeadline, IsRunReportOf, PrintsSchedule, request};
+ghost use Rattle.mas_top_opening.specs.Opening.{objects_of, setup};
 ghost use Rattle.mas_top.specs.Recording.{lent, HasGoneOn, IsRecordComplete, IsSafelyLeft, KeepsPrinted};
 ghost use Rattle.mas_top.specs.Runs.{wanted, how_of, CanBe};
-ghost use Rattle.mas_words.specs.Asked as said;
-ghost use Rattle.mas_words.specs.Asked.{IsPermitted, asked_of};
-ghost use Rattle.mas_words.specs.Plain.{AskFor, AskForNothing};
+ghost use Rattle.mas_top_words.specs.Asked as said;
+ghost use Rattle.mas_top_words.specs.Asked.{IsPermitted, asked_of};
+ghost use Rattle.mas_top_words.specs.Plain.{AskFor, AskForNothing};
 
-use crate::checking::{Asks, print_answer};
+use crate::checking::{ReportClaim, print_answer};
 use crate::demo::print_demo;
 use crate::linting::print_lint;
 use crate::playing::{How, run_files};
 use crate::recording::{Recorded, print_record};
-use mas_both::printing::{Sites, print_sites};
-use mas_disk::disk::Disk;
-use mas_going::gate::Gate;
 use mas_io::shelf::Shelf;
 use mas_io::sink::Sink;
 use mas_io::writing::write_all;
-use mas_keeping::keep::Keeping;
-use mas_keeping::laws::untouched;
-use mas_reading::status::{Status, whole};
+use mas_pool_task::gate::Gate;
+use mas_record_disk::disk::Disk;
 use mas_report::options::Options;
-use mas_words::asked::Asked;
-use mas_words::taken::take_apart;
+use mas_top_record::keep::Keeping;
+use mas_top_record::laws::untouched;
+use mas_top_sites::printing::{Sites, print_sites};
+use mas_top_status::status::{Status, whole};
+use mas_top_words::asked::Asked;
+use mas_top_words::taken::take_apart;
 use mas_world::artifact::Artifact;
 use std::alloc::Global;
 use std::sync::Wait;
@@ -94,18 +94,19 @@ fn run_asked<
     requires free { IsFree D.state disk.old }
     ensures there { is_some disk.new ≡ true }
     ensures on { HasGoneOn (lent D.state disk.old disk.new) }
-    ensures idle { ForOthers (disk.new ≡ disk.old) (asked_of asked.entry) }
+    ensures idle { let objects = objects_of A.named A.table A.facts artifacts.items in
+        ForOthers (disk.new ≡ disk.old) (request objects (asked_of asked.entry)) }
     ensures safe { let objects = objects_of A.named A.table A.facts artifacts.items in
         let l = lent D.state disk.old disk.new in
-        ForRecords (λ u r. IsSafelyLeft l r) objects (asked_of asked.entry) }
+        ForRecords (λ u r. IsSafelyLeft l r) (request objects (asked_of asked.entry)) }
     ensures untouched { let objects = objects_of A.named A.table A.facts artifacts.items in
-        ForDemos (λ u count way. shelf.new ≡ shelf.old) objects (asked_of asked.entry) }
+        ForDemos (λ u count way. shelf.new ≡ shelf.old) (request objects (asked_of asked.entry)) }
     ensures kept { let told = told_of S.holds S.faults K.written K.faults in
         IsKept (told shelf.old sink.old) (told shelf.new sink.new) }
     ensures caused { let told = told_of S.holds S.faults K.written K.faults in
         let objects = objects_of A.named A.table A.facts artifacts.items in
         let l = lent D.state disk.old disk.new in
-        AskedCaused IsRunReportOf objects l (told shelf.old sink.old) (told shelf.new sink.new) result (asked_of asked.entry) }
+        AskedCaused IsRunReportOf objects l (told shelf.old sink.old) (told shelf.new sink.new) result (request objects (asked_of asked.entry)) }
 {
     match asked {
         Asked::Run {
@@ -158,7 +159,7 @@ fn run_asked<
             print_record(rt, alloc, &options, &r, shelf, sink, artifacts, disk)
         }
         Asked::Check { project, report } => {
-            let asks = Asks::Whether;
+            let asks = ReportClaim::Whether;
             print_answer(alloc, asks, project, report, shelf, sink, artifacts)
         }
         Asked::Demo { count, workers } => print_demo(
@@ -171,7 +172,7 @@ fn run_asked<
             artifacts,
         ),
         Asked::Renew { project, report } => {
-            let asks = Asks::Anew;
+            let asks = ReportClaim::Anew;
             print_answer(alloc, asks, project, report, shelf, sink, artifacts)
         }
         Asked::Sites {
@@ -213,14 +214,15 @@ fn run_read<
     requires free { IsFree D.state disk.old }
     ensures there { is_some disk.new ≡ true }
     ensures on { HasGoneOn (lent D.state disk.old disk.new) }
-    ensures idle { (asked : said.Asked) → AskFor (map string_bytes words.now) asked → ForOthers (disk.new ≡ disk.old) asked }
+    ensures idle { let objects = objects_of A.named A.table A.facts artifacts.items in
+        (asked : said.Asked) → AskFor (map string_bytes words.now) asked → ForOthers (disk.new ≡ disk.old) (request objects asked) }
     ensures safe { let objects = objects_of A.named A.table A.facts artifacts.items in
         let l = lent D.state disk.old disk.new in
-        (asked : said.Asked) → AskFor (map string_bytes words.now) asked → ForRecords (λ u r. IsSafelyLeft l r) objects asked }
+        (asked : said.Asked) → AskFor (map string_bytes words.now) asked → ForRecords (λ u r. IsSafelyLeft l r) (request objects asked) }
     ensures unread { AskForNothing (map string_bytes words.now) → (shelf.new ≡ shelf.old) × ((sink.new ≡ sink.old) × (disk.new ≡ disk.old)) }
     ensures untouched { let objects = objects_of A.named A.table A.facts artifacts.items in
         (asked : said.Asked) → AskFor (map string_bytes words.now) asked →
-        ForDemos (λ u count way. shelf.new ≡ shelf.old) objects asked }
+        ForDemos (λ u count way. shelf.new ≡ shelf.old) (request objects asked) }
     ensures kept { let told = told_of S.holds S.faults K.written K.faults in
         IsKept (told shelf.old sink.old) (told shelf.new sink.new) }
     ensures caused { let told = told_of S.holds S.faults K.written K.faults in
@@ -263,61 +265,62 @@ pub fn run_words<R: Threads + Wait + Sync, S: Shelf, K: Sink, G: Gate + Sync, D:
     ensures headline { let told = told_of S.holds S.faults K.written K.faults in
         let objects = objects_of named table facts artifacts.items in
         (asked : said.Asked) → AskFor (map string_bytes words.now) asked →
-        ForReports (λ u files. IsHeadline u files (told shelf.old sink.old) (told shelf.new sink.new) result) objects asked }
+        ForReports (λ u files. IsHeadline u files (told shelf.old sink.old) (told shelf.new sink.new) result) (request objects asked) }
     ensures schedule { let told = told_of S.holds S.faults K.written K.faults in
         let objects = objects_of named table facts artifacts.items in
         (asked : said.Asked) → AskFor (map string_bytes words.now) asked →
-        ForRuns (λ u files. PrintsSchedule u files (told shelf.old sink.old) (told shelf.new sink.new) result) objects asked }
+        ForRuns (λ u files. PrintsSchedule u files (told shelf.old sink.old) (told shelf.new sink.new) result) (request objects asked) }
     ensures complete { let told = told_of S.holds S.faults K.written K.faults in
         let objects = objects_of named table facts artifacts.items in
         (asked : said.Asked) → AskFor (map string_bytes words.now) asked →
-        ForRuns (λ u files. IsComplete u files (told shelf.old sink.old) (told shelf.new sink.new) result) objects asked }
+        ForRuns (λ u files. IsComplete u files (told shelf.old sink.old) (told shelf.new sink.new) result) (request objects asked) }
     ensures recorded { let told = told_of S.holds S.faults K.written K.faults in
         let objects = objects_of named table facts artifacts.items in
         let l = lent D.state disk.old disk.new in
         (asked : said.Asked) → AskFor (map string_bytes words.now) asked →
-        ForRecords (λ u r. KeepsPrinted l r (told shelf.old sink.old) (told shelf.new sink.new) result) objects asked }
+        ForRecords (λ u r. KeepsPrinted l r (told shelf.old sink.old) (told shelf.new sink.new) result) (request objects asked) }
     ensures finished { let told = told_of S.holds S.faults K.written K.faults in
         let objects = objects_of named table facts artifacts.items in
         let l = lent D.state disk.old disk.new in
         (asked : said.Asked) → AskFor (map string_bytes words.now) asked →
-        ForRecords (λ u r. IsRecordComplete l u r (told shelf.old sink.old) (told shelf.new sink.new) result) objects asked }
+        ForRecords (λ u r. IsRecordComplete l u r (told shelf.old sink.old) (told shelf.new sink.new) result) (request objects asked) }
     ensures safe { let objects = objects_of named table facts artifacts.items in
         let l = lent D.state disk.old disk.new in
-        (asked : said.Asked) → AskFor (map string_bytes words.now) asked → ForRecords (λ u r. IsSafelyLeft l r) objects asked }
-    ensures idle { (asked : said.Asked) → AskFor (map string_bytes words.now) asked → ForOthers (disk.new ≡ disk.old) asked }
+        (asked : said.Asked) → AskFor (map string_bytes words.now) asked → ForRecords (λ u r. IsSafelyLeft l r) (request objects asked) }
+    ensures idle { let objects = objects_of named table facts artifacts.items in
+        (asked : said.Asked) → AskFor (map string_bytes words.now) asked → ForOthers (disk.new ≡ disk.old) (request objects asked) }
     ensures check { let told = told_of S.holds S.faults K.written K.faults in
         let objects = objects_of named table facts artifacts.items in
         (asked : said.Asked) → AskFor (map string_bytes words.now) asked →
-        ForClaims (λ c. Judges objects c (told shelf.old sink.old) (told shelf.new sink.new) result) asked }
+        ForClaims (λ c. Judges objects c (told shelf.old sink.old) (told shelf.new sink.new) result) (request objects asked) }
     ensures checked { let told = told_of S.holds S.faults K.written K.faults in
         let objects = objects_of named table facts artifacts.items in
         (asked : said.Asked) → AskFor (map string_bytes words.now) asked →
-        ForClaims (λ c. IsClaimComplete objects c (told shelf.old sink.old) (told shelf.new sink.new) result) asked }
+        ForClaims (λ c. IsClaimComplete objects c (told shelf.old sink.old) (told shelf.new sink.new) result) (request objects asked) }
     ensures lint { let told = told_of S.holds S.faults K.written K.faults in
         let objects = objects_of named table facts artifacts.items in
         (asked : said.Asked) → AskFor (map string_bytes words.now) asked →
-        ForLints (λ project. Lints (known objects) project (told shelf.old sink.old) (told shelf.new sink.new) result) asked }
+        ForLints (λ project. Lints (known objects) project (told shelf.old sink.old) (told shelf.new sink.new) result) (request objects asked) }
     ensures linted { let told = told_of S.holds S.faults K.written K.faults in
         let objects = objects_of named table facts artifacts.items in
         (asked : said.Asked) → AskFor (map string_bytes words.now) asked →
-        ForLints (λ project. IsLintComplete (known objects) project (told shelf.old sink.old) (told shelf.new sink.new) result) asked }
+        ForLints (λ project. IsLintComplete (known objects) project (told shelf.old sink.old) (told shelf.new sink.new) result) (request objects asked) }
     ensures sites { let told = told_of S.holds S.faults K.written K.faults in
         let objects = objects_of named table facts artifacts.items in
         (asked : said.Asked) → AskFor (map string_bytes words.now) asked →
-        ForSites (λ u s. ReportsSites u s (told shelf.old sink.old) (told shelf.new sink.new) result) objects asked }
+        ForSites (λ u s. ReportsSites u s (told shelf.old sink.old) (told shelf.new sink.new) result) (request objects asked) }
     ensures met { let told = told_of S.holds S.faults K.written K.faults in
         let objects = objects_of named table facts artifacts.items in
         (asked : said.Asked) → AskFor (map string_bytes words.now) asked →
-        ForSites (λ u s. AreSitesComplete u s (told shelf.old sink.old) (told shelf.new sink.new) result) objects asked }
+        ForSites (λ u s. AreSitesComplete u s (told shelf.old sink.old) (told shelf.new sink.new) result) (request objects asked) }
     ensures demo { let told = told_of S.holds S.faults K.written K.faults in
         let objects = objects_of named table facts artifacts.items in
         (asked : said.Asked) → AskFor (map string_bytes words.now) asked →
-        ForDemos (λ u count way. IsDemoComplete u (told shelf.old sink.old) (told shelf.new sink.new) result) objects asked }
+        ForDemos (λ u count way. IsDemoComplete u (told shelf.old sink.old) (told shelf.new sink.new) result) (request objects asked) }
     ensures unread { AskForNothing (map string_bytes words.now) → (shelf.new ≡ shelf.old) × ((sink.new ≡ sink.old) × (disk.new ≡ disk.old)) }
     ensures untouched { let objects = objects_of named table facts artifacts.items in
         (asked : said.Asked) → AskFor (map string_bytes words.now) asked →
-        ForDemos (λ u count way. shelf.new ≡ shelf.old) objects asked }
+        ForDemos (λ u count way. shelf.new ≡ shelf.old) (request objects asked) }
     ensures kept { let told = told_of S.holds S.faults K.written K.faults in
         IsKept (told shelf.old sink.old) (told shelf.new sink.new) }
     ensures caused { let told = told_of S.holds S.faults K.written K.faults in

@@ -9,6 +9,5 @@ pub mod Deeds
 pub mod Sights
 pub mod Uses
 pub mod Naming
-pub mod Boxes
 pub mod Unchanged
 pub mod Sends

@@ -1,21 +1,15 @@
--- An act, a segment, mail and a world may go to another thread, where the artifacts of the world may.
-use denote.Param.Send.{IsSend, sendable, view_send}
-use denote.Param.SendFields.{declared_send}
+-- An act, a segment and a world may go to another thread, where the artifacts of the world may.
+use denote.Param.Send.{IsSend, sendable}
 use denote.RattleType.{RattleType}
 use Rattle.std.proofs.Crossing.{crosses}
 use Rattle.asl_term.proofs.names.Names.TheSendSync.{the_send as names_send}
-use Rattle.asl_term.proofs.room.Roomy.TheSendSync.{the_send as roomy_send}
 use Rattle.asl_term.proofs.sequence.Seq.TheSendSync.{the_send as seq_send}
 use Rattle.asl_term.proofs.syntax.LiteralOf.TheSendSync as literal
 use Rattle.asl_term.proofs.Sends.{term_field_send, term_send, expr_send}
 use Rattle.asl_term.specs.contracts.names.Names as names
-use Rattle.mas_mind.proofs.mind.Verb.TheSendSync.{the_field_send as verb_send}
-use Rattle.mas_mind.specs.contracts.mind.Message as message
 use Rattle.mas_world.specs.declared.artifact.Artifact.{Ghosts}
 use Rattle.mas_world.specs.contracts.acts.Act as act
-use Rattle.mas_world.specs.contracts.artifact.Kept as kept
-use Rattle.mas_world.specs.contracts.post.Post as post
-use Rattle.mas_world.specs.contracts.post.Post.TheInside as inside
+use Rattle.mas_world.specs.contracts.artifact.HeldArtifact as kept
 use Rattle.mas_world.specs.contracts.segment.Segment as segment
 use Rattle.mas_world.specs.contracts.segment.OwnSegment as own
 use Rattle.mas_world.specs.contracts.world.Artifacts as artifacts
@@ -29,12 +23,6 @@ segment_send = search (sendable, seq_send, literal.the_send, term_send, act_send
 
 pub own_segment_send : IsSend own.the_row
 own_segment_send = search (sendable, segment_send) depth 12
-
-message_send : IsSend message.the_row
-message_send = search (sendable, term_field_send, verb_send) depth 20
-
-pub post_send : IsSend post.the_row
-post_send = view_send inside.the_row _ _ _ _ (declared_send inside.the_type (seq_send _ (roomy_send _ message_send), tt))
 
 module _ (A : RattleType) (g : Ghosts A.Denot) where
   kept_send : IsSend A → IsSend (kept.the_row A g)

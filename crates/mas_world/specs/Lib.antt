@@ -3,5 +3,4 @@ pub mod Facts
 pub mod Acts
 pub mod Worlds
 pub mod Seen
-pub mod Posts
 pub mod inner

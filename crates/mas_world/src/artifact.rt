@@ -81,11 +81,11 @@ impl Artifact for Box<dyn Artifact + Send> {
 
 /// An artifact that contracts see as its name and its segment.
 #[derive(Drop)]
-pub struct Kept<A: Artifact> {
+pub struct HeldArtifact<A: Artifact> {
     artifact: A,
 }
 
-impl<A: Artifact> Model for Kept<A> {
+impl<A: Artifact> Model for HeldArtifact<A> {
     ghost use Rattle.mas_world.specs.Worlds.{Used, used};
     ghost use Rattle.asl_term.specs.contracts.syntax.Term as t;
     ghost use Rattle.asl_term.specs.contracts.syntax.Expr as e;
@@ -98,12 +98,12 @@ impl<A: Artifact> Model for Kept<A> {
     ghost view = { λ k. used (A.named k.artifact) (A.table k.artifact) (A.facts k.artifact) };
 }
 
-impl<A: Artifact> Kept<A> {
+impl<A: Artifact> HeldArtifact<A> {
     /// The artifact as a name and a segment.
-    pub fn new(artifact: A) -> Kept<A>
+    pub fn new(artifact: A) -> HeldArtifact<A>
         ensures { result ≡ spec.used (A.named artifact) (A.table artifact) (A.facts artifact) }
     {
-        Kept { artifact }
+        HeldArtifact { artifact }
     }
 
     /// Whether this is its name.

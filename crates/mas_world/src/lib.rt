@@ -1,5 +1,8 @@
-//! The world: facts that guarded actions change, in segments of the world file and of artifacts, and what agents see
-//! of them. Boxes of messages.
+//! Worlds: facts that guarded acts change, in segments of the world file and of artifacts; what agents see of them.
+//!
+//! May stand on: asl_term, asl_unify, mas_mind
+//!
+//! Must not: call a mind, know of agents' cycles, start a thread, read or write a file.
 #![tactic(auto)]
 
 pub mod acts;
@@ -7,7 +10,6 @@ pub mod artifact;
 pub mod facts;
 pub mod guards;
 pub mod opening;
-pub mod post;
 pub mod segment;
 pub mod shown;
 pub mod table;

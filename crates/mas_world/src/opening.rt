@@ -1,19 +1,16 @@
-//! A world and its boxes at the opening.
+//! A world at the opening.
 
 ghost use Rattle.std.specs.Prelude.{◌≡◌, ◌++◌, length, map, IfOk, OnOk};
 ghost use Rattle.std.specs.Option.{option_to_list};
 ghost use Rattle.mas_world.specs.Facts.{AreFacts};
-ghost use Rattle.mas_world.specs.Posts.{AreEmpty};
 ghost use Rattle.mas_world.specs.inner.Artifacts.{without_named};
 ghost use Rattle.mas_world.specs.Worlds as spec;
 
 use crate::acts::WorldText;
-use crate::artifact::{Artifact, Kept};
-use crate::post::Post;
+use crate::artifact::{Artifact, HeldArtifact};
 use crate::segment::Segment;
 use crate::world::{Artifacts, World};
 use asl_term::names::Names;
-use asl_term::room::Roomy;
 use asl_term::sequence::{Seq, Starved};
 use asl_term::syntax::Text;
 use std::alloc::Global;
@@ -24,7 +21,7 @@ fn keep_all<A: Artifact>(alloc: Global, artifacts: Vec<A>) -> Result<Artifacts<A
 {
     let mut kept = Artifacts::new(alloc);
     for artifact in artifacts {
-        kept.push(Kept::new(artifact))?;
+        kept.push(HeldArtifact::new(artifact))?;
     }
     Ok(kept)
 }
@@ -94,16 +91,4 @@ pub fn open_world<A: Artifact>(
             Err(starved)
         }
     }
-}
-
-/// So many empty boxes.
-pub fn post(alloc: Global, agents: u32) -> Result<Post, Starved>
-    ensures number { IfOk result (λ p. length p ≡ agents) }
-    ensures empty { IfOk result AreEmpty }
-{
-    let mut boxes = Seq::new(alloc);
-    for _ in 0..agents {
-        boxes.push(Roomy::new(alloc))?;
-    }
-    Ok(Post::of(boxes))
 }

@@ -10,7 +10,7 @@ ghost use Rattle.mas_world.specs.Seen as seen;
 ghost use Rattle.mas_world.specs.inner.Artifacts.{without_named};
 ghost use Rattle.mas_world.specs.Worlds as spec;
 
-use crate::artifact::{Artifact, Kept};
+use crate::artifact::{Artifact, HeldArtifact};
 use crate::segment::Segment;
 use crate::shown::{first_seen, see_all};
 use asl_term::names::Names;
@@ -22,7 +22,7 @@ use std::marker::Model;
 
 /// The artifacts that a world uses, in their order.
 pub struct Artifacts<A: Artifact> {
-    kept: Vec<Kept<A>>,
+    kept: Vec<HeldArtifact<A>>,
 }
 
 /// By hand, so that a crate above that lets one go proves nothing of its parts.
@@ -49,7 +49,7 @@ impl<A: Artifact> Model for Artifacts<A> {
 /// The first that acts decides.
 fn act_on<A: Artifact>(
     alloc: Global,
-    all: &mut [Kept<A>],
+    all: &mut [HeldArtifact<A>],
     agent: &Text,
     action: &Literal,
 ) -> Result<Feedback, Starved>
@@ -67,7 +67,7 @@ fn act_on<A: Artifact>(
 }
 
 /// The place of the first of this name.
-fn find_name<A: Artifact>(kept: &[Kept<A>], name: &Text) -> Option<usize>
+fn find_name<A: Artifact>(kept: &[HeldArtifact<A>], name: &Text) -> Option<usize>
     ensures { result ≡ position (λ u. bytes_eq u.name name.now) kept.now }
 {
     kept.iter().position(|a| a.has_name(name))
@@ -84,7 +84,7 @@ impl<A: Artifact> Artifacts<A> {
     }
 
     /// Puts an artifact last.
-    pub fn push(&mut self, artifact: Kept<A>) -> Result<(), Starved>
+    pub fn push(&mut self, artifact: HeldArtifact<A>) -> Result<(), Starved>
         ensures ok { OnOk result (self.new ≡ self.old ++ artifact ∷ []) }
         ensures err { OnErr result (self.new ≡ self.old) }
     {
@@ -96,7 +96,7 @@ impl<A: Artifact> Artifacts<A> {
 
     /// The first of this name, which goes.
     #[tactic(auto, using(crate::proofs::Uses::none_named, crate::proofs::Uses::none_gone))]
-    pub fn take_first(&mut self, name: &Text) -> Option<Kept<A>>
+    pub fn take_first(&mut self, name: &Text) -> Option<HeldArtifact<A>>
         ensures value { result ≡ spec.named self.old name.now }
         ensures rest { self.new ≡ without_named self.old name.now }
     {

@@ -5,7 +5,7 @@ use Rattle.std.specs.Str.{bytes_eq}
 use Rattle.std.proofs.Common.{sym, ap, ◌∙◌}
 use Rattle.asl_term.specs.declared.syntax.LiteralOf.{LiteralOf}
 use Rattle.asl_term.specs.declared.syntax.CallOf.{CallOf}
-use Rattle.asl_plans.specs.declared.entry.Entry.{Entry}
+use Rattle.asl_plans.specs.declared.entry.OwnedPlan.{OwnedPlan}
 use Rattle.asl_term.specs.declared.syntax.Term.{Term}
 use Rattle.asl_term.specs.declared.syntax.Expr.{Expr}
 use Rattle.asl_term.specs.declared.syntax.Expr.TheVariants as expr
@@ -25,17 +25,17 @@ use Rattle.asl_intend.specs.declared.agenda.Error.TheVariants as error
 use Rattle.asl_intend.specs.declared.agenda.Agenda.{Agenda}
 use Rattle.asl_fail.specs.Fails.{fails, is_raised, raised, popped_one, dropped}
 use Rattle.asl_intend.specs.Stacks.{head, has_head, has_means, without_head, is_bounded, is_bounded_trigger}
-use Rattle.asl_state.specs.declared.rows.Row.{Row}
-use Rattle.asl_state.specs.declared.rows.Row.TheVariants as row
-use Rattle.asl_state.specs.declared.went.Went.{Went}
-use Rattle.asl_state.specs.declared.went.Went.TheVariants as went
+use Rattle.asl_exec_circumstance.specs.declared.rows.Row.{Row}
+use Rattle.asl_exec_circumstance.specs.declared.rows.Row.TheVariants as row
+use Rattle.asl_exec_circumstance.specs.declared.went.Went.{Went}
+use Rattle.asl_exec_circumstance.specs.declared.went.Went.TheVariants as went
 use Rattle.asl_exec.specs.Said.{print_text}
-use Rattle.asl_state.specs.Parts.{Around, Parts, Made, made, failed}
+use Rattle.asl_exec_circumstance.specs.Circumstance.{Surroundings, Circumstance, Made, made, failed}
 use Rattle.asl_exec.specs.Exec as spec
-use Rattle.asl_state.specs.Sought.{sought}
+use Rattle.asl_exec_circumstance.specs.Sought.{sought}
 use Rattle.asl_exec.specs.Clear as clearing
-use Rattle.asl_state.specs.Emptied as emptying
-use Rattle.asl_state.specs.declared.peers.Peers.{Peers}
+use Rattle.asl_exec_circumstance.specs.Emptied as emptying
+use Rattle.asl_exec_circumstance.specs.declared.peers.Peers.{Peers}
 use Rattle.asl_goals.specs.declared.acted.Acted.{Acted}
 use Rattle.asl_goals.specs.declared.acted.Acted.TheVariants as acted
 use Rattle.asl_goals.specs.Inside.{Did, act_inside}
@@ -77,7 +77,7 @@ either P true x y h g = h
 either P false x y h g = g
 
 -- the stacks that run are not touched by a failure
-pub falls : (k : Around) (n : ℕ) (e : Error) (a : Agenda) (stack : List Means) → (fails k.plans n e a stack).agenda.running ≡ a.running
+pub falls : (k : Surroundings) (n : ℕ) (e : Error) (a : Agenda) (stack : List Means) → (fails k.plans n e a stack).agenda.running ≡ a.running
 falls k n e a [] = refl
 falls k n e a (m ∷ below) = falls_by (is_raised k.plans n e m.trigger) (has_means below) (falls k n e a below) where
   falls_by : (raises more : Bool) → (fails k.plans n e a below).agenda.running ≡ a.running
@@ -87,7 +87,7 @@ falls k n e a (m ∷ below) = falls_by (is_raised k.plans n e m.trigger) (has_me
   falls_by false false h = refl
 
 -- nor is the one that waits for its action
-pub falls_acting : (plans : List Entry) (n : ℕ) (e : Error) (a : Agenda) (stack : List Means) → (fails plans n e a stack).agenda.acting ≡ a.acting
+pub falls_acting : (plans : List OwnedPlan) (n : ℕ) (e : Error) (a : Agenda) (stack : List Means) → (fails plans n e a stack).agenda.acting ≡ a.acting
 falls_acting plans n e a [] = refl
 falls_acting plans n e a (m ∷ below) = falls_by (is_raised plans n e m.trigger) (has_means below) (falls_acting plans n e a below) where
   falls_by : (raises more : Bool) → (fails plans n e a below).agenda.acting ≡ a.acting
@@ -97,16 +97,16 @@ falls_acting plans n e a (m ∷ below) = falls_by (is_raised plans n e m.trigger
   falls_by false false h = refl
 
 -- where none waited before, one does where the row hands an action on
-abbrev pub IsHeld : Parts → Made → Type 0
+abbrev pub IsHeld : Circumstance → Made → Type 0
 IsHeld p x = p.agenda.acting ≡ None → is_some x.parts.agenda.acting ≡ acts (after_of x.went)
 
 -- a row of the parts p
-record Keeps (named : Option (LiteralOf Term)) (p : Parts) (x : Made) : Type 0 where
+record Keeps (named : Option (LiteralOf Term)) (p : Circumstance) (x : Made) : Type 0 where
   sound : IsSound named x.went
   running : x.parts.agenda.running ≡ p.agenda.running
   held : IsHeld p x
 
-module _ (k : Around) (p : Parts) (cur : List Means) where
+module _ (k : Surroundings) (p : Circumstance) (cur : List Means) where
   -- the goal that the head drops or ends
   abbrev pub Named : Option (LiteralOf Term)
   Named = dropped_by_head (head cur)
@@ -257,7 +257,7 @@ module _ (k : Around) (p : Parts) (cur : List Means) where
 
 -- ---- the row of Exec
 
-module _ (k : Around) (peers : Peers) (s : Sofar) where
+module _ (k : Surroundings) (peers : Peers) (s : Sofar) where
   acted_ground : (d : Did) (a : Acted) → IsGround (of_acted k peers s d a).next.after
   acted_ground d (acted.Failed e) = tt
   acted_ground d (acted.Asked m) = tt
@@ -266,7 +266,7 @@ module _ (k : Around) (peers : Peers) (s : Sofar) where
   acted_ground d (acted.Sent messages) = tt
   acted_ground d acted.Stop = tt
 
-module _ (k : Around) (peers : Peers) (s : Sofar) where
+module _ (k : Surroundings) (peers : Peers) (s : Sofar) where
   deed_ground : (d : Did) → IsGround (deed k peers s d).next.after
   deed_ground d = acted_ground k peers (record s { asks = d.asks }) d d.acted
 
@@ -278,5 +278,5 @@ module _ (k : Around) (peers : Peers) (s : Sofar) where
   by_ground x (went.Failed r fall) h = h
   by_ground x (went.Spent r b) h = h
 
-  pub exec_ground : (p : Parts) (cur : List Means) → IsGround (exec_step k peers p s cur).next.after
+  pub exec_ground : (p : Circumstance) (cur : List Means) → IsGround (exec_step k peers p s cur).next.after
   exec_ground p cur = let x = spec.exec k p cur in by_ground x x.went (exec_leads k p cur)

@@ -9,8 +9,8 @@ use Rattle.asl_intend.specs.declared.entry.Means.{Means}
 use Rattle.asl_intend.specs.declared.agenda.Event.{Event}
 use Rattle.asl_intend.specs.declared.agenda.Acting.{Acting}
 use Rattle.asl_beliefs.specs.Changes.{updated}
-use Rattle.asl_state.specs.declared.rows.Row.TheVariants as row
-use Rattle.asl_state.specs.Parts.{Around, Parts, believing}
+use Rattle.asl_exec_circumstance.specs.declared.rows.Row.TheVariants as row
+use Rattle.asl_exec_circumstance.specs.Circumstance.{Surroundings, Circumstance, believing}
 use Rattle.mas_mind.specs.declared.mind.Thought.{Thought}
 use Rattle.mas_mind.specs.declared.mind.Thought.TheVariants as thought
 use Rattle.mas_mind.specs.declared.mind.Feedback.{Feedback}
@@ -18,9 +18,9 @@ use Rattle.mas_mind.specs.declared.mind.Feedback.TheVariants as feedback
 use Rattle.mas_mind.specs.declared.mind.Input.{Input}
 use Rattle.mas_mind.specs.declared.mind.Message.{Message}
 use Rattle.mas_mind.specs.Minds.{Grows, AreLawful, IsAgent, IsFor, IsFrom, is_quiet, SendsNothing}
-use Rattle.asl_state.specs.declared.peers.Peers.{Peers}
-use Rattle.asl_cycle.specs.declared.rows.Line.{Line}
-use Rattle.asl_cycle.specs.declared.rows.Line.TheVariants as line
+use Rattle.asl_exec_circumstance.specs.declared.peers.Peers.{Peers}
+use Rattle.asl_cycle.specs.declared.rows.TraceLine.{TraceLine}
+use Rattle.asl_cycle.specs.declared.rows.TraceLine.TheVariants as line
 use Rattle.asl_cycle.specs.declared.rows.Sofar.{Sofar}
 use Rattle.asl_cycle.specs.Steps.{by, written, percept_on, feed, feed_on, sel_ev_on, sel_int_on, taught}
 use Rattle.asl_cycle.specs.Cycle as spec
@@ -36,11 +36,11 @@ clash : {A : Type 0} {b : Bool} → b ≡ true → b ≡ false → A
 clash p q = cc
 
 -- a cycle begins with nothing
-calm_start : (me n asks : ℕ) (events : List Trigger) (beliefs : List (LiteralOf Term)) (p : Parts)
+calm_start : (me n asks : ℕ) (events : List Trigger) (beliefs : List (LiteralOf Term)) (p : Circumstance)
     → IsCalm me n (written (spec.nothing_yet asks) (percept_on p (record { beliefs = beliefs; events = events })))
 calm_start me n asks events beliefs p = record { messages = All-nil (IsFrom me n); quiet = λ e. record { messages = refl; stop = refl } }
 
-cycle_fine : (k : Around) (peers : Peers) (p : Parts) (asks : ℕ) (kept : Option Feedback) (i : Input)
+cycle_fine : (k : Surroundings) (peers : Peers) (p : Circumstance) (asks : ℕ) (kept : Option Feedback) (i : Input)
     → IfSome i.message (λ m. IsAgent (length peers.names) m.from) → IsFine peers.me (length peers.names) (spec.cycle k peers p asks kept i).thought
 cycle_fine k peers p asks kept i sender =
     let c = updated i.percepts p.beliefs in
@@ -52,7 +52,7 @@ nothing_sent me n (thought.Outs o) f q = f.quiet q
 nothing_sent me n thought.Spent f q = cc
 
 -- a quiet cycle has no message
-quiet_feeds : (k : Around) (peers : Peers) (p : Parts) (s : Sofar) (kept : Option Feedback) (m : Option Message) → IsCalm peers.me (length peers.names) s
+quiet_feeds : (k : Surroundings) (peers : Peers) (p : Circumstance) (s : Sofar) (kept : Option Feedback) (m : Option Message) → IsCalm peers.me (length peers.names) s
     → is_quiet (spec.from_feed k peers p s kept m).thought ≡ true → SendsNothing (spec.from_feed k peers p s kept m).thought
 quiet_feeds k peers p s kept None h q =
     nothing_sent peers.me (length peers.names) (spec.from_feed k peers p s kept None).thought (feeds_fine k peers p s kept None tt h) q
@@ -74,7 +74,7 @@ sender_of me agents None h = tt
 sender_of me agents (Some m) h = h.sender
 
 -- the thought of a cycle that came to this
-pub lawful_of : (k : Around) (peers seen : Peers) (p q : Parts) (asks next : ℕ) (kept : Option Feedback) (i : Input) (ls : List Line) (t : Thought)
+pub lawful_of : (k : Surroundings) (peers seen : Peers) (p q : Circumstance) (asks next : ℕ) (kept : Option Feedback) (i : Input) (ls : List TraceLine) (t : Thought)
     → peers ≡ seen → IfSome i.message (IsFor seen.me (length seen.names))
     → spec.cycle k peers p asks kept i ≡ record { parts = q; asks = next; lines = ls; thought = t } → AreLawful seen.me (length seen.names) t
 lawful_of k peers seen p q asks next kept i ls t same sent e =
@@ -105,19 +105,19 @@ is_told m f = record { made = omega arith; new_lines = []; lines = sym (nothing_
 -- ---- a quiet cycle
 
 -- these parts are left, and there is nothing to do
-record Stays (p : Parts) (r : spec.Ran) : Type 0 where
+record Stays (p : Circumstance) (r : spec.Ran) : Type 0 where
   parts : r.parts ≡ p
   events : p.agenda.events ≡ []
   running : p.agenda.running ≡ []
 
-module _ (k : Around) (peers : Peers) where
-  int_stays : (p : Parts) (s : Sofar) (stacks : List (List Means))
+module _ (k : Surroundings) (peers : Peers) where
+  int_stays : (p : Circumstance) (s : Sofar) (stacks : List (List Means))
       → is_quiet (spec.and_then s (sel_int_on p stacks) (spec.after_sel_int k peers)).thought ≡ true
       → ((spec.and_then s (sel_int_on p stacks) (spec.after_sel_int k peers)).parts ≡ p) × (stacks ≡ [])
   int_stays p s [] q = (refl, refl)
   int_stays p s (c ∷ stacks) q = let w = sel_int_on p (c ∷ stacks) in clash q (execs k peers w.parts (written s w) c)
 
-  ev_stays : (p : Parts) (s : Sofar) (events : List Event) → events ≡ p.agenda.events
+  ev_stays : (p : Circumstance) (s : Sofar) (events : List Event) → events ≡ p.agenda.events
       → is_quiet (spec.and_then s (sel_ev_on p events) (spec.after_sel_ev k peers)).thought ≡ true
       → Stays p (spec.and_then s (sel_ev_on p events) (spec.after_sel_ev k peers))
   ev_stays p s [] e q =
@@ -128,12 +128,12 @@ module _ (k : Around) (peers : Peers) where
       let w = sel_ev_on p (v ∷ events) in
       clash q (rel k peers w.parts (written s w) v (is_loud s.lines (line.Rule row.SelEv1) [] refl))
 
-module _ (k : Around) (peers : Peers) where
-  mail_stays : (p : Parts) (s : Sofar) (m : Option Message) → is_quiet (spec.from_msg k peers p s m).thought ≡ true → Stays p (spec.from_msg k peers p s m)
+module _ (k : Surroundings) (peers : Peers) where
+  mail_stays : (p : Circumstance) (s : Sofar) (m : Option Message) → is_quiet (spec.from_msg k peers p s m).thought ≡ true → Stays p (spec.from_msg k peers p s m)
   mail_stays p s None q = ev_stays (taught k p.number None) peers p (written s (by row.Msg0 p [] true)) p.agenda.events refl q
   mail_stays p s (Some m) q = clash q (reads k peers p s m)
 
-  fed_stays : (p : Parts) (s : Sofar) (m : Option Message) (f : Feedback) (a : Option Acting)
+  fed_stays : (p : Circumstance) (s : Sofar) (m : Option Message) (f : Feedback) (a : Option Acting)
       → is_quiet (spec.and_then s (feed_on k p f a) (λ q t _. spec.from_msg k peers q t m)).thought ≡ true
       → Stays p (spec.and_then s (feed_on k p f a) (λ q t _. spec.from_msg k peers q t m))
   fed_stays p s m f None q = mail_stays p (written s (feed_on k p f None)) m q
@@ -142,13 +142,13 @@ module _ (k : Around) (peers : Peers) where
   fed_stays p s m feedback.Failed (Some a) q =
       let w = feed_on k p feedback.Failed (Some a) in clash q (mail k peers w.parts (written s w) m (is_loud s.lines (line.Rule row.FeedFail) w.lines refl))
 
-  feed_stays : (p : Parts) (s : Sofar) (kept : Option Feedback) (m : Option Message) → is_quiet (spec.from_feed k peers p s kept m).thought ≡ true
+  feed_stays : (p : Circumstance) (s : Sofar) (kept : Option Feedback) (m : Option Message) → is_quiet (spec.from_feed k peers p s kept m).thought ≡ true
       → Stays p (spec.from_feed k peers p s kept m)
   feed_stays p s None m q = mail_stays p (written s (feed k p None)) m q
   feed_stays p s (Some f) m q = fed_stays p s m f p.agenda.acting q
 
   -- what was perceived changes nothing
-  percept_stays : (asks : ℕ) (p : Parts) (kept : Option Feedback) (m : Option Message) (beliefs : List (LiteralOf Term)) (events : List Trigger)
+  percept_stays : (asks : ℕ) (p : Circumstance) (kept : Option Feedback) (m : Option Message) (beliefs : List (LiteralOf Term)) (events : List Trigger)
       → is_quiet (spec.and_then (spec.nothing_yet asks) (percept_on p (record { beliefs = beliefs; events = events }))
       (λ q t _. spec.from_feed k peers q t kept m)).thought ≡ true
       → (events ≡ []) × Stays (believing p beliefs [])
@@ -160,25 +160,25 @@ module _ (k : Around) (peers : Peers) where
       clash q (feeds k peers w.parts (written (spec.nothing_yet asks) w) kept m (is_loud [] (line.Rule row.Percept1) [] refl))
 
   -- an agent that has nothing to do is quiet
-  int_quiet : (p : Parts) (s : Sofar) (stacks : List (List Means)) → stacks ≡ [] → spec.quiet_lines (s.lines ++ line.Rule row.SelInt2 ∷ []) ≡ true
+  int_quiet : (p : Circumstance) (s : Sofar) (stacks : List (List Means)) → stacks ≡ [] → spec.quiet_lines (s.lines ++ line.Rule row.SelInt2 ∷ []) ≡ true
       → is_quiet (spec.and_then s (sel_int_on p stacks) (spec.after_sel_int k peers)).thought ≡ true
   int_quiet p s [] e h = h
   int_quiet p s (c ∷ stacks) e h = cc
 
-  ev_quiet : (p : Parts) (s : Sofar) (events : List Event) → events ≡ [] → p.agenda.running ≡ []
+  ev_quiet : (p : Circumstance) (s : Sofar) (events : List Event) → events ≡ [] → p.agenda.running ≡ []
       → spec.quiet_lines ((s.lines ++ line.Rule row.SelEv2 ∷ []) ++ line.Rule row.SelInt2 ∷ []) ≡ true
       → is_quiet (spec.and_then s (sel_ev_on p events) (spec.after_sel_ev k peers)).thought ≡ true
   ev_quiet p s [] e r h = int_quiet p (written s (sel_ev_on p [])) p.agenda.running r h
   ev_quiet p s (v ∷ events) e r h = cc
 
-module _ (k : Around) (peers : Peers) where
-  mail_quiet : (p : Parts) (s : Sofar) (m : Option Message) → m ≡ None → p.agenda.events ≡ [] → p.agenda.running ≡ []
+module _ (k : Surroundings) (peers : Peers) where
+  mail_quiet : (p : Circumstance) (s : Sofar) (m : Option Message) → m ≡ None → p.agenda.events ≡ [] → p.agenda.running ≡ []
       → spec.quiet_lines (((s.lines ++ line.Rule row.Msg0 ∷ []) ++ line.Rule row.SelEv2 ∷ []) ++ line.Rule row.SelInt2 ∷ []) ≡ true
       → is_quiet (spec.from_msg k peers p s m).thought ≡ true
   mail_quiet p s None none e r h = ev_quiet (taught k p.number None) peers p (written s (by row.Msg0 p [] true)) p.agenda.events e r h
   mail_quiet p s (Some m) none e r h = cc
 
-  percept_quiet : (asks : ℕ) (p : Parts) (m : Option Message) (beliefs : List (LiteralOf Term)) (events : List Trigger) → m ≡ None → events ≡ []
+  percept_quiet : (asks : ℕ) (p : Circumstance) (m : Option Message) (beliefs : List (LiteralOf Term)) (events : List Trigger) → m ≡ None → events ≡ []
       → (p.agenda.events ++ []) ≡ [] → p.agenda.running ≡ []
       → is_quiet (spec.and_then (spec.nothing_yet asks) (percept_on p (record { beliefs = beliefs; events = events }))
       (λ q t _. spec.from_feed k peers q t None m)).thought ≡ true
@@ -188,8 +188,8 @@ module _ (k : Around) (peers : Peers) where
   percept_quiet asks p m beliefs (v ∷ events) none e h r = cc
 
 -- whatever plans are known then
-module _ (k next : Around) (peers : Peers) where
-  pub still_again : (p : Parts) (asks : ℕ) (kept : Option Feedback) (i j : Input) → is_quiet (spec.cycle k peers p asks kept i).thought ≡ true
+module _ (k next : Surroundings) (peers : Peers) where
+  pub still_again : (p : Circumstance) (asks : ℕ) (kept : Option Feedback) (i j : Input) → is_quiet (spec.cycle k peers p asks kept i).thought ≡ true
       → j.percepts ≡ i.percepts → j.message ≡ None
       → is_quiet (spec.cycle next peers (spec.cycle k peers p asks kept i).parts (spec.cycle k peers p asks kept i).asks None j).thought ≡ true
   still_again p asks kept i j q same none_sent =

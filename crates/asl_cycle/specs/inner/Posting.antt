@@ -17,13 +17,13 @@ use Rattle.asl_intend.specs.declared.entry.Means.{Means}
 use Rattle.asl_intend.specs.declared.agenda.Agenda.{Agenda}
 use Rattle.asl_intend.specs.Stacks.{has_goal}
 use Rattle.asl_intend.specs.Agendas.{without_intentions, without_desires}
-use Rattle.asl_state.specs.declared.rows.Fall.{Fall}
-use Rattle.asl_state.specs.Parts.{Around, Parts}
+use Rattle.asl_exec_circumstance.specs.declared.rows.Fall.{Fall}
+use Rattle.asl_exec_circumstance.specs.Circumstance.{Surroundings, Circumstance}
 use Rattle.mas_mind.specs.declared.mind.Message.{Message}
 use Rattle.mas_mind.specs.declared.mind.Verb.{Verb}
 use Rattle.mas_mind.specs.Minds.{IsAgent, IsFrom}
-use Rattle.asl_state.specs.declared.peers.Peers.{Peers}
-use Rattle.asl_state.specs.Contents.{literal_of}
+use Rattle.asl_exec_circumstance.specs.declared.peers.Peers.{Peers}
+use Rattle.asl_exec_circumstance.specs.Contents.{literal_of}
 use Rattle.asl_goals.specs.declared.acted.Acted.{Acted}
 use Rattle.asl_goals.specs.declared.acted.Acted.TheVariants as acted
 use Rattle.asl_goals.specs.declared.acted.Why.{Why}
@@ -113,7 +113,7 @@ AreFrom me n (acted.Failed e) = Unit {0}
 record Posts (me n : ℕ) (d : Did) : Type 0 where
   posts : AreFrom me n d.acted
 
-module _ (k : Around) (peers : Peers) (asks : ℕ) (p : Parts) (cur : List Means) where
+module _ (k : Surroundings) (peers : Peers) (asks : ℕ) (p : Circumstance) (cur : List Means) where
   abbrev me : ℕ
   me = peers.me
 
@@ -134,11 +134,11 @@ module _ (k : Around) (peers : Peers) (asks : ℕ) (p : Parts) (cur : List Means
   looks None = record { posts = tt }
   looks (Some s) = record { posts = tt }
 
-  current_left : (q : Parts) (stack : List Means) (fs : List Fall) → Fit (spec.current_left k asks p cur q stack fs)
+  current_left : (q : Circumstance) (stack : List Means) (fs : List Fall) → Fit (spec.current_left k asks p cur q stack fs)
   current_left q [] fs = record { posts = tt }
   current_left q (m ∷ below) fs = record { posts = tt }
 
-  current : (w : Way) (q : Parts) (fs : List Fall) (o : Option (List Means)) → Fit (spec.current k asks p cur w q fs o)
+  current : (w : Way) (q : Circumstance) (fs : List Fall) (o : Option (List Means)) → Fit (spec.current k asks p cur w q fs o)
   current w q fs None = record { posts = tt }
   current w q fs (Some cut) = let x = goals.treated k w q cut in current_left x.parts x.cur (fs ++ goals.falls_of x.went)
 
@@ -194,7 +194,7 @@ module _ (k : Around) (peers : Peers) (asks : ℕ) (p : Parts) (cur : List Means
       (pick Fit (bytes_eq c.name (codes "stopMAS")) {x = spec.stop k asks p cur} (record { posts = tt })
       (about_term c.name (sending.term_at c.args 0))))
 
-pub deed_posts : (k : Around) (peers : Peers) (asks : ℕ) (p : Parts) (cur : List Means) (c : CallOf Expr)
+pub deed_posts : (k : Surroundings) (peers : Peers) (asks : ℕ) (p : Circumstance) (cur : List Means) (c : CallOf Expr)
     → AreFrom peers.me (length peers.names) (spec.act_inside k peers asks p cur c).acted
 unfolding spec.act_inside
 deed_posts k peers asks p cur c = (acts k peers asks p cur c).posts

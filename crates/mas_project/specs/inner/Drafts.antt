@@ -2,9 +2,9 @@
 use Rattle.std.specs.Prelude.{◌≡◌, ◌+◌, ◌-◌, ◌≤◌, ◌^◌, List, [], ◌∷◌, ◌++◌, map, length, min}
 use Rattle.asl_lexer.specs.declared.token.Tok.{Tok}
 use Rattle.mas_project.specs.declared.draft.Draft.{Draft}
-use Rattle.mas_project.specs.declared.piece.Entry.{Entry}
-use Rattle.mas_project.specs.declared.piece.Said.{Said}
-use Rattle.mas_project.specs.declared.piece.Said.TheVariants as said
+use Rattle.mas_project.specs.declared.piece.AgentEntry.{AgentEntry}
+use Rattle.mas_project.specs.declared.piece.PieceMeaning.{PieceMeaning}
+use Rattle.mas_project.specs.declared.piece.PieceMeaning.TheVariants as said
 use Rattle.mas_project.specs.declared.syntax.AgentLine.{AgentLine}
 use Rattle.mas_project.specs.declared.syntax.ProjectText.{ProjectText}
 use Rattle.mas_project.specs.declared.fault.ProjectFault.{ProjectFault}
@@ -20,13 +20,13 @@ capped line = record { name = line.name; file = line.file; count = min line.coun
 abbrev pub no_draft : Draft
 no_draft = record { text = nothing; agents = 0 }
 
-abbrev pub entry_drafted : Draft → Entry → Draft
+abbrev pub entry_drafted : Draft → AgentEntry → Draft
 entry_drafted d entry = record {
   text = record { name = d.text.name; world = d.text.world; agents = d.text.agents ++ capped (line_of entry) ∷ [] };
   agents = saturated (d.agents + count_of entry);
 }
 
-abbrev pub drafted : Draft → Said → Draft
+abbrev pub drafted : Draft → PieceMeaning → Draft
 drafted d (said.Title name) = record { text = record { name = name; world = d.text.world; agents = d.text.agents }; agents = d.agents }
 drafted d (said.First world entry) = entry_drafted (record {
   text = record { name = d.text.name; world = world; agents = d.text.agents };

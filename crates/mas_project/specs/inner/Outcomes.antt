@@ -1,14 +1,14 @@
 -- What the reading of one piece finds.
 use Rattle.std.specs.Prelude.{List}
-use Rattle.mas_project.specs.declared.lexeme.Lexeme.{Lexeme}
-use Rattle.mas_project.specs.declared.piece.Turn.{Turn}
+use Rattle.mas_project.specs.declared.lexeme.ProjectLexeme.{ProjectLexeme}
+use Rattle.mas_project.specs.declared.piece.NextPiece.{NextPiece}
 use Rattle.mas_project.specs.declared.reading.Outcome.{Outcome}
 use Rattle.mas_project.specs.declared.reading.Outcome.TheVariants as outcome
 use Rattle.mas_project.specs.declared.state.State.{State}
 use Rattle.mas_project.specs.declared.state.State.TheVariants as state
 use Rattle.mas_project.specs.Grammar.{Reads, StopsAt, EndsEarly}
 
-abbrev pub IsOutcome : Turn → List Lexeme → Outcome → Type 0
+abbrev pub IsOutcome : NextPiece → List ProjectLexeme → Outcome → Type 0
 IsOutcome at ts (outcome.Whole meant) = Reads at ts meant
 IsOutcome at ts outcome.Early = EndsEarly at ts
 IsOutcome at ts (outcome.Stops word) = StopsAt at ts word

@@ -1,5 +1,5 @@
 use Rattle.std.proofs.Common.{◌≡◌, suc}
-use Rattle.asl_state.specs.Parts.{seen_around, seen}
+use Rattle.asl_exec_circumstance.specs.Circumstance.{seen_around, seen}
 use Rattle.asl_cycle.specs.Cycle as spec
 use Rattle.asl_cycle.proofs.cycle.from_clr.Given as goal
 

@@ -1,4 +1,4 @@
-use Rattle.asl_state.specs.Parts.{seen_around, seen}
+use Rattle.asl_exec_circumstance.specs.Circumstance.{seen_around, seen}
 use Rattle.asl_cycle.proofs.Moving.{exec_ends}
 use Rattle.asl_cycle.proofs.steps.exec_step.Goals as goal
 

@@ -1,6 +1,6 @@
 use Rattle.std.proofs.Common.{sym, ap, ◌∙◌}
 use Rattle.std.proofs.lemmas.Result.{IfOk-weaker}
-use Rattle.asl_state.specs.Parts.{seen_around, seen}
+use Rattle.asl_exec_circumstance.specs.Circumstance.{seen_around, seen}
 use Rattle.asl_kqml.specs.Receive.{Received}
 use Rattle.asl_cycle.proofs.Awaiting.{on_ok}
 use Rattle.asl_cycle.proofs.Letters.{reads_acting}

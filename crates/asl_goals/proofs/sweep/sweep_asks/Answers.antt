@@ -3,7 +3,7 @@ use Rattle.std.proofs.lemmas.Iterator.Adapters.{YieldsList-from_vec}
 use Rattle.std.proofs.lemmas.Iterator.Consumers.{YieldsList-end}
 use Rattle.asl_term.specs.declared.syntax.Clause.{Clause}
 use Rattle.asl_intend.specs.declared.agenda.Ask.{Ask}
-use Rattle.asl_state.specs.Parts.{Parts, around}
+use Rattle.asl_exec_circumstance.specs.Circumstance.{Circumstance, around}
 use Rattle.asl_goals.specs.Goals.{from_lowest, taken_out, with_asks}
 use Rattle.asl_goals.proofs.Folds.{goes_on_as, finished}
 use Rattle.asl_goals.proofs.sweep.sweep_asks.Goals as goal
@@ -13,7 +13,7 @@ loop-ask-preserved g c =
     let a = c.args in
     let l = c.loop-ask in
     let m = c.in_ok-sweep_ask.ensures in
-    let one = λ (rs : List Clause) (q : Parts) (x : Ask). taken_out (around a.k.now.lib.plans rs (g.A.Actions.solve a.k.now.actions) a.k.now.budgets) a.way a.g.now q x (from_lowest a.g.now x.stack) in
+    let one = λ (rs : List Clause) (q : Circumstance) (x : Ask). taken_out (around a.k.now.lib.plans rs (g.A.Actions.solve a.k.now.actions) a.k.now.budgets) a.way a.g.now q x (from_lowest a.g.now x.stack) in
     record {
       sofar = goes_on_as one _ _ (ap g.B.BeliefBase.rules l.invariant.beliefs) _ a.falls.now l.yielded c.in-Some.ask _ _ _ _ _ _ l.invariant.sofar
           m.made.0 m.made.1 m.made.2;

@@ -1,5 +1,5 @@
 use Rattle.std.proofs.Common.{◌≡◌, []}
-use Rattle.asl_state.specs.Parts.{seen_around, seen}
+use Rattle.asl_exec_circumstance.specs.Circumstance.{seen_around, seen}
 use Rattle.asl_goals.specs.Goals.{from_lowest, taken_out, with_asks}
 use Rattle.asl_goals.proofs.Folds.{Sofar}
 use Rattle.asl_goals.proofs.sweep.sweep_asks.Given as goal

@@ -3,7 +3,7 @@ use Rattle.std.proofs.lemmas.Iterator.Adapters.{YieldsList-from_vec}
 use Rattle.std.proofs.lemmas.Iterator.Consumers.{YieldsList-end}
 use Rattle.asl_term.specs.declared.syntax.Clause.{Clause}
 use Rattle.asl_intend.specs.declared.entry.Means.{Means}
-use Rattle.asl_state.specs.Parts.{Parts, around}
+use Rattle.asl_exec_circumstance.specs.Circumstance.{Circumstance, around}
 use Rattle.asl_goals.specs.Goals.{from_lowest, in_place, with_running}
 use Rattle.asl_goals.proofs.Folds.{goes_on_as, finished}
 use Rattle.asl_goals.proofs.sweep.sweep_running.Goals as goal
@@ -13,7 +13,7 @@ loop-stack-preserved g c =
     let a = c.args in
     let l = c.loop-stack in
     let m = c.in_ok-sweep_stack.ensures in
-    let one = λ (rs : List Clause) (q : Parts) (x : List Means). in_place (around a.k.now.lib.plans rs (g.A.Actions.solve a.k.now.actions) a.k.now.budgets) a.way a.g.now q x (from_lowest a.g.now x) in
+    let one = λ (rs : List Clause) (q : Circumstance) (x : List Means). in_place (around a.k.now.lib.plans rs (g.A.Actions.solve a.k.now.actions) a.k.now.budgets) a.way a.g.now q x (from_lowest a.g.now x) in
     record {
       sofar = goes_on_as one _ _ (ap g.B.BeliefBase.rules l.invariant.beliefs) _ a.falls.now l.yielded c.in-Some.stack _ _ _ _ _ _ l.invariant.sofar
           m.made.0 m.made.1 m.made.2;

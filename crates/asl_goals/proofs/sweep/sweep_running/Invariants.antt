@@ -1,5 +1,5 @@
 use Rattle.std.proofs.Common.{◌≡◌, []}
-use Rattle.asl_state.specs.Parts.{seen_around, seen}
+use Rattle.asl_exec_circumstance.specs.Circumstance.{seen_around, seen}
 use Rattle.asl_goals.specs.Goals.{from_lowest, in_place, with_running}
 use Rattle.asl_goals.proofs.Folds.{Sofar}
 use Rattle.asl_goals.proofs.sweep.sweep_running.Given as goal

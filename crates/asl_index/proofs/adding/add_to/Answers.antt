@@ -1,7 +1,7 @@
 use Rattle.std.proofs.Common.{rules, ◌≡◌, ap}
 use Rattle.std.specs.Prelude.{option_to_list}
 use Rattle.std.proofs.lemmas.Result.{on_ok_weaker, on_err_weaker, IfOk-weaker}
-use Rattle.asl_places.specs.Slots.{kept}
+use Rattle.asl_index_tables.specs.Slots.{kept}
 use Rattle.asl_beliefs.specs.Changes.{added}
 use Rattle.asl_beliefs.proofs.Added.{any_differs, added_last, sound_added}
 use Rattle.asl_beliefs.proofs.Sound.{sound_after, if_ok_both}

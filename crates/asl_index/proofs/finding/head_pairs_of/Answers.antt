@@ -1,5 +1,5 @@
 use Rattle.std.proofs.Common.{rules, sym}
-use Rattle.asl_places.specs.Slots.{kept}
+use Rattle.asl_index_tables.specs.Slots.{kept}
 use Rattle.asl_unify.specs.Compare.{same_frame}
 use Rattle.asl_beliefs.proofs.Kth.{kth_belief, ground_filtered, renamed_ground}
 use Rattle.asl_index.proofs.finding.head_pairs_of.Goals as goal

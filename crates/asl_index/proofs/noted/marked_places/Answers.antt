@@ -1,6 +1,6 @@
 use Rattle.std.proofs.Common.{ap, ◌∙◌, arith}
 use Rattle.std.proofs.lemmas.List.{take_all}
-use Rattle.asl_places.specs.Slots.{places}
+use Rattle.asl_index_tables.specs.Slots.{places}
 use Rattle.asl_index.specs.Noted.{is_perceived}
 use Rattle.asl_index.proofs.Perceiving.{places_next}
 use Rattle.asl_index.proofs.noted.marked_places.Goals as goal

@@ -1,5 +1,5 @@
 use Rattle.std.proofs.Common.{◌≡◌, take}
-use Rattle.asl_places.specs.Slots.{places}
+use Rattle.asl_index_tables.specs.Slots.{places}
 use Rattle.asl_index.specs.Noted.{is_perceived}
 use Rattle.asl_index.proofs.noted.marked_places.Given as goal
 

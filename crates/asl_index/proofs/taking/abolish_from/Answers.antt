@@ -3,8 +3,8 @@ use Rattle.std.specs.Option.{is_some}
 use Rattle.std.specs.List.{filter}
 use Rattle.std.proofs.lemmas.Option.{slice_get_within}
 use Rattle.asl_unify.specs.Compare.{same_frame}
-use Rattle.asl_places.specs.Slots.{kept}
-use Rattle.asl_places.proofs.Slots.{nth_slot}
+use Rattle.asl_index_tables.specs.Slots.{kept}
+use Rattle.asl_index_tables.proofs.Slots.{nth_slot}
 use Rattle.asl_beliefs.specs.Bases.{AreBeliefs}
 use Rattle.asl_index.proofs.Heads.{few}
 use Rattle.asl_index.proofs.Steps.{sound_gone}

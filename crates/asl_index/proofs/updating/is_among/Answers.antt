@@ -1,7 +1,7 @@
 use Rattle.std.proofs.Common.{false, map, Some, sym, ap, ◌∙◌, arith}
 use Rattle.std.specs.List.{list_any}
 use Rattle.std.specs.Option.{option_map_or}
-use Rattle.asl_places.proofs.Slots.{kept_some}
+use Rattle.asl_index_tables.proofs.Slots.{kept_some}
 use Rattle.asl_beliefs.specs.Changes.{same_belief}
 use Rattle.asl_index.proofs.Finds.{other_next, not_past, none_found}
 use Rattle.asl_index.proofs.Heads.{at_some}

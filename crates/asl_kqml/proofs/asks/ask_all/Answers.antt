@@ -2,7 +2,7 @@ use Rattle.std.proofs.Common.{◌≡◌, ◌⊎◌, inl, inr, ◌∙◌, ap, sym
 use Rattle.std.proofs.lemmas.Result.{IfOk-weaker}
 use Rattle.asl_term.specs.declared.syntax.Term.{Term}
 use Rattle.asl_term.specs.declared.syntax.Term.TheVariants as term
-use Rattle.asl_state.specs.declared.rows.Row.TheVariants as row
+use Rattle.asl_exec_circumstance.specs.declared.rows.Row.TheVariants as row
 use Rattle.asl_resolve.specs.declared.answers.Listed.{Listed}
 use Rattle.asl_resolve.specs.declared.answers.Listed.TheVariants as listed
 use Rattle.asl_unify.specs.Puts.{nil}

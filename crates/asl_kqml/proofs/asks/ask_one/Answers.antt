@@ -1,6 +1,6 @@
 use Rattle.std.proofs.Common.{◌≡◌, ◌⊎◌, inl, inr, ◌∙◌, ap, sym, refl}
 use Rattle.std.proofs.lemmas.Result.{IfOk-weaker}
-use Rattle.asl_state.specs.declared.rows.Row.TheVariants as row
+use Rattle.asl_exec_circumstance.specs.declared.rows.Row.TheVariants as row
 use Rattle.asl_resolve.specs.declared.answers.Answer.{Answer}
 use Rattle.asl_resolve.specs.declared.answers.Answer.TheVariants as answer
 use Rattle.asl_kqml.specs.Receive as spec

@@ -1,6 +1,6 @@
 use Rattle.std.proofs.Common.{◌∙◌, ap, sym}
 use Rattle.std.proofs.lemmas.Result.{IfOk-weaker}
-use Rattle.asl_state.specs.Parts.{seen_around, seen}
+use Rattle.asl_exec_circumstance.specs.Circumstance.{seen_around, seen}
 use Rattle.asl_kqml.specs.Receive.{asks_all, sought_all}
 use Rattle.asl_kqml.specs.inner.Asks.{ask_listed}
 use Rattle.asl_kqml.proofs.Found.{asked_all}

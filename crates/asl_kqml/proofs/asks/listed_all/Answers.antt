@@ -3,7 +3,7 @@ use Rattle.std.proofs.lemmas.Result.{IfOk-weaker}
 use Rattle.asl_term.specs.declared.syntax.LiteralOf.{LiteralOf}
 use Rattle.asl_term.specs.declared.syntax.Term.{Term}
 use Rattle.asl_term.specs.declared.syntax.Term.TheVariants as term
-use Rattle.asl_state.specs.Parts.{seen_around, seen}
+use Rattle.asl_exec_circumstance.specs.Circumstance.{seen_around, seen}
 use Rattle.asl_resolve.specs.Listed.{list_of}
 use Rattle.asl_kqml.specs.Receive.{sought_all}
 use Rattle.asl_kqml.proofs.asks.listed_all.Goals as goal

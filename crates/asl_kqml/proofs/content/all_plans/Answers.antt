@@ -3,7 +3,7 @@ use Rattle.std.proofs.lemmas.List.{at_drop_more}
 use Rattle.std.specs.Option.{option_map}
 use Rattle.asl_term.specs.declared.syntax.Plan.{Plan}
 use Rattle.asl_term.specs.declared.syntax.Term.{Term}
-use Rattle.asl_state.specs.Contents.{before}
+use Rattle.asl_exec_circumstance.specs.Contents.{before}
 use Rattle.asl_kqml.specs.Contents.{all_plans}
 use Rattle.asl_kqml.proofs.content.all_plans.Goals as goal
 

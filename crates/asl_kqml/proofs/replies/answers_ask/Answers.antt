@@ -1,5 +1,5 @@
 use Rattle.std.proofs.Common.{◌∙◌, ap, sym}
-use Rattle.asl_state.specs.Parts as parts
+use Rattle.asl_exec_circumstance.specs.Circumstance as parts
 use Rattle.asl_kqml.specs.Receive as spec
 use Rattle.asl_kqml.proofs.Unasked.{no_ask}
 use Rattle.asl_kqml.proofs.replies.answers_ask.Goals as goal

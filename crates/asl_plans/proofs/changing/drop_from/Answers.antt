@@ -1,6 +1,6 @@
 use Rattle.std.proofs.Common.{sym, subst}
 use Rattle.asl_plans.specs.Libraries.{AreEntries}
-use Rattle.asl_plans.proofs.Entries.{entries_dropped}
+use Rattle.asl_plans.proofs.OwnedPlans.{entries_dropped}
 use Rattle.asl_plans.proofs.changing.drop_from.Goals as goal
 
 pub returns-clause-sound : goal.returns-clause-sound

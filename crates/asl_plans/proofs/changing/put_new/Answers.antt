@@ -1,5 +1,5 @@
 use Rattle.std.proofs.Common.{◌-◌, ◌++◌, ◌∷◌, [], length, take, ap, sym, ◌∙◌, subst}
-use Rattle.asl_plans.specs.Filed.{IsIndex}
+use Rattle.asl_plans.specs.FiledPlaces.{IsIndex}
 use Rattle.asl_plans.proofs.Changes.{longer, without_last}
 use Rattle.asl_plans.proofs.changing.put_new.Goals as goal
 

@@ -1,5 +1,5 @@
 use Rattle.std.proofs.Common.{sym, ◌∙◌, arith}
-use Rattle.asl_places.specs.Keys.{listed}
+use Rattle.asl_index_tables.specs.Keys.{listed}
 use Rattle.asl_plans.proofs.Filings.{found_at, looked_next, not_past, none_left}
 use Rattle.asl_plans.proofs.index.find.Goals as goal
 use Rattle.asl_plans.proofs.index.find.Goals.{in-Some+else-is_at, in_default}

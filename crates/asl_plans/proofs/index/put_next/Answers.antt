@@ -1,5 +1,5 @@
 use Rattle.std.proofs.Common.{◌+◌, sym, ◌∙◌, refl}
-use Rattle.asl_plans.specs.Filed.{plan_key}
+use Rattle.asl_plans.specs.FiledPlaces.{plan_key}
 use Rattle.asl_plans.proofs.Countings.{counted_same, counted_more}
 use Rattle.asl_plans.proofs.index.put_next.Goals as goal
 

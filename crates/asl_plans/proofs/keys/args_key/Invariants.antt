@@ -1,6 +1,6 @@
 use Rattle.std.proofs.Common.{◌≡◌, map, drop}
-use Rattle.asl_places.specs.Prints.{mixed}
-use Rattle.asl_plans.specs.Filed.{arg_key}
+use Rattle.asl_index_tables.specs.Prints.{mixed}
+use Rattle.asl_plans.specs.FiledPlaces.{arg_key}
 use Rattle.asl_plans.proofs.keys.args_key.Given as goal
 
 abbrev pub invariant-loop-a : goal.invariant-loop-a

@@ -1,6 +1,6 @@
 use Rattle.std.proofs.Common.{◌≡◌, map, drop}
-use Rattle.asl_places.specs.Prints.{mixed}
-use Rattle.asl_plans.specs.Filed.{formula_key}
+use Rattle.asl_index_tables.specs.Prints.{mixed}
+use Rattle.asl_plans.specs.FiledPlaces.{formula_key}
 use Rattle.asl_plans.proofs.keys.body_key.Given as goal
 
 abbrev pub invariant-loop-f : goal.invariant-loop-f

@@ -1,6 +1,6 @@
 use Rattle.std.proofs.Common.{◌≡◌, length, ap, ◌∙◌, arith}
 use Rattle.asl_plans.specs.Libraries.{lost}
-use Rattle.asl_plans.proofs.Entries.{lost_length, lost_next, lost_all}
+use Rattle.asl_plans.proofs.OwnedPlans.{lost_length, lost_next, lost_all}
 use Rattle.asl_plans.proofs.owners.lose_all.Goals as goal
 
 pub at_mut-requires : goal.at_mut-requires

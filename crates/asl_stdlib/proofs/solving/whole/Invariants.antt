@@ -1,6 +1,6 @@
 use Rattle.std.proofs.Common.{◌≡◌, ◌++◌, length, reverse}
 use Rattle.asl_unify.specs.Matches.{behind}
-use Rattle.asl_resolve.specs.Given.{AreSound}
+use Rattle.asl_resolve.specs.GivenPairs.{AreSound}
 use Rattle.asl_stdlib.proofs.solving.whole.Given as goal
 
 abbrev pub invariant-loop-more : goal.invariant-loop-more

@@ -1,7 +1,7 @@
 -- what is left, read from here, has the bad line of the whole
 use Rattle.std.proofs.Common.{◌≡◌, ◌+◌, drop, map}
 use Rattle.chart.specs.Form.{bad_from}
-use Rattle.chart.specs.declared.form.Stage.TheVariants as stage
+use Rattle.chart.specs.declared.form.ReadingStage.TheVariants as stage
 use Rattle.chart.proofs.form.first_bad.Given as goal
 
 abbrev pub invariant-lines : goal.invariant-lines

@@ -1,7 +1,7 @@
 use Rattle.std.proofs.Common.{◌≡◌, ◌<◌, length, Some, None, rules, arith}
-use Rattle.asl_meaning.specs.Holding.{limited}
-use Rattle.asl_meaning.specs.Leaves.{after_comma}
-use Rattle.asl_reading.proofs.Loop.{comma_shorter}
+use Rattle.asl_parser_tree.specs.Holding.{limited}
+use Rattle.asl_parser_tree.specs.Leaves.{after_comma}
+use Rattle.asl_parser_expr.proofs.Loop.{comma_shorter}
 use Rattle.env_file.specs.Holding.{put_effect}
 use Rattle.env_file.specs.Speaking.{effect_by}
 use Rattle.env_file.proofs.Effects.{effects_stop, effects_more, effects_end, effect_shorter}

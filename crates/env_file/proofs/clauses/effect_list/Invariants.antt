@@ -1,5 +1,5 @@
 use Rattle.std.proofs.Common.{length}
-use Rattle.asl_meaning.specs.Holding.{limited}
+use Rattle.asl_parser_tree.specs.Holding.{limited}
 use Rattle.env_file.specs.Speaking.{effect_by, effect_list_by}
 use Rattle.env_file.proofs.Effects.{EffectsLeft}
 use Rattle.env_file.proofs.clauses.effect_list.Given as goal

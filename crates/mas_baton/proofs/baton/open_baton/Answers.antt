@@ -1,5 +1,5 @@
 use Rattle.std.proofs.Common.{◌<◌, length, ap, add-one, arith}
-use Rattle.mas_views.proofs.Joins.{forks}
+use Rattle.mas_board_turns.proofs.Joins.{forks}
 use Rattle.mas_baton.proofs.Openings.{opening_first, opening_next}
 use Rattle.mas_baton.proofs.baton.open_baton.Goals as goal
 

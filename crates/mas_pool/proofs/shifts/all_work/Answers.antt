@@ -1,10 +1,10 @@
 use denote.Param.Send.{sendable, param_send, arg_send}
 use denote.Param.SendFields.{as_row_sync, declared_sync}
 use Rattle.std.proofs.Crossing.{crosses}
-use Rattle.mas_ready.proofs.queue.Pass.TheSendSync.{the_send as pass_send}
-use Rattle.mas_ready.proofs.queue.Ready.TheSendSync.{the_sync as ready_sync}
+use Rattle.mas_pool_ready.proofs.queue.Pass.TheSendSync.{the_send as pass_send}
+use Rattle.mas_pool_ready.proofs.queue.Ready.TheSendSync.{the_sync as ready_sync}
 use Rattle.mas_baton.proofs.Sends.{baton_sync}
-use Rattle.mas_going.proofs.Sends.{going_send}
+use Rattle.mas_pool_task.proofs.Sends.{going_send}
 use Rattle.mas_pool.proofs.shifts.all_work.Goals as goal
 
 -- the facts on agents are stated by hand, since a search that goes down to the board's fields runs out of steps

@@ -1,10 +1,10 @@
 use Rattle.std.proofs.Common.{List, ◌∷◌, ◌++◌, [], sym, ap, ◌∙◌, subst}
 use Rattle.asl_term.specs.Spare.{WithSpare}
-use Rattle.mas_ready.specs.declared.rule.Hand.{Hand}
-use Rattle.mas_ready.specs.Rule.{CameOf}
-use Rattle.mas_ready.specs.Passes.{known}
-use Rattle.mas_going.specs.declared.going.Going.{Going}
-use Rattle.mas_going.specs.Goings.{Became}
+use Rattle.mas_pool_ready.specs.declared.rule.ReadyView.{ReadyView}
+use Rattle.mas_pool_ready.specs.Rule.{CameOf}
+use Rattle.mas_pool_ready.specs.Passes.{known}
+use Rattle.mas_pool_task.specs.declared.going.Going.{Going}
+use Rattle.mas_pool_task.specs.Goings.{Became}
 use Rattle.mas_pool.specs.Workers.{PassOf, AreAt, number_of}
 use Rattle.mas_pool.proofs.Workers.{taken_seat, goes_back, has_ended, work_kept, room_kept}
 use Rattle.mas_pool.proofs.worker.worker.Goals as goal
@@ -17,7 +17,7 @@ cycle-requires-clause-seat g c κs within =
 pub put-requires-clause-came : goal.put-requires-clause-came
 put-requires-clause-came g c =
     let t = c.in-Some-take.ensures.taken in
-    let first = ap (λ (v : Hand (Going g.row.M.Denot g.row.A.Denot)). v.first) t.is in
+    let first = ap (λ (v : ReadyView (Going g.row.M.Denot g.row.A.Denot)). v.first) t.is in
     subst (λ (l : List (Going g.row.M.Denot g.row.A.Denot)). CameOf number_of (Became g.M.Mind.kind) l c.cycle.new.going) (sym first)
     (goes_back g.M.Mind.kind (known c.loop.pass).first c.in-Some-take.going c.cycle.new.going t.came c.if-cycle.ensures.went)
 

@@ -1,4 +1,4 @@
-use Rattle.mas_record.proofs.Kept.{either_now}
+use Rattle.mas_record.proofs.RecorderRule.{either_now}
 use Rattle.mas_record.proofs.recorder.append.Goals as goal
 
 pub returns : goal.returns

@@ -1,6 +1,7 @@
 use Rattle.std.proofs.Common.{◌<◌, length, ap, add-one, arith}
-use Rattle.mas_views.proofs.Joins.{forks}
-use Rattle.mas_record.proofs.Kept.{kept_first, shown_open}
+use Rattle.mas_board_turns.proofs.Joins.{forks}
+use Rattle.mas_record.proofs.Standing.{deck_forks}
+use Rattle.mas_record.proofs.RecorderRule.{kept_first, shown_open}
 use Rattle.mas_record.proofs.Openings.{opening_next}
 use Rattle.mas_record.proofs.recorder.open_recorder.Goals as goal
 
@@ -13,7 +14,7 @@ begin-pass-requires-clause-shown g c κs within =
     shown_open {A = g.row.A.Denot} (record { board = c.args.board; journal = c.args.journal }) c.requires.runs c.requires.open_now
 
 pub another-one-requires-clause-rule : goal.another-one-requires-clause-rule
-another-one-requires-clause-rule g c = let i = c.loop-k.invariant.handing in forks _ _ i.started i.free
+another-one-requires-clause-rule g c = let i = c.loop-k.invariant.handing in deck_forks g.D.Disk.state _ _ (forks _ _ i.started i.free)
 
 pub loop-k-preserved : goal.loop-k-preserved
 loop-k-preserved g c =

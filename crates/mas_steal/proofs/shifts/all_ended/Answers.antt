@@ -2,8 +2,8 @@ use denote.Param.Send.{sendable, param_send, arg_send}
 use denote.Param.SendFields.{as_row_sync, declared_sync}
 use Rattle.std.proofs.Common.{ℕ, sym, ap, ◌∙◌, subst}
 use Rattle.std.proofs.Crossing.{crosses}
-use Rattle.mas_lists.specs.Lists.{times, numbers_from}
-use Rattle.mas_ready.specs.Orders.{AreInOrder}
+use Rattle.mas_board_lists.specs.Lists.{times, numbers_from}
+use Rattle.mas_pool_ready.specs.Orders.{AreInOrder}
 use Rattle.mas_baton.proofs.Sends.{baton_sync}
 use Rattle.mas_pool.specs.Workers.{number_of}
 use Rattle.mas_pool.proofs.Together.{are_ended}

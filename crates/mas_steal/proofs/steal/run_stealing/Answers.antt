@@ -1,13 +1,13 @@
 use Rattle.std.proofs.Common.{◌≡◌, List, length, sym, ap, subst, arith, rules}
-use Rattle.mas_board.specs.declared.seats.Place as board
+use Rattle.mas_board.specs.declared.seats.AgentPlace as board
 use Rattle.mas_core.specs.Platform.{opening_platform}
 use Rattle.mas_core.specs.Replay.{RanAlong}
 use Rattle.mas_baton.specs.declared.seat.Seat.{Seat}
 use Rattle.mas_baton.specs.Seats.{AllBack, Closed}
-use Rattle.mas_lists.specs.Lists.{Each, numbers_from}
-use Rattle.mas_ready.specs.Rule.{numbers}
-use Rattle.mas_going.specs.declared.going.Going.{Going}
-use Rattle.mas_going.specs.Goings.{Became}
+use Rattle.mas_board_lists.specs.Lists.{Each, numbers_from}
+use Rattle.mas_pool_ready.specs.Rule.{numbers}
+use Rattle.mas_pool_task.specs.declared.going.Going.{Going}
+use Rattle.mas_pool_task.specs.Goings.{Became}
 use Rattle.mas_pool.specs.Workers.{number_of, AreAt, AreEnded}
 use Rattle.mas_pool.proofs.Openings.{dealt_all, seats_none}
 use Rattle.mas_pool.proofs.Whole.{length_dealt, all_back, whole_run}
@@ -53,4 +53,4 @@ returns-clause-ran g c =
     let closed = subst (λ (l : List (Seat g.row.A.Denot)). Closed l after) c.in_ok-seats.ensures.seats c.close-board.ensures in
     subst (λ (l : List g.row.M.Denot). RanAlong g.M.Mind.kind (opening_platform c.args.board.state c.args.minds) after.schedule after l) (sym c.in_ok-seats.ensures.minds)
     (whole_run g.M.Mind.kind c.in_ok-baton.baton c.args.board after c.in_ok-baton.seats c.args.minds c.in_ok-goings-2.goings c.in_ok-baton.ensures (let s = c.holds.ensures.sound.limits.some in omega arith) c.requires.start.fit.number
-    (λ a. ap (λ (x : board.Place). x.phase) (seats_none c.args.board a c.requires.start.unplayed c.holds.ensures.opens)) e closed (sym c.if-not-have_left.ensures))
+    (λ a. ap (λ (x : board.AgentPlace). x.phase) (seats_none c.args.board a c.requires.start.unplayed c.holds.ensures.opens)) e closed (sym c.if-not-have_left.ensures))

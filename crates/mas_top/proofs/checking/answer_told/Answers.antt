@@ -1,7 +1,7 @@
 use Rattle.std.proofs.Common.{subst}
 use Rattle.mas_report.specs.Report.{Decided}
 use Rattle.mas_top.specs.Checking.{IsAllowed, asks_of}
-use Rattle.mas_opening.specs.Opening.{objects_of}
+use Rattle.mas_top_opening.specs.Opening.{objects_of}
 use Rattle.mas_top.proofs.Verdicts.{known_version, last_told, not_allowed, own_answer}
 use Rattle.mas_top.proofs.checking.answer_told.Goals as goal
 

@@ -1,5 +1,5 @@
-use Rattle.mas_opening.specs.Opening.{objects_of}
-use Rattle.mas_opening.proofs.Able.{can_run}
+use Rattle.mas_top_opening.specs.Opening.{objects_of}
+use Rattle.mas_top_opening.proofs.Able.{can_run}
 use Rattle.mas_top.proofs.demo.demo_of.Goals as goal
 
 pub lines_of_source-requires-clause-can : goal.lines_of_source-requires-clause-can

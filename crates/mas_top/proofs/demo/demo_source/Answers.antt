@@ -1,6 +1,6 @@
 use Rattle.std.proofs.Common.{Some, ap, ◌∙◌}
 use Rattle.mas_io.specs.declared.sure.SureShelf.{SureShelf}
-use Rattle.mas_opening.specs.Opening.{setup, objects_of}
+use Rattle.mas_top_opening.specs.Opening.{setup, objects_of}
 use Rattle.mas_top.proofs.Demos.{described}
 use Rattle.mas_top.proofs.demo.demo_source.Goals as goal
 

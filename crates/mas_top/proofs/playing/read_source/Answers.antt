@@ -1,6 +1,6 @@
 use Rattle.std.proofs.Common.{ap, ◌∙◌}
-use Rattle.mas_reading.specs.Known.{known}
-use Rattle.mas_opening.specs.Opening.{objects_of}
+use Rattle.mas_top_files.specs.Known.{known}
+use Rattle.mas_top_opening.specs.Opening.{objects_of}
 use Rattle.mas_top.proofs.Played.{known_as}
 use Rattle.mas_top.proofs.playing.read_source.Goals as goal
 

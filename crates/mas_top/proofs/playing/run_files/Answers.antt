@@ -1,5 +1,5 @@
-use Rattle.mas_opening.specs.Opening.{objects_of}
-use Rattle.mas_opening.proofs.Able.{can_run}
+use Rattle.mas_top_opening.specs.Opening.{objects_of}
+use Rattle.mas_top_opening.proofs.Able.{can_run}
 use Rattle.mas_top.proofs.playing.run_files.Goals as goal
 
 pub run_source-requires-clause-can : goal.run_source-requires-clause-can

@@ -1,6 +1,6 @@
-use Rattle.mas_opening.specs.Opening.{objects_of}
+use Rattle.mas_top_opening.specs.Opening.{objects_of}
 use Rattle.mas_top.specs.Recording.{lent, recorded_of}
-use Rattle.mas_opening.proofs.Able.{can_run}
+use Rattle.mas_top_opening.proofs.Able.{can_run}
 use Rattle.mas_top.proofs.Recorded.{answered}
 use Rattle.mas_top.proofs.recording.record_files.Goals as goal
 

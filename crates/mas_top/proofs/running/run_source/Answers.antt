@@ -1,7 +1,7 @@
 use denote.Param.Send.{sendable}
 use Rattle.asl_cycle.proofs.Sends.{agent_send}
-use Rattle.mas_opening.specs.Opening.{objects_of}
-use Rattle.mas_opening.proofs.Starts.{starts}
+use Rattle.mas_top_opening.specs.Opening.{objects_of}
+use Rattle.mas_top_opening.proofs.Starts.{starts}
 use Rattle.mas_top.proofs.running.run_source.Goals as goal
 
 pub run_out-requires-send-M : goal.run_out-requires-send-M

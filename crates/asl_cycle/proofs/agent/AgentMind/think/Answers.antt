@@ -1,5 +1,5 @@
 use Rattle.std.proofs.Common.{◌≡◌, ◌≤◌, ◌<◌, ◌+◌, sym, ap, ◌∙◌, arith}
-use Rattle.asl_state.specs.Parts.{around, parts}
+use Rattle.asl_exec_circumstance.specs.Circumstance.{around, parts}
 use Rattle.asl_stdlib.specs.Solving.{solve}
 use Rattle.asl_cycle.specs.Agent.{Mindset, agent_cycle}
 use Rattle.asl_cycle.specs.contracts.agent.Agent.{the_view}

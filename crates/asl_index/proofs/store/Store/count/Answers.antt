@@ -1,7 +1,7 @@
 use Rattle.std.proofs.Common.{length, ap, arith}
 use Rattle.std.specs.List.{filter}
 use Rattle.asl_unify.specs.Compare.{same_frame}
-use Rattle.asl_places.specs.Slots.{kept}
+use Rattle.asl_index_tables.specs.Slots.{kept}
 use Rattle.asl_index.proofs.Filing.{count_filed}
 use Rattle.asl_index.proofs.Heads.{few}
 use Rattle.asl_index.proofs.store.Store.count.Goals as goal

@@ -1,7 +1,7 @@
 use Rattle.std.proofs.Common.{◌≡◌, true, None, subst, sym, ap, ◌∙◌}
 use Rattle.std.specs.List.{slice_set}
 use Rattle.std.specs.Option.{is_some}
-use Rattle.asl_places.specs.Slots.{at_slot}
+use Rattle.asl_index_tables.specs.Slots.{at_slot}
 use Rattle.asl_index.specs.Noted.{AreNoted}
 use Rattle.asl_index.specs.Store.{AreFiled, AreListed}
 use Rattle.asl_index.proofs.Perceiving.{noted_cleared}

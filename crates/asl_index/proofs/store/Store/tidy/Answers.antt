@@ -1,6 +1,6 @@
 use Rattle.std.proofs.Common.{ap, ◌∙◌}
-use Rattle.asl_places.specs.Slots.{kept}
-use Rattle.asl_places.proofs.Slots.{kept_some}
+use Rattle.asl_index_tables.specs.Slots.{kept}
+use Rattle.asl_index_tables.proofs.Slots.{kept_some}
 use Rattle.asl_index.proofs.store.Store.tidy.Goals as goal
 
 pub returns-in-Ok : goal.returns-in-Ok

@@ -1,7 +1,7 @@
 use Rattle.std.proofs.Common.{ap, ◌∙◌}
 use Rattle.mas_mind.specs.declared.mind.Outs.{Outs}
-use Rattle.mas_turns.specs.Answers.{made_by_emit}
-use Rattle.mas_views.specs.Steps.{gave}
+use Rattle.mas_board_turns.specs.Answers.{made_by_emit}
+use Rattle.mas_board_turns.specs.Steps.{gave}
 use Rattle.mas_baton.specs.Seats.{known}
 use Rattle.mas_baton.proofs.Exchanges.{told_emit}
 use Rattle.mas_baton.proofs.baton.Baton.exchange_emit.Goals as goal

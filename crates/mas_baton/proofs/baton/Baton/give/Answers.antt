@@ -1,4 +1,4 @@
-use Rattle.mas_views.proofs.Gives.{gives_seat}
+use Rattle.mas_board_turns.proofs.Gives.{gives_seat}
 use Rattle.mas_baton.proofs.baton.Baton.give.Goals as goal
 
 pub try_push_as-requires-clause-rule : goal.try_push_as-requires-clause-rule

@@ -1,4 +1,4 @@
-use Rattle.mas_views.proofs.Takes.{takes_seat}
+use Rattle.mas_board_turns.proofs.Takes.{takes_seat}
 use Rattle.mas_baton.proofs.baton.Baton.take.Goals as goal
 
 pub try_pop_as-requires-clause-rule : goal.try_pop_as-requires-clause-rule

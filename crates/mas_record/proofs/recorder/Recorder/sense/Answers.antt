@@ -1,5 +1,5 @@
 use Rattle.std.proofs.Common.{sym, ◌∙◌, refl}
-use Rattle.mas_record.proofs.Exchanges.{sense_torn, sense_gives, sense_recorded, sense_refused, torn_some, torn_none}
+use Rattle.mas_record.proofs.Exchanges.{may_return, sense_torn, sense_gives, sense_recorded, sense_refused, torn_some, torn_none}
 use Rattle.mas_record.proofs.recorder.Recorder.sense.Goals as goal
 
 pub returns-then-is_some-clause-sensed : goal.returns-then-is_some-clause-sensed
@@ -8,6 +8,10 @@ returns-then-is_some-clause-sensed g c =
     sense_torn g.D.Disk.state c.args.ticket.now c.take-deck.new.ticket c.give.new.ticket c.take-deck.result c.take-deck.ensures.met c.give.ensures.number
     c.requires.ticket.sits t.0 (sym c.torn.ensures ∙ t.1)
     c.give.ensures.gave
+
+pub give-requires-clause-made : goal.give-requires-clause-made
+give-requires-clause-made g c κs within =
+    may_return g.D.Disk.state c.args.ticket.now c.take-deck.new.ticket c.take-deck.result c.take-deck.ensures.met
 
 pub give_sense-requires-clause-made : goal.give_sense-requires-clause-made
 give_sense-requires-clause-made g c κs within =

@@ -1,4 +1,4 @@
-use Rattle.mas_turns.specs.Answers.{made_by_sense}
+use Rattle.mas_board_turns.specs.Answers.{made_by_sense}
 use Rattle.mas_record.proofs.recorder.Recorder.sense.Given as goal
 
 abbrev pub ghosts-give_sense : goal.ghosts-give_sense

@@ -1,0 +1,66 @@
+# make              proves and builds jasonrun and chart, in crates/*/out (the first time takes hours: docs/PERFORMANCE.md)
+# make install      puts the two programs, the manual page, the completions and the files of editors into PREFIX
+# make uninstall    removes them
+# make dist         packs them, for x86-64 Linux, into dist/; SHA256SUMS there has the checksum
+
+# the many files below are made by no rule
+MAKEFLAGS += --no-builtin-rules
+
+PREFIX = $(HOME)/.local
+DESTDIR =
+
+JASONRUN = crates/jasonrun/out/jasonrun
+CHART = crates/chart/out/chart
+
+to = $(DESTDIR)$(PREFIX)
+bin = $(to)/bin
+man = $(to)/share/man/man1
+bash = $(to)/share/bash-completion/completions
+zsh = $(to)/share/zsh/site-functions
+fish = $(to)/share/fish/vendor_completions.d
+own = $(to)/share/jasonrun
+
+name := jasonrun-$(shell cat VERSION)-$(shell git describe --always --dirty --exclude '*' 2>/dev/null || echo unknown)-x86_64-linux
+time := $(shell git log -1 --format=%ct 2>/dev/null || stat -c %Y VERSION)
+
+all: $(JASONRUN) $(CHART)
+
+# `rt run` proves what is not proved, builds it and runs it. Where the text of the program is the same it builds nothing, so the file gets its time here:
+# that at which the proof began.
+$(JASONRUN): crates.txt $(shell find crates/*/src crates/*/specs crates/*/proofs)
+	mkdir -p $(@D)
+	touch $@.begun
+	cd crates/jasonrun && rt run -- demo 1 >/dev/null
+	touch -r $@.begun $@
+	rm $@.begun
+
+$(CHART): $(shell find crates/chart/src crates/chart/specs crates/chart/proofs)
+	mkdir -p $(@D)
+	touch $@.begun
+	cd crates/chart && rt run <stdin >/dev/null
+	touch -r $@.begun $@
+	rm $@.begun
+
+install: all
+	install -d "$(bin)" "$(man)" "$(bash)" "$(zsh)" "$(fish)" "$(own)"
+	install -m 755 $(JASONRUN) $(CHART) "$(bin)"
+	install -m 644 docs/jasonrun.1 "$(man)"
+	install -m 644 completions/jasonrun.bash "$(bash)/jasonrun"
+	install -m 644 completions/_jasonrun "$(zsh)"
+	install -m 644 completions/jasonrun.fish "$(fish)"
+	cp -r editors LICENSE-MIT LICENSE-APACHE "$(own)"
+
+uninstall:
+	rm -f "$(bin)/jasonrun" "$(bin)/chart" "$(man)/jasonrun.1" "$(bash)/jasonrun" "$(zsh)/_jasonrun" "$(fish)/jasonrun.fish"
+	rm -rf "$(own)"
+
+# The programs are stripped, so their checksums are others than those of crates/*/out.
+dist: all
+	rm -rf dist
+	$(MAKE) --no-print-directory install DESTDIR=dist PREFIX=/$(name)
+	strip dist/$(name)/bin/*
+	cd dist && tar -c --sort=name --owner=0 --group=0 --numeric-owner --mtime=@$(time) $(name) | gzip -n >$(name).tar.gz
+	rm -r dist/$(name)
+	cd dist && sha256sum $(name).tar.gz >SHA256SUMS
+
+.PHONY: all install uninstall dist

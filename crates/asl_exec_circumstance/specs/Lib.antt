@@ -1,0 +1,4 @@
+pub mod Circumstance
+pub mod Sought
+pub mod Emptied
+pub mod Contents

@@ -1,5 +1,0 @@
-use Rattle.asl_grammar.proofs.Ground as grounds
-use Rattle.asl_grammar.proofs.laws.ground_beliefs.Goals as goal
-
-pub returns : goal.returns
-returns c = grounds.ground_beliefs

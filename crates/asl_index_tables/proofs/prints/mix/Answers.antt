@@ -1,0 +1,7 @@
+use Rattle.std.proofs.Common.{refl}
+use Rattle.asl_index_tables.specs.Prints.{mix}
+use Rattle.asl_index_tables.proofs.prints.mix.Goals as goal
+
+pub returns : goal.returns
+unfolding mix
+returns c = refl

@@ -1,4 +1,0 @@
-pub mod Ages
-pub mod Later
-pub mod Bound
-pub mod Failing

@@ -1,5 +1,0 @@
-use Rattle.asl_lint_agenda.proofs.Bound.{bound_keeps}
-use Rattle.asl_lint_agenda.proofs.keeping.bound_keeps.Goals as goal
-
-pub returns : goal.returns
-returns c = bound_keeps

@@ -1,5 +1,0 @@
-use Rattle.asl_lint_agenda.proofs.Later.{counter_keeps}
-use Rattle.asl_lint_agenda.proofs.keeping.counter_keeps.Goals as goal
-
-pub returns : goal.returns
-returns c = counter_keeps

@@ -1,4 +1,0 @@
-pub mod Linted
-pub mod Agendas
-pub mod Keeps
-pub mod Read

@@ -1,4 +1,0 @@
-pub mod Lines
-pub mod Steps
-pub mod Cycled
-pub mod Openings

@@ -1,9 +1,0 @@
-pub mod Stay
-pub mod Seals
-pub mod Dropped
-pub mod Received
-pub mod Origins
-pub mod Served
-pub mod Letters
-pub mod Swept
-pub mod Done

@@ -1,5 +1,0 @@
-use Rattle.asl_lint_rows.proofs.Cleared.{clear_keeps}
-use Rattle.asl_lint_rows.proofs.rows.clear_keeps.Goals as goal
-
-pub returns : goal.returns
-returns c = clear_keeps

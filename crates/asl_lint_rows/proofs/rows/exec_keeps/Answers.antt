@@ -1,5 +1,0 @@
-use Rattle.asl_lint_rows.proofs.Executed.{exec_keeps}
-use Rattle.asl_lint_rows.proofs.rows.exec_keeps.Goals as goal
-
-pub returns : goal.returns
-returns c = exec_keeps

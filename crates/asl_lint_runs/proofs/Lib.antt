@@ -1,4 +1,0 @@
-pub mod Sets
-pub mod Worlds
-pub mod Turns
-pub mod Openings

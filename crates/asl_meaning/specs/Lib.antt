@@ -1,8 +1,0 @@
-pub mod Lexemes
-pub mod Meanings
-pub mod Limits
-pub mod Making
-pub mod Plain
-pub mod Conjuncts
-pub mod Holding
-pub mod Leaves

@@ -1,4 +1,0 @@
-//! Lists from whose front items are taken.
-#![tactic(auto)]
-
-pub mod queue;

@@ -1,4 +1,0 @@
-pub mod Parts
-pub mod Sought
-pub mod Emptied
-pub mod Contents

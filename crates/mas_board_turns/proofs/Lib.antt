@@ -1,0 +1,9 @@
+pub mod Logs
+pub mod Moves
+pub mod Places
+pub mod Views
+pub mod Takes
+pub mod Gives
+pub mod Joins
+pub mod Ends
+pub mod Cycles

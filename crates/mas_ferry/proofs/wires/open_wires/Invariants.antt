@@ -1,6 +1,0 @@
-use Rattle.std.proofs.Common.{length}
-use Rattle.mas_ferry.proofs.Openings.{AreParted}
-use Rattle.mas_ferry.proofs.wires.open_wires.Given as goal
-
-abbrev pub invariant-loop-i : goal.invariant-loop-i
-invariant-loop-i l = AreParted (length l.here) l.i l.wires.wires l.wires.one l.wires.two l.here

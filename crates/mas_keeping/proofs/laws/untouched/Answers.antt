@@ -1,5 +1,0 @@
-use Rattle.mas_keeping.proofs.Kept.{untouched}
-use Rattle.mas_keeping.proofs.laws.untouched.Goals as goal
-
-pub returns : goal.returns
-returns g c = untouched g.D.Disk.state g.met.D.Disk.only_now c.args.disk.now

@@ -1,3 +1,0 @@
-pub mod Between
-pub mod Rounds
-pub mod Laws

@@ -1,6 +1,0 @@
-use Rattle.std.proofs.Common.{◌≡◌}
-use Rattle.mas_met.specs.Results.{all_left}
-use Rattle.mas_met.proofs.met.list_left.Given as goal
-
-abbrev pub invariant-loop-way : goal.invariant-loop-way
-invariant-loop-way l = l.left ≡ all_left l.yielded

@@ -1,4 +1,0 @@
-//! What the runs of two sites give back.
-#![tactic(auto)]
-
-pub mod met;

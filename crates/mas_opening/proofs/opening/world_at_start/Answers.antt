@@ -1,7 +1,0 @@
-use Rattle.std.proofs.Common.{sym, subst}
-use Rattle.mas_world.specs.Facts.{AreFacts}
-use Rattle.mas_world.proofs.Sound.{none_are}
-use Rattle.mas_opening.proofs.opening.world_at_start.Goals as goal
-
-pub open_world-requires-in-None-clause-facts : goal.open_world-requires-in-None-clause-facts
-open_world-requires-in-None-clause-facts g c = subst (λ t. AreFacts t.facts) (sym c.in_ok-empty_text-in-None.ensures) none_are

@@ -1,4 +1,0 @@
-//! Two sites that run one beside the other.
-#![tactic(auto)]
-
-pub mod sites;

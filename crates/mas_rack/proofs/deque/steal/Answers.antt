@@ -1,8 +1,0 @@
-use Rattle.mas_rack.proofs.Moves.{takes, dries_few, same_open, few}
-use Rattle.mas_rack.proofs.deque.steal.Goals as goal
-
-pub steal_as-requires-clause-takes : goal.steal_as-requires-clause-takes
-steal_as-requires-clause-takes g c = takes g.T.Agent.number g.T.Agent.home g.T.Agent.ready _ _ 1 (same_open c.loop.invariant.1 c.requires.open)
-
-pub steal_as-requires-clause-empty : goal.steal_as-requires-clause-empty
-steal_as-requires-clause-empty g c = dries_few g.T.Agent.number g.T.Agent.home g.T.Agent.ready _ _ _ (few c.requires.door.1) (same_open c.loop.invariant.1 c.requires.open)

@@ -1,6 +1,0 @@
-use Rattle.std.proofs.Common.{◌≡◌, ◌<◌, [], length}
-use Rattle.mas_rack.specs.Hands.{IsHandOf, Moved}
-use Rattle.mas_rack.proofs.hand.Hand.steal_any.Given as goal
-
-abbrev pub invariant-loop : goal.invariant-loop
-invariant-loop g l = IsHandOf g.T.Agent.number g.T.Agent.home g.T.Agent.ready l.rack l.self × Moved g.T.Agent.number l.initial.self l.self [] [] × (l.self.list ≡ l.initial.self.list) × (l.place < length l.rack.doors.items)

@@ -1,8 +1,0 @@
-//! Agents in one deque for each worker, from which idle workers steal.
-#![tactic(auto)]
-
-pub mod agent;
-pub mod deque;
-pub mod hand;
-pub mod rule;
-pub mod turns;

@@ -1,8 +1,0 @@
-use Rattle.mas_reading.proofs.Artifacts.{known_named, known_uses}
-use Rattle.mas_reading.proofs.laws.known_there.Goals as goal
-
-pub returns-clause-named : goal.returns-clause-named
-returns-clause-named c = known_named
-
-pub returns-clause-uses : goal.returns-clause-uses
-returns-clause-uses c = known_uses

@@ -1,7 +1,0 @@
-pub mod Statuses
-pub mod Faults
-pub mod Projects
-pub mod Known
-pub mod Files
-pub mod Sources
-pub mod Laws

@@ -1,0 +1,3 @@
+pub mod Disk
+pub mod Calls
+pub mod PastDisk

@@ -1,0 +1,5 @@
+pub mod Steps
+pub mod SharedRounds
+pub mod Dealings
+pub mod Ways
+mod Sends

@@ -1,0 +1,3 @@
+pub mod Sharers
+pub mod Dealing
+pub mod Rounds

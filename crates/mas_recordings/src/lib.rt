@@ -1,4 +1,0 @@
-//! The reports of recorded runs.
-#![tactic(auto)]
-
-pub mod report;

@@ -1,5 +1,0 @@
-use Rattle.mas_schedule.proofs.Answered.{one_answer, some_answer}
-use Rattle.mas_schedule.proofs.laws.one_answer.Goals as goal
-
-pub returns : goal.returns
-returns c = record { one = one_answer; some = some_answer }

@@ -1,6 +1,0 @@
-//! Rounds of a recorded run.
-#![tactic(auto)]
-
-pub mod round;
-pub mod sharer;
-mod step;

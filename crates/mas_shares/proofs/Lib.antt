@@ -1,3 +1,0 @@
-pub mod Dealings
-pub mod Ways
-mod Sends

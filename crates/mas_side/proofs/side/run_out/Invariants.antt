@@ -1,5 +1,0 @@
-use Rattle.mas_side.proofs.Rounds.{RunsOn}
-use Rattle.mas_side.proofs.side.run_out.Given as goal
-
-abbrev pub invariant-loop-cycle : goal.invariant-loop-cycle
-invariant-loop-cycle g l = RunsOn g.M.Mind.kind l.fn.stage.platform.board.cycles l.cycle l.fn.ferry l.ferry l.fn.stage l.stage

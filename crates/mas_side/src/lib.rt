@@ -1,4 +1,0 @@
-//! One of two sites that run side by side.
-#![tactic(auto)]
-
-pub mod side;

@@ -1,0 +1,13 @@
+pub mod Cycling
+pub mod Folds
+pub mod Uses
+pub mod Seats
+pub mod Moving
+pub mod Meetings
+pub mod Going
+pub mod Ending
+pub mod Steps
+pub mod Takes
+pub mod Tallies
+pub mod Keeping
+pub mod Whole

@@ -1,0 +1,4 @@
+pub mod Cycles
+pub mod Between
+pub mod Rounds
+pub mod Laws

@@ -1,0 +1,16 @@
+//! Laws of the rounds of sites.
+
+ghost use Rattle.mas_sites_rounds.specs.Laws.{RoundsFold, RoundsKeepTally};
+
+use mas_mind::thinking::Mind;
+
+/// With what is on the way in lists, the first goes of a round are those of the fold.
+pub fn rounds_fold<M: Mind>()
+    ensures { RoundsFold M.kind }
+{}
+
+/// A round of both sites keeps, of each agent, what the stands at its site took of it, what came to the other site and what
+/// is on the way in step.
+pub fn rounds_keep_tally<M: Mind>()
+    ensures { RoundsKeepTally M.kind }
+{}

@@ -1,0 +1,4 @@
+pub mod Wires
+pub mod Ends
+pub mod Lines
+pub mod Lefts

@@ -1,5 +1,0 @@
-use Rattle.mas_thieves.proofs.Closings.{drains_go}
-use Rattle.mas_thieves.proofs.closing.drain_all.Goals as goal
-
-pub loop-own-preserved : goal.loop-own-preserved
-loop-own-preserved g c = drains_go g.T.Agent.number g.T.Agent.home g.T.Agent.ready _ _ _ _ _ _ _ c.loop-own.invariant c.in-Some.ensures.items c.in_ok-drain_one.ensures.wait c.in_ok-drain_one.ensures.drains

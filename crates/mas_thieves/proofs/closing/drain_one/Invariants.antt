@@ -1,6 +1,0 @@
-use Rattle.crossbeam_deque.specs.Handles.{worker_view}
-use Rattle.mas_thieves.proofs.Closings.{Draining}
-use Rattle.mas_thieves.proofs.closing.drain_one.Given as goal
-
-abbrev pub invariant-loop : goal.invariant-loop
-invariant-loop g l = Draining g.T.Agent.number g.T.Agent.home g.T.Agent.ready (worker_view l.initial.own) l.initial.left.items l.own l.left.items

@@ -1,9 +1,0 @@
-use Rattle.std.proofs.Common.{◌∙◌}
-use Rattle.mas_thieves.proofs.Dealings.{opens, not_dry}
-use Rattle.mas_thieves.proofs.opening.open_with.Goals as goal
-
-pub pop-requires : goal.pop-requires
-pop-requires g c = record { «open» = (opens g.T.Agent.number g.T.Agent.home g.T.Agent.ready _ _ c.open.ensures.put, c.open.ensures.same.0.1 ∙ c.requires.new.1) }
-
-pub unreachable-requires : goal.unreachable-requires
-unreachable-requires g c = not_dry g.T.Agent.number g.T.Agent.home g.T.Agent.ready c.args.agent _ _ c.open.ensures.put c.in-None.ensures.rule

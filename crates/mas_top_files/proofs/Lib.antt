@@ -1,0 +1,13 @@
+pub mod Folders
+pub mod Counted
+pub mod Artifacts
+pub mod Unless
+pub mod Fetched
+pub mod SourceParts
+pub mod Stands
+pub mod Within
+pub mod Single
+pub mod Refusals
+pub mod Total
+pub mod Texts
+pub mod Refusing

@@ -1,0 +1,2 @@
+mod Reports
+pub mod Kept

@@ -1,6 +1,0 @@
-use Rattle.std.proofs.Common.{◌≡◌, length}
-use Rattle.mas_world.specs.Posts.{AreEmpty}
-use Rattle.mas_world.proofs.opening.post.Given as goal
-
-abbrev pub invariant-loop : goal.invariant-loop
-invariant-loop l = (length l.boxes ≡ l.counter) × AreEmpty l.boxes

@@ -1,7 +1,0 @@
-//! Recorded runs of small minds.
-#![tactic(auto)]
-
-pub mod counting;
-#[cfg(test)]
-mod runs;
-pub mod watching;

@@ -1,5 +1,0 @@
-use Rattle.sites_tests.proofs.Starts.{no_facts}
-use Rattle.sites_tests.proofs.runs.board_of_two.Goals as goal
-
-pub new-file-requires : goal.new-file-requires
-new-file-requires c = no_facts c.new-3.result c.new-3.ensures

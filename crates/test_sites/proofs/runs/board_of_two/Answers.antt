@@ -1,0 +1,5 @@
+use Rattle.test_sites.proofs.Starts.{no_facts}
+use Rattle.test_sites.proofs.runs.board_of_two.Goals as goal
+
+pub new-file-requires : goal.new-file-requires
+new-file-requires c = no_facts c.new-3.result c.new-3.ensures

@@ -1,0 +1,3 @@
+// Burns what is dropped at its place.
+
++garbage(G) <- burn(G); .print(G, " is burnt").

@@ -1,0 +1,2 @@
++tired <- .print("I am tired"); sleep.
+-tired <- .print("good morning").

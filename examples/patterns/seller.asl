@@ -1,0 +1,1 @@
++!offer(X)[source(A)] <- .send(A, tell, price(X, 4)).
