@@ -174,7 +174,7 @@ hint_of() {
             fi
             ;;
         3:*) section='What is refused' && set -- 'There is no such file. A project ends in .mas2j, a source in .asl; the files of a project stand in its own folder.' ;;
-        4:*) set -- 'A file could not be read. Is it a folder, or may you not read it?' ;;
+        4:*) set -- 'A file could not be read. Is it a folder or a pipe, or may you not read it?' ;;
         5:*) set -- 'The output could not be written, and is cut off. Is the disk full, or did its reader end?' ;;
         6:*)
             section='What is refused'
@@ -184,7 +184,7 @@ hint_of() {
         7:*) section='What is refused' && set -- 'Something is too large. The word behind limit says what, the number how much there may be, or where it is.' ;;
         8:*) section='When something fails' && set -- 'The report is written, but the search of an agent was cut off: --tries and --depth give it more.' ;;
         9:*) set -- 'Memory was short.' ;;
-        11:*) section='Record and resume' && set -- 'The file of the recorded run could not be made, read or written. What was made until then is in it.' ;;
+        11:*) section='Record and resume' && set -- 'The file of the recorded run could not be made, read or written, or another run has it. What was made until then is in it.' ;;
         *) return ;;
     esac
     printf '  %s\n' "$@" "See docs/LANGUAGE.md, \"$section\"."

@@ -1,13 +1,18 @@
 -- What an internal action on goals, beliefs or other agents leaves of the stacks that run. The one that waits for its action stays.
-use Rattle.std.proofs.Common.{◌≡◌, ℕ, Bool, true, false, ◌||◌, cond, List, [], ◌∷◌, ◌++◌, slice_get, Option, None, Some, Result, Ok, Err, codes, refl, sym, ap, subst, ◌∙◌, append_assoc}
+use Rattle.std.proofs.Common.{◌≡◌, ℕ, Bool, true, false, ◌||◌, cond, List, [], ◌∷◌, ◌++◌, slice_get, Option, None, Some, Result, Ok, Err, refl, sym, ap, subst, ◌∙◌, append_assoc}
 use Rattle.std.proofs.lemmas.List.{append-nil}
-use Rattle.std.specs.Str.{bytes_eq}
 use Rattle.asl_term.specs.declared.syntax.LiteralOf.{LiteralOf}
 use Rattle.asl_term.specs.declared.syntax.Term.{Term}
 use Rattle.asl_term.specs.declared.syntax.Expr.{Expr}
 use Rattle.asl_term.specs.declared.syntax.ArgOf.{ArgOf}
 use Rattle.asl_term.specs.declared.syntax.ArgOf.TheVariants as arg
 use Rattle.asl_term.specs.declared.syntax.CallOf.{CallOf}
+use Rattle.asl_term_actions.specs.declared.action.Action.{Action}
+use Rattle.asl_term_actions.specs.declared.action.Action.TheVariants as action
+use Rattle.asl_term_actions.specs.declared.action.Deed.TheVariants as deed
+use Rattle.asl_term_actions.specs.declared.action.LiteralDeed.{LiteralDeed}
+use Rattle.asl_term_actions.specs.declared.action.LiteralDeed.TheVariants as literal_deed
+use Rattle.asl_term_actions.specs.Actions as actions
 use Rattle.asl_unify.specs.declared.subst.Pair.{Pair}
 use Rattle.asl_intend.specs.declared.entry.Means.{Means}
 use Rattle.asl_intend.specs.declared.agenda.Event.{Event}
@@ -33,7 +38,7 @@ use Rattle.asl_goals.specs.Goals.{Swept}
 use Rattle.asl_goals.specs.Sending.{term_at, letter, is_ask, spread}
 use Rattle.asl_goals.specs.Inside as spec
 use Rattle.asl_goals.specs.Inside.{Did}
-use Rattle.asl_cycle.specs.Turns.{Left, ends_goals, goal_of, dropped_by_call}
+use Rattle.asl_cycle.specs.Turns.{Left, is_ending, ends_goals, goal_of, dropped_by_call}
 use Rattle.asl_cycle.specs.inner.Acting.{falls, falls_acting}
 use Rattle.asl_cycle.proofs.Lefts.{Stacks, without_left}
 use Rattle.asl_cycle.proofs.Leaving.{Leaves, leaves_all, leaves_some, leaves_then, leaves_same}
@@ -56,10 +61,6 @@ named g (m ∷ below) cut e = named_by (names_goal g m.trigger) (has_goal g belo
 either : {A : Type 0} (P : A → Type 0) (b : Bool) (x y : A) → P x → P y → P (cond b x y)
 either P true x y h g = h
 either P false x y h g = g
-
-pick : {A : Type 0} (P : A → Type 0) (b : Bool) {x y : A} → P x → P y → P (cond b x y)
-pick P true h g = h
-pick P false h g = g
 
 -- the stacks that run stay
 abbrev Runs : Circumstance → Made → Type 0
@@ -251,40 +252,34 @@ module _ (named : Option (LiteralOf Term)) (k : Surroundings) (asks : ℕ) (p : 
   sends_all (Ok ms) = stays (spec.sent_all k asks p cur (Ok ms)) refl refl
 
   -- the first four name the goal that they drop or end
-  one_of : (g : LiteralOf Term) (b c d e : Bool) {v w x y z : Did} → named ≡ cond (b || (c || (d || (e || false)))) (Some g) None
-      → (named ≡ Some g → Acts named p v) → (named ≡ Some g → Acts named p w) → (named ≡ Some g → Acts named p x) → (named ≡ Some g → Acts named p y)
-      → Acts named p z → Acts named p (cond b v (cond c w (cond d x (cond e y z))))
-  one_of g true c d e is first second third fourth other = first is
-  one_of g false true d e is first second third fourth other = second is
-  one_of g false false true e is first second third fourth other = third is
-  one_of g false false false true is first second third fourth other = fourth is
-  one_of g false false false false is first second third fourth other = other
+  about : (d : LiteralDeed) (g : LiteralOf Term) → named ≡ cond (is_ending d) (Some g) None → Acts named p (spec.about k asks p cur d g)
+  about literal_deed.DropIntention g is = drops_named g (without_intentions g p.agenda) refl refl is
+  about literal_deed.DropDesire g is = drops_named g (without_desires g p.agenda) refl refl is
+  about literal_deed.SucceedGoal g is = ends way.Succeed g is
+  about literal_deed.FailGoal g is = ends way.Fail g is
+  about literal_deed.Intend g is = looks (goals.first_goal false g p.agenda cur)
+  about literal_deed.Desire g is = looks (goals.first_goal true g p.agenda cur)
+  about literal_deed.Abolish g is = stays (spec.abolish k asks p cur g) refl refl
 
-  about : (name : List ℕ) (g : LiteralOf Term) → named ≡ cond (ends_goals name) (Some g) None → Acts named p (spec.about k asks p cur name g)
-  about name g is =
-      one_of g (bytes_eq name (codes "drop_intention")) (bytes_eq name (codes "drop_desire"))
-      (bytes_eq name (codes "succeed_goal")) (bytes_eq name (codes "fail_goal")) is
-      (drops_named g (without_intentions g p.agenda) refl refl) (drops_named g (without_desires g p.agenda) refl refl) (ends way.Succeed g) (ends way.Fail g)
-      (pick (Acts named p) (bytes_eq name (codes "intend")) (looks (goals.first_goal false g p.agenda cur))
-      (pick (Acts named p) (bytes_eq name (codes "desire")) (looks (goals.first_goal true g p.agenda cur))
-      (pick (Acts named p) (bytes_eq name (codes "abolish")) (stays (spec.abolish k asks p cur g) refl refl)
-      (refuses (why.Argument 0)))))
+  about_literal : (d : LiteralDeed) (o : Option (LiteralOf Term)) → named ≡ cond (is_ending d) o None
+      → Acts named p (spec.about_literal k asks p cur d o)
+  about_literal d None is = refuses (why.Argument 0)
+  about_literal d (Some g) is = about d g is
 
-  about_literal : (name : List ℕ) (o : Option (LiteralOf Term)) → named ≡ cond (ends_goals name) o None
-      → Acts named p (spec.about_literal k asks p cur name o)
-  about_literal name None is = refuses (why.Argument 0)
-  about_literal name (Some g) is = about name g is
+  about_term : (d : LiteralDeed) (o : Option Term) → named ≡ cond (is_ending d) (goal_of o) None → Acts named p (spec.about_term k asks p cur d o)
+  about_term d None is = refuses (why.Argument 0)
+  about_term d (Some t) is = about_literal d (literal_of t) is
 
-  about_term : (name : List ℕ) (o : Option Term) → named ≡ cond (ends_goals name) (goal_of o) None → Acts named p (spec.about_term k asks p cur name o)
-  about_term name None is = refuses (why.Argument 0)
-  about_term name (Some t) is = about_literal name (literal_of t) is
+  acts_by : (peers : Peers) (args : List (ArgOf Expr)) (o : Option Action) → named ≡ cond (ends_goals o) (goal_of (term_at args 0)) None
+      → Acts named p (spec.act_by k asks p cur peers args o)
+  acts_by peers args (Some (action.Does (deed.OnLiteral d))) is = about_term d (term_at args 0) is
+  acts_by peers args (Some (action.Does deed.Send)) is = sends peers.me args (letter peers.names args)
+  acts_by peers args (Some (action.Does deed.Broadcast)) is = sends_all (spread peers args)
+  acts_by peers args (Some (action.Does deed.StopMas)) is = stays (spec.stop k asks p cur) refl refl
+  acts_by peers args other is = refuses (why.Argument 0)
 
   acts : (peers : Peers) (c : CallOf Expr) → named ≡ dropped_by_call c → Acts named p (spec.act k asks p cur peers c)
-  acts peers c is =
-      pick (Acts named p) (bytes_eq c.name (codes "send")) (sends peers.me c.args (letter peers.names c.args))
-      (pick (Acts named p) (bytes_eq c.name (codes "broadcast")) (sends_all (spread peers c.args))
-      (pick (Acts named p) (bytes_eq c.name (codes "stopMAS")) (stays (spec.stop k asks p cur) refl refl)
-      (about_term c.name (term_at c.args 0) is)))
+  acts peers c is = acts_by peers c.args (actions.named c.name) is
 
 pub deed_waits : (k : Surroundings) (peers : Peers) (asks : ℕ) (p : Circumstance) (cur : List Means) (c : CallOf Expr)
     → (spec.act_inside k peers asks p cur c).parts.agenda.acting ≡ p.agenda.acting

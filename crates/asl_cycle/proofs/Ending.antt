@@ -1,6 +1,5 @@
 -- What becomes of intentions by an internal action on goals, beliefs or other agents.
-use Rattle.std.proofs.Common.{◌≡◌, ℕ, ◌+◌, Bool, true, false, ◌||◌, cond, if◌then◌else◌, List, [], ◌∷◌, ◌++◌, slice_get, Option, None, Some, Result, Ok, Err, codes, refl, sym, ap, ◌∙◌, arith}
-use Rattle.std.specs.Str.{bytes_eq}
+use Rattle.std.proofs.Common.{◌≡◌, ℕ, ◌+◌, Bool, true, false, cond, if◌then◌else◌, List, [], ◌∷◌, ◌++◌, slice_get, Option, None, Some, Result, Ok, Err, refl, sym, ap, ◌∙◌, arith}
 use Rattle.asl_term.specs.declared.syntax.LiteralOf.{LiteralOf}
 use Rattle.asl_term.specs.declared.syntax.Term.{Term}
 use Rattle.asl_term.specs.declared.syntax.Trigger.{Trigger}
@@ -9,6 +8,12 @@ use Rattle.asl_term.specs.declared.syntax.ArgOf.{ArgOf}
 use Rattle.asl_term.specs.declared.syntax.ArgOf.TheVariants as arg
 use Rattle.asl_term.specs.declared.syntax.CallOf.{CallOf}
 use Rattle.asl_plans.specs.declared.entry.OwnedPlan.{OwnedPlan}
+use Rattle.asl_term_actions.specs.declared.action.Action.{Action}
+use Rattle.asl_term_actions.specs.declared.action.Action.TheVariants as action
+use Rattle.asl_term_actions.specs.declared.action.Deed.TheVariants as deed
+use Rattle.asl_term_actions.specs.declared.action.LiteralDeed.{LiteralDeed}
+use Rattle.asl_term_actions.specs.declared.action.LiteralDeed.TheVariants as literal_deed
+use Rattle.asl_term_actions.specs.Actions as actions
 use Rattle.asl_unify.specs.declared.subst.Pair.{Pair}
 use Rattle.asl_beliefs.specs.Changes.{Changed, abolished}
 use Rattle.asl_intend.specs.declared.entry.Means.{Means}
@@ -42,7 +47,7 @@ use Rattle.asl_goals.specs.Goals.{Swept, from_lowest}
 use Rattle.asl_goals.specs.Inside as spec
 use Rattle.asl_goals.specs.Inside.{Did}
 use Rattle.asl_goals.specs.Sending.{term_at, letter, is_ask, spread}
-use Rattle.asl_cycle.specs.Turns.{ends_goals, goal_of, dropped_by_call, dropped_by_head}
+use Rattle.asl_cycle.specs.Turns.{is_ending, ends_goals, goal_of, dropped_by_call, dropped_by_head}
 use Rattle.asl_cycle.specs.Intentions.{Intention, Heap, total, held, one_or_none, begin, Becomes, Over, GoesOn, Outcome, Cut, searched, Ended, End, Executed}
 use Rattle.asl_cycle.proofs.Sums.{total_append, ready_held, told_held, becomes}
 use Rattle.asl_cycle.proofs.Failing.{fell}
@@ -387,41 +392,33 @@ module _ (k : Surroundings) (asks : ℕ) (p : Circumstance) (s : List Means) whe
   stops = alone (spec.stop k asks p s) (on None [] (held p.agenda) (held p.agenda) (just (held p.agenda)))
 
   -- the first four name the goal that they drop or end
-  one_of : (g : LiteralOf Term) (b c d e : Bool) {v w x y z : Did} → Named ≡ cond (b || (c || (d || (e || false)))) (Some g) None
-      → (Named ≡ Some g → Did_it v) → (Named ≡ Some g → Did_it w) → (Named ≡ Some g → Did_it x) → (Named ≡ Some g → Did_it y)
-      → Did_it z → Did_it (cond b v (cond c w (cond d x (cond e y z))))
-  one_of g true c d e is first second third fourth other = first is
-  one_of g false true d e is first second third fourth other = second is
-  one_of g false false true e is first second third fourth other = third is
-  one_of g false false false true is first second third fourth other = fourth is
-  one_of g false false false false is first second third fourth other = other
+  about : (d : LiteralDeed) (g : LiteralOf Term) → Named ≡ cond (is_ending d) (Some g) None → Did_it (spec.about k asks p s d g)
+  about literal_deed.DropIntention g is = drops g (without_intentions g p.agenda) (has_goal g s) refl is (intentions_end k.plans Named g is p.agenda)
+  about literal_deed.DropDesire g is = drops g (without_desires g p.agenda) (has_goal g s) refl is (desires_end k.plans Named g is p.agenda)
+  about literal_deed.SucceedGoal g is = ends way.Succeed g is
+  about literal_deed.FailGoal g is = ends way.Fail g is
+  about literal_deed.Intend g is = looks (goals.first_goal false g p.agenda s)
+  about literal_deed.Desire g is = looks (goals.first_goal true g p.agenda s)
+  about literal_deed.Abolish g is = abolishes (abolished g p.beliefs)
 
-  about : (name : List ℕ) (g : LiteralOf Term) → Named ≡ cond (ends_goals name) (Some g) None → Did_it (spec.about k asks p s name g)
-  about name g is =
-      one_of g (bytes_eq name (codes "drop_intention")) (bytes_eq name (codes "drop_desire"))
-      (bytes_eq name (codes "succeed_goal")) (bytes_eq name (codes "fail_goal")) is
-      (λ e. drops g (without_intentions g p.agenda) (has_goal g s) refl e (intentions_end k.plans Named g e p.agenda))
-      (λ e. drops g (without_desires g p.agenda) (has_goal g s) refl e (desires_end k.plans Named g e p.agenda))
-      (ends way.Succeed g) (ends way.Fail g)
-      (pick Did_it (bytes_eq name (codes "intend")) (looks (goals.first_goal false g p.agenda s))
-      (pick Did_it (bytes_eq name (codes "desire")) (looks (goals.first_goal true g p.agenda s))
-      (pick Did_it (bytes_eq name (codes "abolish")) (abolishes (abolished g p.beliefs))
-      (refuses (why.Argument 0)))))
+  about_literal : (d : LiteralDeed) (o : Option (LiteralOf Term)) → Named ≡ cond (is_ending d) o None → Did_it (spec.about_literal k asks p s d o)
+  about_literal d None is = refuses (why.Argument 0)
+  about_literal d (Some g) is = about d g is
 
-  about_literal : (name : List ℕ) (o : Option (LiteralOf Term)) → Named ≡ cond (ends_goals name) o None → Did_it (spec.about_literal k asks p s name o)
-  about_literal name None is = refuses (why.Argument 0)
-  about_literal name (Some g) is = about name g is
+  about_term : (d : LiteralDeed) (o : Option Term) → Named ≡ cond (is_ending d) (goal_of o) None → Did_it (spec.about_term k asks p s d o)
+  about_term d None is = refuses (why.Argument 0)
+  about_term d (Some t) is = about_literal d (literal_of t) is
 
-  about_term : (name : List ℕ) (o : Option Term) → Named ≡ cond (ends_goals name) (goal_of o) None → Did_it (spec.about_term k asks p s name o)
-  about_term name None is = refuses (why.Argument 0)
-  about_term name (Some t) is = about_literal name (literal_of t) is
+  acts_by : (peers : Peers) (args : List (ArgOf Expr)) (o : Option Action) → Named ≡ cond (ends_goals o) (goal_of (term_at args 0)) None
+      → Did_it (spec.act_by k asks p s peers args o)
+  acts_by peers args (Some (action.Does (deed.OnLiteral d))) is = about_term d (term_at args 0) is
+  acts_by peers args (Some (action.Does deed.Send)) is = sends_letter peers.me args (letter peers.names args)
+  acts_by peers args (Some (action.Does deed.Broadcast)) is = sends_all (spread peers args)
+  acts_by peers args (Some (action.Does deed.StopMas)) is = stops
+  acts_by peers args other is = refuses (why.Argument 0)
 
   acts : (peers : Peers) (c : CallOf Expr) → Named ≡ dropped_by_call c → Did_it (spec.act k asks p s peers c)
-  acts peers c is =
-      pick Did_it (bytes_eq c.name (codes "send")) (sends_letter peers.me c.args (letter peers.names c.args))
-      (pick Did_it (bytes_eq c.name (codes "broadcast")) (sends_all (spread peers c.args))
-      (pick Did_it (bytes_eq c.name (codes "stopMAS")) stops
-      (about_term c.name (term_at c.args 0) is)))
+  acts peers c is = acts_by peers c.args (actions.named c.name) is
 
 pub deeds : (k : Surroundings) (peers : Peers) (asks : ℕ) (p : Circumstance) (s : List Means) (c : CallOf Expr) → dropped_by_head (head s) ≡ dropped_by_call c
     → Deeds k s p (spec.act_inside k peers asks p s c)

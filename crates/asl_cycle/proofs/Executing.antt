@@ -1,6 +1,5 @@
 -- What becomes of the current stack by the row of its first formula.
-use Rattle.std.proofs.Common.{◌≡◌, ℕ, ◌+◌, Bool, true, false, cond, List, [], ◌∷◌, Option, None, Some, Ok, Err, codes, refl, ap, arith}
-use Rattle.std.specs.Str.{bytes_eq}
+use Rattle.std.proofs.Common.{◌≡◌, ℕ, ◌+◌, Bool, true, false, cond, List, [], ◌∷◌, Option, None, Some, Ok, Err, refl, ap, arith}
 use Rattle.asl_term.specs.declared.syntax.LiteralOf.{LiteralOf}
 use Rattle.asl_term.specs.declared.syntax.CallOf.{CallOf}
 use Rattle.asl_term.specs.declared.syntax.Term.{Term}
@@ -12,6 +11,9 @@ use Rattle.asl_term.specs.declared.syntax.Formula.TheVariants as formula
 use Rattle.asl_term.specs.declared.syntax.Kind.{Kind}
 use Rattle.asl_term.specs.declared.syntax.Kind.TheVariants as kind
 use Rattle.asl_term.specs.Exprs.{is_ground_literal}
+use Rattle.asl_term_actions.specs.declared.action.Action.{Action}
+use Rattle.asl_term_actions.specs.declared.action.Action.TheVariants as action
+use Rattle.asl_term_actions.specs.Actions as actions
 use Rattle.asl_unify.specs.declared.subst.Pair.{Pair}
 use Rattle.asl_unify.specs.Applied.{within_formula}
 use Rattle.asl_unify.specs.Comparing.{Holding, Gives, Fails, Passes, holds}
@@ -144,12 +146,14 @@ module _ (k : Surroundings) (p : Circumstance) (cur : List Means) (none : p.agen
   answers answer.Nothing = fallen error.IaFailed
   answers (answer.Found s n) = done (Some s) [] (held p.agenda) same
 
+  inners_by : (c : CallOf Expr) (o : Option Action) → dropped_by_head (head cur) ≡ dropped_by_call c → Kept (spec.of_action k p cur c o)
+  inners_by c (Some action.Print) is = done None [] (held p.agenda) same
+  inners_by c (Some action.Fail) is = fallen error.IaFailed
+  inners_by c (Some (action.Does d)) is = record { parts = refl; cur = refl; named = is }
+  inners_by c other is = answers (sought k p (expr.Inner c))
+
   inners : (c : CallOf Expr) → dropped_by_head (head cur) ≡ dropped_by_call c → Kept (spec.inner k p cur c)
-  inners c is =
-      pick Kept (bytes_eq c.name (codes "print")) (done None [] (held p.agenda) same)
-      (pick Kept (bytes_eq c.name (codes "fail")) (fallen error.IaFailed)
-      (pick Kept (spec.is_deed c.name) (record { parts = refl; cur = refl; named = is })
-      (answers (sought k p (expr.Inner c)))))
+  inners c is = inners_by c (actions.named c.name) is
 
   formulas : (f : Formula) → dropped_by_head (head cur) ≡ dropped_by_settled (Ok f) → Kept (spec.of_formula k p cur f)
   formulas (formula.Act l) is = acts_by l (is_ground_literal l)

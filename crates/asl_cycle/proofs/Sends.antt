@@ -114,7 +114,7 @@ first_send : IsSend first.the_row
 first_send = search (sendable, as_row_send, formula_field_send) depth 16
 
 entry_send : IsSend entry.the_row
-entry_send = search (sendable, as_row_send, seq_send, trigger_field_send, subst_send, first_send, formula_send) depth 20
+entry_send = search (sendable, as_row_send, queue_send, trigger_field_send, subst_send, first_send, formula_send) depth 20
 
 stack_send : IsSend stack.the_row
 stack_send = view_send stack_inside.the_row _ _ _ _ (declared_send stack_inside.the_type (seq_send _ subst_send, (search (sendable, as_row_send, crosses, entry_send) depth 16, tt)))

@@ -1,13 +1,17 @@
 -- The turns of intentions.
-use Rattle.std.specs.Prelude.{ℕ, ◌≡◌, Bool, true, cond, List, [], ◌∷◌, ◌++◌, drop, Option, None, Some, Ok, codes}
-use Rattle.std.specs.List.{list_any}
-use Rattle.std.specs.Str.{bytes_eq}
+use Rattle.std.specs.Prelude.{ℕ, ◌≡◌, Bool, true, false, cond, List, [], ◌∷◌, ◌++◌, drop, Option, None, Some, Ok}
 use Rattle.asl_term.specs.declared.syntax.CallOf.{CallOf}
 use Rattle.asl_term.specs.declared.syntax.Expr.{Expr}
 use Rattle.asl_term.specs.declared.syntax.Formula.{Formula}
 use Rattle.asl_term.specs.declared.syntax.Formula.TheVariants as formula
 use Rattle.asl_term.specs.declared.syntax.LiteralOf.{LiteralOf}
 use Rattle.asl_term.specs.declared.syntax.Term.{Term}
+use Rattle.asl_term_actions.specs.declared.action.Action.{Action}
+use Rattle.asl_term_actions.specs.declared.action.Action.TheVariants as action
+use Rattle.asl_term_actions.specs.declared.action.Deed.TheVariants as deed
+use Rattle.asl_term_actions.specs.declared.action.LiteralDeed.{LiteralDeed}
+use Rattle.asl_term_actions.specs.declared.action.LiteralDeed.TheVariants as literal_deed
+use Rattle.asl_term_actions.specs.Actions.{named}
 use Rattle.asl_unify.specs.Renamed.{renamed}
 use Rattle.asl_unify.specs.Settling.{Settled, settle_formula}
 use Rattle.asl_intend.specs.declared.entry.Means.{Means}
@@ -47,17 +51,27 @@ dropped_by_message n (Some m) = dropped_by_verb m.verb (literal_of (renamed n m.
 
 -- ---- the goal that an item drops or ends
 
--- the internal actions that drop or end goals
-abbrev pub ends_goals : List ℕ → Bool
-ends_goals name = list_any (bytes_eq name) (codes "drop_intention" ∷ codes "drop_desire" ∷ codes "succeed_goal" ∷ codes "fail_goal" ∷ [])
+-- the deeds that drop or end goals
+abbrev pub is_ending : LiteralDeed → Bool
+is_ending literal_deed.DropIntention = true
+is_ending literal_deed.DropDesire = true
+is_ending literal_deed.SucceedGoal = true
+is_ending literal_deed.FailGoal = true
+is_ending literal_deed.Intend = false
+is_ending literal_deed.Desire = false
+is_ending literal_deed.Abolish = false
+
+abbrev pub ends_goals : Option Action → Bool
+ends_goals (Some (action.Does (deed.OnLiteral d))) = is_ending d
+ends_goals other = false
 
 abbrev pub goal_of : Option Term → Option (LiteralOf Term)
 goal_of None = None
 goal_of (Some t) = literal_of t
 
--- the one that the first argument of such an action names; others drop none
+-- the one that the first argument of such a deed names; others drop none
 abbrev pub dropped_by_call : CallOf Expr → Option (LiteralOf Term)
-dropped_by_call c = cond (ends_goals c.name) (goal_of (term_at c.args 0)) None
+dropped_by_call c = cond (ends_goals (named c.name)) (goal_of (term_at c.args 0)) None
 
 abbrev pub dropped_by_settled : Settled Formula → Option (LiteralOf Term)
 dropped_by_settled (Ok (formula.Inner c)) = dropped_by_call c

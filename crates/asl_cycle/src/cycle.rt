@@ -362,6 +362,7 @@ pub fn cycle<B: BeliefBase, A: Actions>(
         stop: false,
         asks,
     };
+    sofar.lines.reserve_exact(12)?;
     percept(alloc, p, &mut sofar, &input.percepts)?;
     feed(alloc, k, p, &mut sofar, kept)?;
     from_msg(alloc, k, peers, p, sofar, &input.message)

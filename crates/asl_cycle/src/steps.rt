@@ -61,7 +61,7 @@ fn virtual_stack(alloc: Global, event: Event) -> Result<Stack, Starved>
         trigger,
         body: Seq::new(alloc),
     };
-    stack.push(means, &no_subst(alloc))?;
+    stack.push(means, no_subst(alloc))?;
     Ok(stack)
 }
 
@@ -429,7 +429,7 @@ pub fn add_im<B: BeliefBase>(
     } = event;
     let external = stack.len() == 0;
     let mut stack = stack;
-    stack.push(means, &subst)?;
+    stack.push(means, subst)?;
     p.agenda.running.push(stack)?;
     if external {
         return rule(sofar, Row::ExtEv);
@@ -449,7 +449,7 @@ pub fn sel_int<B: BeliefBase>(
     ensures number { p.new.number ≡ p.old.number }
     ensures acting { OnOk result (p.new.agenda.acting ≡ p.old.agenda.acting) }
 {
-    match p.agenda.running.remove(0) {
+    match p.agenda.running.take_first() {
         Some(stack) => {
             rule(sofar, Row::SelInt1)?;
             Ok(Some(stack))

@@ -1,7 +1,5 @@
 -- The rows for the first formula of the current stack, in the order in which they are asked.
-use Rattle.std.specs.Prelude.{ℕ, Bool, ◌||◌, cond, List, [], ◌∷◌, Option, None, Some, Ok, Err, codes}
-use Rattle.std.specs.List.{list_any}
-use Rattle.std.specs.Str.{bytes_eq}
+use Rattle.std.specs.Prelude.{ℕ, cond, List, [], ◌∷◌, Option, None, Some, Ok, Err}
 use Rattle.asl_term.specs.declared.syntax.LiteralOf.{LiteralOf}
 use Rattle.asl_term.specs.declared.syntax.Term.{Term}
 use Rattle.asl_term.specs.declared.syntax.Kind.{Kind}
@@ -13,6 +11,9 @@ use Rattle.asl_term.specs.declared.syntax.Expr.TheVariants as expr
 use Rattle.asl_term.specs.declared.syntax.Formula.{Formula}
 use Rattle.asl_term.specs.declared.syntax.Formula.TheVariants as formula
 use Rattle.asl_term.specs.Exprs.{is_ground_literal}
+use Rattle.asl_term_actions.specs.declared.action.Action.{Action}
+use Rattle.asl_term_actions.specs.declared.action.Action.TheVariants as action
+use Rattle.asl_term_actions.specs.Actions.{named}
 use Rattle.asl_unify.specs.declared.subst.Pair.{Pair}
 use Rattle.asl_unify.specs.Applied.{within_formula}
 use Rattle.asl_unify.specs.Settling.{Settled, settle_formula}
@@ -99,18 +100,6 @@ related k p cur Passes = failed k row.ExecLimit error.TermLimit p cur
 abbrev pub relation : Surroundings → Circumstance → List Means → Relation → Made
 relation k p cur r = related k p cur (holds r [])
 
--- the internal actions that act on goals, and those that act on beliefs or other agents
-
-abbrev pub on_goals : List (List ℕ)
-on_goals =
-    codes "drop_intention" ∷ codes "drop_desire" ∷ codes "succeed_goal" ∷ codes "fail_goal" ∷ codes "intend" ∷ codes "desire" ∷ []
-
-abbrev pub on_others : List (List ℕ)
-on_others = codes "abolish" ∷ codes "send" ∷ codes "broadcast" ∷ codes "stopMAS" ∷ []
-
-abbrev pub is_deed : List ℕ → Bool
-is_deed name = list_any (bytes_eq name) on_goals || list_any (bytes_eq name) on_others
-
 -- ExecArith, IaBig, IaSpent, IaFail, IaOk of an internal action that changes nothing, by the answer of the search
 abbrev pub answered : Surroundings → Circumstance → List Means → Answer → Made
 answered k p cur answer.Arith = failed k row.ExecArith error.Arith p cur
@@ -122,13 +111,15 @@ answered k p cur (answer.Found s n) = solved row.IaOk p cur s n
 abbrev pub searched : Surroundings → Circumstance → List Means → CallOf Expr → Made
 searched k p cur c = answered k p cur (sought k p (expr.Inner c))
 
--- `.print` says its arguments, `.fail` has no solution, and a deed is still to be done
+-- `.print` says its arguments, `.fail` has no solution, and a deed is still to be done; the others are searched for
+abbrev pub of_action : Surroundings → Circumstance → List Means → CallOf Expr → Option Action → Made
+of_action k p cur c (Some action.Print) = made p (without_head cur) (went.Say (print_text c.args))
+of_action k p cur c (Some action.Fail) = failed k row.IaFail error.IaFailed p cur
+of_action k p cur c (Some (action.Does d)) = made p cur (went.Outer c)
+of_action k p cur c other = searched k p cur c
+
 abbrev pub inner : Surroundings → Circumstance → List Means → CallOf Expr → Made
-inner k p cur c =
-    cond (bytes_eq c.name (codes "print")) (made p (without_head cur) (went.Say (print_text c.args)))
-    (cond (bytes_eq c.name (codes "fail")) (failed k row.IaFail error.IaFailed p cur)
-    (cond (is_deed c.name) (made p cur (went.Outer c))
-    (searched k p cur c)))
+inner k p cur c = of_action k p cur c (named c.name)
 
 -- the row of a formula, applied and settled
 abbrev pub of_formula : Surroundings → Circumstance → List Means → Formula → Made

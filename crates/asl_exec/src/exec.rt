@@ -1,8 +1,6 @@
 //! The row for the first formula of the current stack.
 
 ghost use Rattle.std.specs.Prelude.{◌≡◌, ◌+◌, ◌<◌, ◌≤◌, ◌-◌, ◌^◌, [], None, IfOk, IfErr};
-ghost use Rattle.std.specs.List.{list_any};
-ghost use Rattle.std.specs.Str.{bytes_eq};
 ghost use Rattle.asl_unify.specs.Comparing as comparing;
 ghost use Rattle.asl_unify.specs.Settling.{settle_formula as settling};
 ghost use Rattle.asl_resolve.specs.Marks.{NextAtMost};
@@ -25,7 +23,9 @@ use asl_resolve::answers::Answer;
 use asl_term::copying::{copy_call, copy_literal};
 use asl_term::measure::ground_literal;
 use asl_term::sequence::Starved;
-use asl_term::syntax::{Call, Expr, Formula, Literal, Relation, Text};
+use asl_term::syntax::{Call, Expr, Formula, Literal, Relation};
+use asl_term_actions::action::Action;
+use asl_term_actions::named::named;
 use asl_unify::comparing::{CompareFault, compare};
 use asl_unify::limits::TermFault;
 use asl_unify::settle::{ArithFault, settle_formula};
@@ -95,35 +95,6 @@ fn relation<B: BeliefBase, A: Actions>(
     }
 }
 
-/// Whether the internal action of this name acts on goals.
-fn acts_on_goals(name: &[u8]) -> bool
-    ensures { result ≡ list_any (bytes_eq name.now) rows.on_goals }
-{
-    name == b"drop_intention".as_slice()
-        || name == b"drop_desire".as_slice()
-        || name == b"succeed_goal".as_slice()
-        || name == b"fail_goal".as_slice()
-        || name == b"intend".as_slice()
-        || name == b"desire".as_slice()
-}
-
-/// Whether it acts on beliefs or other agents.
-fn acts_on_others(name: &[u8]) -> bool
-    ensures { result ≡ list_any (bytes_eq name.now) rows.on_others }
-{
-    name == b"abolish".as_slice()
-        || name == b"send".as_slice()
-        || name == b"broadcast".as_slice()
-        || name == b"stopMAS".as_slice()
-}
-
-/// Whether it acts on either.
-fn is_deed(name: &Text) -> bool
-    ensures { result ≡ rows.is_deed name.now }
-{
-    acts_on_goals(name.as_slice()) || acts_on_others(name.as_slice())
-}
-
 /// The row of an internal action that changes nothing, by what the search for it answered.
 fn answered<B: BeliefBase, A: Actions>(
     alloc: Global,
@@ -186,18 +157,16 @@ fn inner<B: BeliefBase, A: Actions>(
     ensures beliefs { p.new.beliefs ≡ p.old.beliefs }
     ensures number { p.new.number ≤ p.old.number + k.now.budgets.tries }
 {
-    if c.name.as_slice() == b"print".as_slice() {
-        let text = print_text(alloc, c.args.as_slice())?;
-        cur.remove_head();
-        return Ok(Went::Say(text));
+    match named(&c.name) {
+        Some(Action::Print) => {
+            let text = print_text(alloc, c.args.as_slice())?;
+            cur.remove_head();
+            Ok(Went::Say(text))
+        }
+        Some(Action::Fail) => fails_as(alloc, k, p, cur, Row::IaFail, Error::IaFailed),
+        Some(Action::Does(_)) => Ok(Went::Outer(copy_call(alloc, c)?)),
+        Some(Action::Collects(_) | Action::Looks(_)) | None => searched(alloc, k, p, cur, c),
     }
-    if c.name.as_slice() == b"fail".as_slice() {
-        return fails_as(alloc, k, p, cur, Row::IaFail, Error::IaFailed);
-    }
-    if is_deed(&c.name) {
-        return Ok(Went::Outer(copy_call(alloc, c)?));
-    }
-    searched(alloc, k, p, cur, c)
 }
 
 /// The row of a formula that is applied and settled. Beliefs get default source.

@@ -1,12 +1,18 @@
 -- What the internal actions of bodies do: those on goals, on beliefs and on other agents.
-use Rattle.std.specs.Prelude.{ℕ, ◌+◌, Bool, true, false, cond, List, [], ◌∷◌, ◌++◌, slice_get, Option, None, Some, Result, Ok, Err, codes}
-use Rattle.std.specs.Str.{bytes_eq}
+use Rattle.std.specs.Prelude.{ℕ, ◌+◌, Bool, true, false, cond, List, [], ◌∷◌, ◌++◌, slice_get, Option, None, Some, Result, Ok, Err}
 use Rattle.asl_term.specs.declared.syntax.ArgOf.{ArgOf}
 use Rattle.asl_term.specs.declared.syntax.ArgOf.TheVariants as arg
 use Rattle.asl_term.specs.declared.syntax.CallOf.{CallOf}
 use Rattle.asl_term.specs.declared.syntax.Expr.{Expr}
 use Rattle.asl_term.specs.declared.syntax.LiteralOf.{LiteralOf}
 use Rattle.asl_term.specs.declared.syntax.Term.{Term}
+use Rattle.asl_term_actions.specs.declared.action.Action.{Action}
+use Rattle.asl_term_actions.specs.declared.action.Action.TheVariants as action
+use Rattle.asl_term_actions.specs.declared.action.Deed.{Deed}
+use Rattle.asl_term_actions.specs.declared.action.Deed.TheVariants as deed
+use Rattle.asl_term_actions.specs.declared.action.LiteralDeed.{LiteralDeed}
+use Rattle.asl_term_actions.specs.declared.action.LiteralDeed.TheVariants as literal_deed
+use Rattle.asl_term_actions.specs.Actions.{named}
 use Rattle.asl_unify.specs.declared.subst.Pair.{Pair}
 use Rattle.asl_beliefs.specs.Changes.{Changed, abolished}
 use Rattle.asl_intend.specs.declared.entry.Means.{Means}
@@ -123,34 +129,39 @@ module _ (k : Surroundings) (asks : ℕ) (p : Circumstance) (cur : List Means) w
   abbrev pub stop : Did
   stop = did p asks (without_head cur) acted.Stop
 
-  -- ---- the action of a name
+  -- ---- the deed of a name
 
   -- those about a literal
-  abbrev pub about : List ℕ → LiteralOf Term → Did
-  about name g =
-      cond (bytes_eq name (codes "drop_intention")) (drop_intention g)
-      (cond (bytes_eq name (codes "drop_desire")) (drop_desire g)
-      (cond (bytes_eq name (codes "succeed_goal")) (ended way.Succeed g)
-      (cond (bytes_eq name (codes "fail_goal")) (ended way.Fail g)
-      (cond (bytes_eq name (codes "intend")) (looked_up false g)
-      (cond (bytes_eq name (codes "desire")) (looked_up true g)
-      (cond (bytes_eq name (codes "abolish")) (abolish g)
-      (refused (why.Argument 0))))))))
+  abbrev pub about : LiteralDeed → LiteralOf Term → Did
+  about literal_deed.DropIntention g = drop_intention g
+  about literal_deed.DropDesire g = drop_desire g
+  about literal_deed.SucceedGoal g = ended way.Succeed g
+  about literal_deed.FailGoal g = ended way.Fail g
+  about literal_deed.Intend g = looked_up false g
+  about literal_deed.Desire g = looked_up true g
+  about literal_deed.Abolish g = abolish g
 
-  abbrev pub about_literal : List ℕ → Option (LiteralOf Term) → Did
-  about_literal name None = refused (why.Argument 0)
-  about_literal name (Some g) = about name g
+  abbrev pub about_literal : LiteralDeed → Option (LiteralOf Term) → Did
+  about_literal d None = refused (why.Argument 0)
+  about_literal d (Some g) = about d g
 
-  abbrev pub about_term : List ℕ → Option Term → Did
-  about_term name None = refused (why.Argument 0)
-  about_term name (Some t) = about_literal name (literal_of t)
+  abbrev pub about_term : LiteralDeed → Option Term → Did
+  about_term d None = refused (why.Argument 0)
+  about_term d (Some t) = about_literal d (literal_of t)
+
+  abbrev pub deed_done : Peers → List (ArgOf Expr) → Deed → Did
+  deed_done peers args (deed.OnLiteral d) = about_term d (term_at args 0)
+  deed_done peers args deed.Send = send peers args
+  deed_done peers args deed.Broadcast = broadcast peers args
+  deed_done peers args deed.StopMas = stop
+
+  -- (no other action comes here)
+  abbrev pub act_by : Peers → List (ArgOf Expr) → Option Action → Did
+  act_by peers args (Some (action.Does d)) = deed_done peers args d
+  act_by peers args other = refused (why.Argument 0)
 
   abbrev pub act : Peers → CallOf Expr → Did
-  act peers c =
-      cond (bytes_eq c.name (codes "send")) (send peers c.args)
-      (cond (bytes_eq c.name (codes "broadcast")) (broadcast peers c.args)
-      (cond (bytes_eq c.name (codes "stopMAS")) stop
-      (about_term c.name (term_at c.args 0))))
+  act peers c = act_by peers c.args (named c.name)
 
 -- (shut, so that proofs above do not look inside)
 unfoldable pub act_inside : Surroundings → Peers → ℕ → Circumstance → List Means → CallOf Expr → Did

@@ -1,4 +1,4 @@
-//! The internal action of a name.
+//! The deed of a name.
 
 ghost use Rattle.std.specs.Prelude.{◌≡◌, ◌≤◌, ◌+◌, ◌<◌, ◌^◌, ◌-◌, IfOk};
 ghost use Rattle.asl_exec_circumstance.specs.Circumstance as parts;
@@ -16,67 +16,88 @@ use asl_exec_circumstance::peers::Peers;
 use asl_intend::stack::Stack;
 use asl_resolve::actions::Actions;
 use asl_term::sequence::Starved;
-use asl_term::syntax::{Call, Literal, Text};
+use asl_term::syntax::{Arg, Call, Literal};
+use asl_term_actions::action::{Action, Deed, LiteralDeed};
+use asl_term_actions::named::named;
 use std::alloc::Global;
 
-/// The action of a name about a literal.
+/// A deed about a literal.
 fn about<B: BeliefBase, A: Actions>(
     alloc: Global,
     k: &Surroundings<A>,
     p: &mut Circumstance<B>,
     asks: &mut u64,
     cur: &mut Stack,
-    name: &Text,
+    deed: LiteralDeed,
     g: &Literal,
 ) -> Result<Acted, Starved>
-    ensures did { IfOk result (λ a. spec.about (parts.seen_around A.solve k.now B.rules p.old) asks.old (parts.seen B.beliefs p.old) cur.old name.now g.now
+    ensures did { IfOk result (λ a. spec.about (parts.seen_around A.solve k.now B.rules p.old) asks.old (parts.seen B.beliefs p.old) cur.old deed g.now
         ≡ spec.did (parts.seen B.beliefs p.new) asks.new cur.new a) }
     ensures rules { B.rules p.new.beliefs ≡ B.rules p.old.beliefs }
     ensures number { p.new.number ≡ p.old.number }
     ensures asks { asks.new ≡ asks.old }
 {
-    let name = name.as_slice();
-    if name == b"drop_intention".as_slice() {
-        drop_intention(alloc, k, p, asks, cur, g)
-    } else if name == b"drop_desire".as_slice() {
-        drop_desire(alloc, k, p, asks, cur, g)
-    } else if name == b"succeed_goal".as_slice() {
-        ended(alloc, k, p, asks, cur, Way::Succeed, g)
-    } else if name == b"fail_goal".as_slice() {
-        ended(alloc, k, p, asks, cur, Way::Fail, g)
-    } else if name == b"intend".as_slice() {
-        looked_up(alloc, k, p, asks, cur, false, g)
-    } else if name == b"desire".as_slice() {
-        looked_up(alloc, k, p, asks, cur, true, g)
-    } else if name == b"abolish".as_slice() {
-        abolish(alloc, k, p, asks, cur, g)
-    } else {
-        Ok(Acted::Failed(Why::Argument(0)))
+    match deed {
+        LiteralDeed::DropIntention => drop_intention(alloc, k, p, asks, cur, g),
+        LiteralDeed::DropDesire => drop_desire(alloc, k, p, asks, cur, g),
+        LiteralDeed::SucceedGoal => ended(alloc, k, p, asks, cur, Way::Succeed, g),
+        LiteralDeed::FailGoal => ended(alloc, k, p, asks, cur, Way::Fail, g),
+        LiteralDeed::Intend => looked_up(alloc, k, p, asks, cur, false, g),
+        LiteralDeed::Desire => looked_up(alloc, k, p, asks, cur, true, g),
+        LiteralDeed::Abolish => abolish(alloc, k, p, asks, cur, g),
     }
 }
 
-/// The action of a name about its first argument.
+/// A deed about the literal that is its first argument.
 fn about_term<B: BeliefBase, A: Actions>(
     alloc: Global,
     k: &Surroundings<A>,
     p: &mut Circumstance<B>,
     asks: &mut u64,
     cur: &mut Stack,
-    c: &Call,
+    deed: LiteralDeed,
+    args: &[Arg],
 ) -> Result<Acted, Starved>
     ensures did { IfOk result (λ a. spec.about_term (parts.seen_around A.solve k.now B.rules p.old) asks.old
-        (parts.seen B.beliefs p.old) cur.old c.now.name (sending.term_at c.now.args 0)
+        (parts.seen B.beliefs p.old) cur.old deed (sending.term_at args.now 0)
         ≡ spec.did (parts.seen B.beliefs p.new) asks.new cur.new a) }
     ensures rules { B.rules p.new.beliefs ≡ B.rules p.old.beliefs }
     ensures number { p.new.number ≡ p.old.number }
     ensures asks { asks.new ≡ asks.old }
 {
-    match term_at(c.args.as_slice(), 0) {
+    match term_at(args, 0) {
         None => Ok(Acted::Failed(Why::Argument(0))),
         Some(t) => match literal_of(t) {
             None => Ok(Acted::Failed(Why::Argument(0))),
-            Some(g) => about(alloc, k, p, asks, cur, &c.name, g),
+            Some(g) => about(alloc, k, p, asks, cur, deed, g),
         },
+    }
+}
+
+/// A deed with its arguments.
+fn deed_done<B: BeliefBase, A: Actions>(
+    alloc: Global,
+    k: &Surroundings<A>,
+    peers: &Peers,
+    p: &mut Circumstance<B>,
+    asks: &mut u64,
+    cur: &mut Stack,
+    deed: Deed,
+    args: &[Arg],
+) -> Result<Acted, Starved>
+    requires { asks.old < 2 ^ 64 - 1 }
+    ensures did { IfOk result (λ a. spec.deed_done (parts.seen_around A.solve k.now B.rules p.old) asks.old
+        (parts.seen B.beliefs p.old) cur.old peers.now args.now deed
+        ≡ spec.did (parts.seen B.beliefs p.new) asks.new cur.new a) }
+    ensures rules { B.rules p.new.beliefs ≡ B.rules p.old.beliefs }
+    ensures number { p.new.number ≡ p.old.number }
+    ensures asks { asks.new ≤ asks.old + 1 }
+{
+    match deed {
+        Deed::OnLiteral(deed) => about_term(alloc, k, p, asks, cur, deed, args),
+        Deed::Send => send(alloc, k, peers, p, asks, cur, args),
+        Deed::Broadcast => broadcast(alloc, k, peers, p, asks, cur, args),
+        Deed::StopMas => stop(k, p, asks, cur),
     }
 }
 
@@ -100,15 +121,12 @@ pub fn act_inside<B: BeliefBase, A: Actions>(
     ensures number { p.new.number ≡ p.old.number }
     ensures asks { asks.new ≤ asks.old + 1 }
 {
-    let name = c.name.as_slice();
-    if name == b"send".as_slice() {
-        return send(alloc, k, peers, p, asks, cur, c.args.as_slice());
+    match named(&c.name) {
+        Some(Action::Does(deed)) => {
+            deed_done(alloc, k, peers, p, asks, cur, deed, c.args.as_slice())
+        }
+        Some(Action::Collects(_) | Action::Looks(_) | Action::Print | Action::Fail) | None => {
+            Ok(Acted::Failed(Why::Argument(0)))
+        }
     }
-    if name == b"broadcast".as_slice() {
-        return broadcast(alloc, k, peers, p, asks, cur, c.args.as_slice());
-    }
-    if name == b"stopMAS".as_slice() {
-        return stop(k, p, asks, cur);
-    }
-    about_term(alloc, k, p, asks, cur, c)
 }

@@ -4,7 +4,7 @@ ghost use Rattle.std.specs.Prelude.{◌≡◌, cond, None, IfOk};
 ghost use Rattle.asl_intend.specs.Stacks as stacks;
 ghost use Rattle.asl_goals.specs.Goals as spec;
 
-use asl_intend::agenda::{Agenda, Ask, Event, Events};
+use asl_intend::agenda::{Agenda, Ask, Event, Events, Running};
 use asl_intend::goal::goal_match;
 use asl_intend::stack::Stack;
 use asl_term::sequence::Starved;
@@ -26,7 +26,7 @@ fn stack_match(alloc: Global, g: &Literal, stack: &Stack) -> Result<Option<Subst
 }
 
 /// That of the first stack which has one.
-fn running_match(alloc: Global, g: &Literal, stacks: &[Stack]) -> Result<Option<Subst>, Starved>
+fn stacks_match(alloc: Global, g: &Literal, stacks: &[Stack]) -> Result<Option<Subst>, Starved>
     ensures { IfOk result (λ r. r ≡ spec.first_of (spec.stack_match g.now) stacks.now) }
 {
     for stack in stacks {
@@ -36,6 +36,18 @@ fn running_match(alloc: Global, g: &Literal, stacks: &[Stack]) -> Result<Option<
         }
     }
     Ok(None)
+}
+
+/// That of the first running stack which has one.
+fn running_match(alloc: Global, g: &Literal, running: &Running) -> Result<Option<Subst>, Starved>
+    ensures { IfOk result (λ r. r ≡ spec.first_of (spec.stack_match g.now) running.now) }
+{
+    let (front, back) = running.parts();
+    let found = stacks_match(alloc, g, front)?;
+    match found {
+        Some(s) => Ok(Some(s)),
+        None => stacks_match(alloc, g, back),
+    }
 }
 
 /// The match with the goal that an event is about.
@@ -160,7 +172,7 @@ pub fn first_goal(
 ) -> Result<Option<Subst>, Starved>
     ensures { IfOk result (λ r. r ≡ spec.first_goal desired g.now a.now cur.now) }
 {
-    let found = running_match(alloc, g, a.running.as_slice())?;
+    let found = running_match(alloc, g, &a.running)?;
     match found {
         Some(s) => Ok(Some(s)),
         None => later_match(alloc, desired, g, a, cur),

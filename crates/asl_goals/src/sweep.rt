@@ -9,7 +9,7 @@ use asl_exec_circumstance::emptied::emptied;
 use asl_exec_circumstance::parts::{Circumstance, Surroundings, fails_as};
 use asl_exec_circumstance::rows::{Falls, Row};
 use asl_exec_circumstance::went::Went;
-use asl_intend::agenda::{Ask, Asks, Error, Event, Stacks};
+use asl_intend::agenda::{Ask, Asks, Error, Event, Running, Stacks};
 use asl_intend::stack::Stack;
 use asl_resolve::actions::Actions;
 use asl_term::sequence::{Seq, Starved};
@@ -112,6 +112,17 @@ fn put_left(list: &mut Stacks, stack: Stack) -> Result<(), Starved>
     list.push(stack)
 }
 
+/// Puts what is left of a stack last among those that run, where something is.
+fn put_back(list: &mut Running, stack: Stack) -> Result<(), Starved>
+    ensures { OnOk result (list.new ≡ list.old ++ goals.what_is_left stack) }
+{
+    if stack.len() == 0 {
+        drop(stack);
+        return Ok(());
+    }
+    list.push(stack)
+}
+
 /// Treats a stack with the goal, and puts what is left of it to the back of those that run.
 fn treat_to_back<B: BeliefBase, A: Actions>(
     alloc: Global,
@@ -129,7 +140,7 @@ fn treat_to_back<B: BeliefBase, A: Actions>(
 {
     let mut stack = cut;
     match treat(alloc, k, p, way, &mut stack, falls) {
-        Ok(()) => put_left(&mut p.agenda.running, stack),
+        Ok(()) => put_back(&mut p.agenda.running, stack),
         Err(starved) => {
             drop(stack);
             Err(starved)
@@ -292,12 +303,12 @@ fn sweep_running<B: BeliefBase, A: Actions>(
     ensures beliefs { p.new.beliefs ≡ p.old.beliefs }
     ensures number { p.new.number ≡ p.old.number }
 {
-    let running = mem::replace(&mut p.agenda.running, Seq::new(alloc));
+    let running = p.agenda.running.take_all(alloc);
     let mut left = Seq::new(alloc);
     for stack in running.into_vec() {
         sweep_stack(alloc, k, p, way, g, stack, &mut left, falls)?;
     }
-    p.agenda.running = left;
+    p.agenda.running = Queue::from_seq(left);
     Ok(())
 }
 

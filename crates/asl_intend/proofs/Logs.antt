@@ -232,11 +232,11 @@ since_with n f (e ∷ es) a = (with_in n f e (entry.has_first e) a.0, a.1)
 pub pushed : (log : List (List Pair)) (xs ys : List StackEntry) (e : StackEntry) → ys ≡ xs ++ e ∷ [] → shown log (reverse ys) ≡ seen log e ∷ shown log (reverse xs)
 pushed log xs ys e h = ap (λ l. shown log (reverse l)) h ∙ ap (shown log) (reverse-append xs (e ∷ []))
 
-pub seen_pushed : (log : List (List Pair)) (own s : List Pair) (n : ℕ) (m : Means) → n ≡ length log → own ≡ s
-    → seen log (record { trigger = m.trigger; own = own; since = n; first = None; body = m.body }) ≡ applied_means s m
-seen_pushed log own s n m h q =
+pub seen_pushed : (log : List (List Pair)) (own : List Pair) (n : ℕ) (m : Means) (body : List Formula) → n ≡ length log → body ≡ m.body
+    → seen log (record { trigger = m.trigger; own = own; since = n; first = None; body = body }) ≡ applied_means own m
+seen_pushed log own n m body h b =
     let rest = ap (λ k. drop k log) h ∙ drop-length log in
-    λ i. record { trigger = put_trigger (value_in (q i) (rest i)) m.trigger; body = map (put_formula (value_in (q i) (rest i))) m.body }
+    λ i. record { trigger = put_trigger (value_in own (rest i)) m.trigger; body = map (put_formula (value_in own (rest i))) (b i) }
 
 pub head_shown : (log : List (List Pair)) (xs : List StackEntry) (e : StackEntry) → slice_get xs 0 ≡ Some e → stacks.head (shown log xs) ≡ stacks.first (seen log e)
 head_shown log [] e h = cc

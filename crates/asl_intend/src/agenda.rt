@@ -3,7 +3,7 @@
 ghost use Rattle.std.specs.Prelude.{◌≡◌, ◌+◌, [], ◌∷◌, ◌++◌, None, Some, OnOk, OnErr, IfOk, drop, slice_get};
 ghost use Rattle.asl_intend.specs.Agendas as spec;
 
-use crate::dropping::{drop_named, drop_named_events, drop_wanted_events};
+use crate::dropping::{drop_named, drop_named_events, drop_named_stacks, drop_wanted_events};
 use crate::stack::Stack;
 use asl_term::sequence::{Seq, Starved};
 use asl_term::syntax::{Literal, Term, Trigger};
@@ -50,12 +50,15 @@ pub type Events = Queue<Event>;
 
 pub type Stacks = Seq<Stack>;
 
+/// Stacks from whose front one is taken.
+pub type Running = Queue<Stack>;
+
 pub type Asks = Seq<Ask>;
 
 /// All stacks but the current one, and the events, the oldest first.
 pub struct Agenda {
     pub events: Events,
-    pub running: Stacks,
+    pub running: Running,
     pub acting: Option<Acting>,
     pub asks: Asks,
 }
@@ -102,7 +105,7 @@ impl Agenda {
         ensures value { result ≡ slice_get self.old.running 0 }
         ensures rest { self.new ≡ record self.old { running = drop 1 self.old.running } }
     {
-        self.running.remove(0)
+        self.running.take_first()
     }
 
     /// Keeps a stack that waits for its action.
@@ -144,7 +147,7 @@ impl Agenda {
         ensures rest { OnOk result (self.new ≡ spec.without_intentions g.now self.old) }
     {
         let events = drop_named_events(alloc, &mut self.events, g)?;
-        let running = drop_named(alloc, &mut self.running, g)?;
+        let running = drop_named_stacks(alloc, &mut self.running, g)?;
         let asks = drop_named(alloc, &mut self.asks, g)?;
         let held = both(events, running)?;
         both(held, asks)

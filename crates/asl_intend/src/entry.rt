@@ -10,6 +10,7 @@ use crate::unbuilt::matches_under;
 use asl_term::copying::copy_all;
 use asl_term::sequence::Starved;
 use asl_term::syntax::{Formula, Formulas, Literal, Term, Trigger};
+use asl_term_queue::queue::Queue;
 use asl_unify::apply::apply_formula;
 use asl_unify::build::build_literal;
 use asl_unify::limits::{TermFault, apply_literal, fits_literal};
@@ -42,7 +43,7 @@ pub struct StackEntry {
     /// The first formula, where it was put in the place of another.
     pub first: Option<First>,
     /// The formulas after that one.
-    pub body: Formulas,
+    pub body: Queue<Formula>,
 }
 
 /// A trigger with more nodes or more levels is not built.
@@ -66,7 +67,7 @@ impl StackEntry {
     pub fn has_first(&self) -> bool
         ensures { result ≡ spec.has_first self.now }
     {
-        self.first.is_some() || self.body.at(0).is_some()
+        self.first.is_some() || self.body.first().is_some()
     }
 
     /// Takes away the first formula. False where there is none.
@@ -79,7 +80,7 @@ impl StackEntry {
             drop(self.first.take());
             return true;
         }
-        match self.body.remove(0) {
+        match self.body.take_first() {
             Some(formula) => {
                 drop(formula);
                 true
@@ -106,7 +107,7 @@ impl StackEntry {
         ensures ok { IfOk result (λ r. (r ≡ spec.first_of_body log.now self.now) × stacks.Bounded r) }
         ensures fault { IfErr result (λ e. Passes (stacks.is_bounded (spec.first_of_body log.now self.now)) e) }
     {
-        match self.body.at(0) {
+        match self.body.first() {
             None => Ok(None),
             Some(f) => {
                 // That its pairs are sound is known once they are read.

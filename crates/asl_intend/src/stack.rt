@@ -9,6 +9,7 @@ ghost use Rattle.asl_intend.specs.Stacks as stacks;
 use crate::entry::{Means, StackEntry};
 use asl_term::sequence::{Seq, Starved};
 use asl_term::syntax::{Formula, Literal, Term, Trigger};
+use asl_term_queue::queue::Queue;
 use asl_unify::limits::TermFault;
 use asl_unify::subst::{Subst, copy_subst};
 use std::alloc::Global;
@@ -135,12 +136,12 @@ impl Stack {
     }
 
     /// Puts the means on top, with the substitution put into them and into no others.
-    pub fn push(&mut self, m: Means, s: &Subst) -> Result<(), Starved>
-        ensures ok { OnOk result (self.new ≡ means.applied_means s.now m ∷ self.old) }
+    pub fn push(&mut self, m: Means, own: Subst) -> Result<(), Starved>
+        ensures ok { OnOk result (self.new ≡ means.applied_means own m ∷ self.old) }
         ensures err { OnErr result (self.new ≡ self.old) }
     {
-        let own = copy_subst(self.log.alloc(), s)?;
         let Means { trigger, body } = m;
+        let body = Queue::from_seq(body);
         let since = self.log.len();
         let entry = StackEntry {
             trigger,

@@ -1,5 +1,5 @@
 -- Whether an item of a plan holds: its goal, or what it sends.
-use Rattle.std.specs.Prelude.{ℕ, ◌==◌, Bool, true, false, not, ◌&&◌, ◌||◌, if◌then◌else◌, List, length, slice_get, Option, Some, None, codes}
+use Rattle.std.specs.Prelude.{ℕ, Bool, true, false, not, ◌&&◌, ◌||◌, if◌then◌else◌, List, length, slice_get, Option, Some, None, codes}
 use Rattle.std.specs.Str.{bytes_eq}
 use Rattle.asl_term.specs.declared.syntax.LiteralOf.{LiteralOf}
 use Rattle.asl_term.specs.declared.syntax.ArgOf.{ArgOf}
@@ -14,6 +14,10 @@ use Rattle.asl_term.specs.declared.syntax.Term.{Term}
 use Rattle.asl_term.specs.declared.syntax.Term.TheOpen.{Term-F}
 use Rattle.asl_term.specs.declared.syntax.Term.TheOpen as layer
 use Rattle.asl_term.specs.declared.syntax.Term.TheViews.{out-Term}
+use Rattle.asl_term_actions.specs.declared.action.Action.{Action}
+use Rattle.asl_term_actions.specs.declared.action.Action.TheVariants as action
+use Rattle.asl_term_actions.specs.declared.action.Deed.TheVariants as deed
+use Rattle.asl_term_actions.specs.Actions.{known}
 use Rattle.asl_lint.specs.Goals.{is_atom, sent_to, achieved_by, achieves, tests}
 use Rattle.asl_lint.specs.declared.goals.Receivers.{Receivers}
 use Rattle.asl_lint.specs.declared.goals.Receivers.TheVariants.{All}
@@ -54,14 +58,6 @@ plain_in None = None
 abbrev pub term_at : List (ArgOf Expr) → ℕ → Option Term
 term_at args n = plain_in (slice_get args n)
 
--- `.send(R, V, C)` or `.send(R, V, C, A)`
-abbrev pub is_send : CallOf Expr → Bool
-is_send c = bytes_eq c.name (codes "send") && ((length c.args == 3) || (length c.args == 4))
-
--- `.broadcast(V, C)`
-abbrev pub is_broadcast : CallOf Expr → Bool
-is_broadcast c = bytes_eq c.name (codes "broadcast") && (length c.args == 2)
-
 abbrev pub send_holds : List (List ℕ) → List AgentText → Option Term → Option Term → Option Term → Bool
 send_holds names texts (Some to) (Some verb) (Some content) = sends texts (sent_to names to) verb content
 send_holds names texts to verb content = true
@@ -70,11 +66,14 @@ abbrev pub broadcast_holds : List AgentText → Option Term → Option Term → 
 broadcast_holds texts (Some verb) (Some content) = sends texts All verb content
 broadcast_holds texts verb content = true
 
--- (other calls send nothing)
+-- `.send(R, V, C)` or `.send(R, V, C, A)`, and `.broadcast(V, C)` (other calls send nothing)
+abbrev pub sent_holds : List (List ℕ) → List AgentText → List (ArgOf Expr) → Option Action → Bool
+sent_holds names texts args (Some (action.Does deed.Send)) = send_holds names texts (term_at args 0) (term_at args 1) (term_at args 2)
+sent_holds names texts args (Some (action.Does deed.Broadcast)) = broadcast_holds texts (term_at args 0) (term_at args 1)
+sent_holds names texts args other = true
+
 abbrev pub call_holds : List (List ℕ) → List AgentText → CallOf Expr → Bool
-call_holds names texts c =
-    if is_send c then send_holds names texts (term_at c.args 0) (term_at c.args 1) (term_at c.args 2)
-    else (if is_broadcast c then broadcast_holds texts (term_at c.args 0) (term_at c.args 1) else true)
+call_holds names texts c = sent_holds names texts c.args (known c.name (length c.args))
 
 -- an item of a plan's body
 abbrev pub item_holds : List (List ℕ) → List AgentText → List Plan → Formula → Bool

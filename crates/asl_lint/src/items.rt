@@ -9,6 +9,8 @@ use crate::goals::{Receivers, achieved_by, achieves, is_atom, sent_to, tests};
 use asl_term::names::Names;
 use asl_term::sequence::Starved;
 use asl_term::syntax::{AgentText, Arg, ArgOf, Call, Formula, Literal, Plan, Term};
+use asl_term_actions::action::{Action, Deed};
+use asl_term_actions::named::known;
 use std::alloc::Global;
 
 fn is_word(word: &[u8], l: &Literal) -> bool
@@ -100,32 +102,15 @@ fn broadcast_holds(alloc: Global, texts: &[AgentText], args: &[Arg]) -> Result<b
     sends(alloc, texts, Receivers::All, verb, content)
 }
 
-/// Whether it is `.send(R, V, C)` or `.send(R, V, C, A)`.
-fn is_send(c: &Call) -> bool
-    ensures { result ≡ spec.is_send c.now }
-{
-    let n = c.args.len();
-    c.name.as_slice() == b"send".as_slice() && (n == 3 || n == 4)
-}
-
-/// Whether it is `.broadcast(V, C)`.
-fn is_broadcast(c: &Call) -> bool
-    ensures { result ≡ spec.is_broadcast c.now }
-{
-    c.name.as_slice() == b"broadcast".as_slice() && c.args.len() == 2
-}
-
 /// Whether what a call sends holds. Other calls send nothing.
 fn call_holds(alloc: Global, names: &Names, texts: &[AgentText], c: &Call) -> Result<bool, Starved>
     ensures { IfOk result (λ b. b ≡ spec.call_holds names.now texts.now c.now) }
 {
-    if is_send(c) {
-        return send_holds(alloc, names, texts, c.args.as_slice());
+    match known(&c.name, c.args.len()) {
+        Some(Action::Does(Deed::Send)) => send_holds(alloc, names, texts, c.args.as_slice()),
+        Some(Action::Does(Deed::Broadcast)) => broadcast_holds(alloc, texts, c.args.as_slice()),
+        Some(_) | None => Ok(true),
     }
-    if is_broadcast(c) {
-        return broadcast_holds(alloc, texts, c.args.as_slice());
-    }
-    Ok(true)
 }
 
 /// Whether an item of a plan's body holds, for an agent with these plans.

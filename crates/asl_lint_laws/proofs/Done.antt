@@ -1,6 +1,5 @@
 -- What the internal actions on goals, beliefs and other agents leave.
-use Rattle.std.proofs.Common.{◌≡◌, ◌≤◌, ℕ, zero, suc, Bool, true, false, cond, List, [], ◌∷◌, ◌++◌, map, slice_get, Option, Some, None, IfSome, Result, Ok, Err, refl, sym, ap, ◌∙◌, subst, arith, codes}
-use Rattle.std.specs.Str.{bytes_eq}
+use Rattle.std.proofs.Common.{◌≡◌, ◌≤◌, ℕ, zero, suc, Bool, true, false, cond, List, [], ◌∷◌, ◌++◌, map, slice_get, Option, Some, None, IfSome, Result, Ok, Err, refl, sym, ap, ◌∙◌, subst, arith}
 use Rattle.asl_term.specs.declared.syntax.AgentText.{AgentText}
 use Rattle.asl_term.specs.declared.syntax.ArgOf.{ArgOf}
 use Rattle.asl_term.specs.declared.syntax.ArgOf.TheVariants.{Plain, Logic}
@@ -10,6 +9,12 @@ use Rattle.asl_term.specs.declared.syntax.LiteralOf.{LiteralOf}
 use Rattle.asl_term.specs.declared.syntax.Term.{Term}
 use Rattle.asl_term.specs.declared.syntax.Var.{Var}
 use Rattle.asl_term.specs.Exprs.{map_arg}
+use Rattle.asl_term_actions.specs.declared.action.Action.{Action}
+use Rattle.asl_term_actions.specs.declared.action.Action.TheVariants as action
+use Rattle.asl_term_actions.specs.declared.action.Deed.TheVariants as deed
+use Rattle.asl_term_actions.specs.declared.action.LiteralDeed.{LiteralDeed}
+use Rattle.asl_term_actions.specs.declared.action.LiteralDeed.TheVariants as literal_deed
+use Rattle.asl_term_actions.specs.Actions.{named}
 use Rattle.asl_unify.specs.declared.subst.Pair.{Pair}
 use Rattle.asl_unify.specs.inner.Costs.{total, weight}
 use Rattle.asl_beliefs.specs.Changes.{abolished}
@@ -31,7 +36,7 @@ use Rattle.asl_goals.specs.declared.sweep.Way.{Way}
 use Rattle.asl_goals.specs.declared.sweep.Way.TheVariants as way
 use Rattle.asl_goals.specs.Goals.{first_goal, from_lowest, treated, falls_of, all_swept, all_falls}
 use Rattle.asl_goals.specs.Sending.{plain_arg, term_at, letter, posted, is_ask, spread}
-use Rattle.asl_goals.specs.Inside.{Did, refused, dropped, drop_intention, drop_desire, matched, looked_up, current_left, current, ended, abolish, sent, asked, sent_asking, sent_letter, send, sent_all, broadcast, stop, about, about_literal, about_term, act, act_inside}
+use Rattle.asl_goals.specs.Inside.{Did, refused, dropped, drop_intention, drop_desire, matched, looked_up, current_left, current, ended, abolish, sent, asked, sent_asking, sent_letter, send, sent_all, broadcast, stop, about, about_literal, about_term, act_by, act, act_inside}
 use Rattle.asl_lint_laws.specs.Agendas.{StackServed, AskServed, AgendaServed}
 use Rattle.asl_lint_laws.proofs.Bound.{stack_bound}
 use Rattle.asl_lint_laws.proofs.Failing.{all_last}
@@ -131,23 +136,22 @@ module _ (texts : List AgentText) (written : Written texts) (k : Surroundings) (
     acted = tt;
   }
 
-  about_served : (name : List ℕ) (g : LiteralOf Term) → LiteralBelow p.number g → Keeps (about k asks p cur name g)
-  about_served name g b =
-      either (bytes_eq name (codes "drop_intention")) _ _ (intention_served g)
-      (either (bytes_eq name (codes "drop_desire")) _ _ (desire_served g)
-      (either (bytes_eq name (codes "succeed_goal")) _ _ (ended_served way.Succeed g)
-      (either (bytes_eq name (codes "fail_goal")) _ _ (ended_served way.Fail g)
-      (either (bytes_eq name (codes "intend")) _ _ (looked_served false g b)
-      (either (bytes_eq name (codes "desire")) _ _ (looked_served true g b)
-      (either (bytes_eq name (codes "abolish")) _ _ (abolish_served g) (refused_served (why.Argument 0))))))))
+  about_served : (d : LiteralDeed) (g : LiteralOf Term) → LiteralBelow p.number g → Keeps (about k asks p cur d g)
+  about_served literal_deed.DropIntention g b = intention_served g
+  about_served literal_deed.DropDesire g b = desire_served g
+  about_served literal_deed.SucceedGoal g b = ended_served way.Succeed g
+  about_served literal_deed.FailGoal g b = ended_served way.Fail g
+  about_served literal_deed.Intend g b = looked_served false g b
+  about_served literal_deed.Desire g b = looked_served true g b
+  about_served literal_deed.Abolish g b = abolish_served g
 
-  literal_served : (name : List ℕ) (t : Term) → weight (late p.number) t ≡ 0 → (o : Option (LiteralOf Term)) → literal_of t ≡ o → Keeps (about_literal k asks p cur name o)
-  literal_served name t b None e = refused_served (why.Argument 0)
-  literal_served name t b (Some g) e = about_served name g (literal_count_is (late p.number) t g e b)
+  literal_served : (d : LiteralDeed) (t : Term) → weight (late p.number) t ≡ 0 → (o : Option (LiteralOf Term)) → literal_of t ≡ o → Keeps (about_literal k asks p cur d o)
+  literal_served d t b None e = refused_served (why.Argument 0)
+  literal_served d t b (Some g) e = about_served d g (literal_count_is (late p.number) t g e b)
 
-  about_term_served : (name : List ℕ) (o : Option Term) → term_at c.args 0 ≡ o → Keeps (about_term k asks p cur name o)
-  about_term_served name None e = refused_served (why.Argument 0)
-  about_term_served name (Some t) e = literal_served name t (term_below 0 t e) (literal_of t) refl
+  about_term_served : (d : LiteralDeed) (o : Option Term) → term_at c.args 0 ≡ o → Keeps (about_term k asks p cur d o)
+  about_term_served d None e = refused_served (why.Argument 0)
+  about_term_served d (Some t) e = literal_served d t (term_below 0 t e) (literal_of t) refl
 
   -- ---- messages
 
@@ -177,13 +181,13 @@ module _ (texts : List AgentText) (written : Written texts) (k : Surroundings) (
       either (is_ask l.verb) _ _ (asked_served l s a (term_below 3 a (ap plain_arg e))) (refused_served (why.Argument 3))
   asking_served l s (Some (Logic x)) e = refused_served (why.Argument 3)
 
-  send_served : bytes_eq c.name (codes "send") ≡ true → Keeps (send k asks p cur peers c.args)
+  send_served : named c.name ≡ Some (action.Does deed.Send) → Keeps (send k asks p cur peers c.args)
   send_served e = go (letter peers.names c.args) refl where
     go : (o : Result Letter Why) → letter peers.names c.args ≡ o → Keeps (sent_letter k asks p cur peers.me c.args o)
     go (Err x) d = refused_served x
     go (Ok l) d = asking_served l (letter_sound peers.names texts written c call.source call.linted call.settled e l d) (slice_get c.args 3) refl
 
-  broadcast_served : bytes_eq c.name (codes "broadcast") ≡ true → Keeps (broadcast k asks p cur peers c.args)
+  broadcast_served : named c.name ≡ Some (action.Does deed.Broadcast) → Keeps (broadcast k asks p cur peers c.args)
   broadcast_served e = go (spread peers c.args) refl where
     go : (o : Result (List Message) Why) → spread peers c.args ≡ o → Keeps (sent_all k asks p cur o)
     go (Err x) d = refused_served x
@@ -197,18 +201,15 @@ module _ (texts : List AgentText) (written : Written texts) (k : Surroundings) (
   stop_served : Keeps (stop k asks p cur)
   stop_served = record { number = stay p.number; parts = parts; cur = rest; acted = tt }
 
-  act_served : Keeps (act k asks p cur peers c)
-  act_served = by_send (bytes_eq c.name (codes "send")) refl where
-    by_broadcast : (b : Bool) → bytes_eq c.name (codes "broadcast") ≡ b
-        → Keeps (cond b (broadcast k asks p cur peers c.args) (cond (bytes_eq c.name (codes "stopMAS")) (stop k asks p cur) (about_term k asks p cur c.name (term_at c.args 0))))
-    by_broadcast true e = broadcast_served e
-    by_broadcast false e = either (bytes_eq c.name (codes "stopMAS")) _ _ stop_served (about_term_served c.name (term_at c.args 0) refl)
+  by_action : (o : Option Action) → named c.name ≡ o → Keeps (act_by k asks p cur peers c.args o)
+  by_action (Some (action.Does (deed.OnLiteral d))) e = about_term_served d (term_at c.args 0) refl
+  by_action (Some (action.Does deed.Send)) e = send_served e
+  by_action (Some (action.Does deed.Broadcast)) e = broadcast_served e
+  by_action (Some (action.Does deed.StopMas)) e = stop_served
+  by_action other e = refused_served (why.Argument 0)
 
-    by_send : (b : Bool) → bytes_eq c.name (codes "send") ≡ b
-        → Keeps (cond b (send k asks p cur peers c.args) (cond (bytes_eq c.name (codes "broadcast")) (broadcast k asks p cur peers c.args)
-        (cond (bytes_eq c.name (codes "stopMAS")) (stop k asks p cur) (about_term k asks p cur c.name (term_at c.args 0)))))
-    by_send true e = send_served e
-    by_send false e = by_broadcast (bytes_eq c.name (codes "broadcast")) refl
+  act_served : Keeps (act k asks p cur peers c)
+  act_served = by_action (named c.name) refl
 
   inside_served : Keeps (act_inside k peers asks p cur c)
   unfolding act_inside

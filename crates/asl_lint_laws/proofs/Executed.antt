@@ -1,7 +1,6 @@
 -- The rows for the first formula of the current stack.
-use Rattle.std.proofs.Common.{◌≡◌, ◌≤◌, ℕ, Bool, true, false, cond, List, [], ◌∷◌, Option, Some, None, Ok, Err, IfSome, refl, sym, ◌∙◌, subst, codes}
+use Rattle.std.proofs.Common.{◌≡◌, ◌≤◌, ℕ, Bool, true, false, cond, List, [], ◌∷◌, Option, Some, None, Ok, Err, IfSome, refl, sym, ◌∙◌, subst}
 use Rattle.std.specs.List.{AllByRecursion}
-use Rattle.std.specs.Str.{bytes_eq}
 use Rattle.asl_term.specs.declared.syntax.AgentText.{AgentText}
 use Rattle.asl_term.specs.declared.syntax.CallOf.{CallOf}
 use Rattle.asl_term.specs.declared.syntax.Expr.{Expr}
@@ -14,6 +13,9 @@ use Rattle.asl_term.specs.declared.syntax.Relation.{Relation}
 use Rattle.asl_term.specs.declared.syntax.Term.{Term}
 use Rattle.asl_term.specs.declared.syntax.Term.TheVariants as term
 use Rattle.asl_term.specs.Exprs.{is_ground_literal}
+use Rattle.asl_term_actions.specs.declared.action.Action.{Action}
+use Rattle.asl_term_actions.specs.declared.action.Action.TheVariants as action
+use Rattle.asl_term_actions.specs.Actions.{named}
 use Rattle.asl_unify.specs.declared.subst.Pair.{Pair}
 use Rattle.asl_unify.specs.Applied.{put_literal, merged_formula, within_formula}
 use Rattle.asl_unify.specs.Comparing.{Holding, Gives, Fails, Passes, holds}
@@ -34,7 +36,7 @@ use Rattle.asl_exec_circumstance.specs.declared.went.Went.TheVariants as went
 use Rattle.asl_exec.specs.Said.{print_text}
 use Rattle.asl_exec_circumstance.specs.Circumstance.{Surroundings, Circumstance, Made, made, goal_event, failed}
 use Rattle.asl_exec_circumstance.specs.Sought.{sought}
-use Rattle.asl_exec.specs.Exec.{act, waiting, achieve, spawn, test, tested, solved, waits, changed, add, replace, bound_by, delete, related, relation, is_deed, answered, searched, inner, of_formula, of_settled, of_head, exec}
+use Rattle.asl_exec.specs.Exec.{act, waiting, achieve, spawn, test, tested, solved, waits, changed, add, replace, bound_by, delete, related, relation, answered, searched, of_action, inner, of_formula, of_settled, of_head, exec}
 use Rattle.asl_lint_laws.specs.Served.{IsServed}
 use Rattle.asl_lint_laws.specs.Agendas.{IsOlder, FormulaServed, StackServed}
 use Rattle.asl_lint_laws.proofs.Bound.{stack_bound}
@@ -194,14 +196,14 @@ module _ (names : List (List ℕ)) (texts : List AgentText) (k : Surroundings) (
   print_served : (c : CallOf Expr) → Keeps (made p (without_head cur) (went.Say (print_text c.args)))
   print_served c = record { number = stay p.number; parts = parts; cur = stack_rest names texts k.plans p.number cur stack; went = tt }
 
+  action_served : (c : CallOf Expr) (o : Option Action) → CallServed names texts k.plans p.number c → Keeps (of_action k p cur c o)
+  action_served c (Some action.Print) s = print_served c
+  action_served c (Some action.Fail) s = failed_served names texts k around row.IaFail refl error.IaFailed p cur parts stack
+  action_served c (Some (action.Does d)) s = record { number = stay p.number; parts = parts; cur = stack; went = s }
+  action_served c other s = searched_served c s.below
+
   inner_served : (c : CallOf Expr) → CallServed names texts k.plans p.number c → Keeps (inner k p cur c)
-  inner_served c s =
-      either names texts k around p.number (bytes_eq c.name (codes "print")) (made p (without_head cur) (went.Say (print_text c.args))) _ (print_served c)
-      (either names texts k around p.number (bytes_eq c.name (codes "fail")) (failed k row.IaFail error.IaFailed p cur) _
-      (failed_served names texts k around row.IaFail refl error.IaFailed p cur parts stack)
-      (either names texts k around p.number (is_deed c.name) (made p cur (went.Outer c)) (searched k p cur c)
-      (record { number = stay p.number; parts = parts; cur = stack; went = s })
-      (searched_served c s.below)))
+  inner_served c s = action_served c (named c.name) s
 
   -- ---- formulas
 

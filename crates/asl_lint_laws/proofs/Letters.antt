@@ -17,6 +17,10 @@ use Rattle.asl_term.specs.declared.syntax.Term.TheViews.{out-Term}
 use Rattle.asl_term.specs.declared.syntax.Var.{Var}
 use Rattle.asl_term.specs.Variables.{variables}
 use Rattle.asl_term.proofs.Terms.{out_made}
+use Rattle.asl_term_actions.specs.declared.action.Action.{Action}
+use Rattle.asl_term_actions.specs.declared.action.Action.TheVariants as action
+use Rattle.asl_term_actions.specs.declared.action.Deed.TheVariants as deed
+use Rattle.asl_term_actions.specs.Actions as actions
 use Rattle.asl_unify.specs.Mapped.{literal_by}
 use Rattle.asl_unify.specs.Puts.{put}
 use Rattle.asl_unify.specs.Renamed.{with_vars}
@@ -246,19 +250,22 @@ module _ (names : List (List ℕ)) (texts : List AgentText) (written : Written t
   from : (j : ℕ) (u : Term) → term_at c.args j ≡ Some u → From linted.values linted.source.args j u
   from j u e = arg_from linted.values linted.source.args source.args c.args linted.args outs.is linted.merged j u e
 
-  named : (word : List ℕ) → bytes_eq c.name word ≡ true → bytes_eq linted.source.name word ≡ true
-  named word e = ap (λ z. bytes_eq z word) (sym (outs.name ∙ linted.name)) ∙ e
+  -- an action that takes as many arguments as the source has is what lint looks at
+  sent_holds : (a : Action) → actions.named c.name ≡ Some a → (actions.named linted.source.name ≡ Some a → actions.takes a (length linted.source.args) ≡ true)
+      → lint.sent_holds names texts linted.source.args (Some a) ≡ true
+  sent_holds a e takes =
+      let is : actions.named linted.source.name ≡ Some a = ap actions.named (sym (outs.name ∙ linted.name)) ∙ e in
+      let n = length linted.source.args in
+      let known : actions.known linted.source.name n ≡ Some a = ap (λ o. actions.if_takes o n) is ∙ ap (λ b. cond b (Some a) None) (takes is) in
+      sym (ap (lint.sent_holds names texts linted.source.args) known) ∙ linted.holds
 
   -- ---- `.send`
 
-  send_holds : bytes_eq c.name (codes "send") ≡ true
+  send_holds : actions.named c.name ≡ Some (action.Does deed.Send)
       → lint.send_holds names texts (lint.term_at linted.source.args 0) (lint.term_at linted.source.args 1) (lint.term_at linted.source.args 2) ≡ true
-  send_holds e =
-      sym (ap (λ b. if b then lint.send_holds names texts (lint.term_at linted.source.args 0) (lint.term_at linted.source.args 1) (lint.term_at linted.source.args 2)
-      else (if lint.is_broadcast linted.source then lint.broadcast_holds texts (lint.term_at linted.source.args 0) (lint.term_at linted.source.args 1) else true))
-      (linted.arity.send (named (codes "send") e))) ∙ linted.holds
+  send_holds e = sent_holds (action.Does deed.Send) e linted.arity.send
 
-  by_parts : bytes_eq c.name (codes "send") ≡ true → (to : ℕ) (w : Verb) (t : Term) → receiver names c.args ≡ Ok to → verb_at c.args 1 ≡ Some w → content_at w c.args 2 ≡ Ok t
+  by_parts : actions.named c.name ≡ Some (action.Does deed.Send) → (to : ℕ) (w : Verb) (t : Term) → receiver names c.args ≡ Ok to → verb_at c.args 1 ≡ Some w → content_at w c.args 2 ≡ Ok t
       → Sound texts (record { to = to; verb = w; content = t })
   by_parts e to w t r d g =
       let a = receiver_of names c.args to r in
@@ -270,7 +277,7 @@ module _ (names : List (List ℕ)) (texts : List AgentText) (written : Written t
         below = subst (λ z. TermsBelow 1 (z ∷ [])) k.is (content_below k.source);
       }
 
-  pub letter_sound : bytes_eq c.name (codes "send") ≡ true → (l : Letter) → letter names c.args ≡ Ok l → Sound texts l
+  pub letter_sound : actions.named c.name ≡ Some (action.Does deed.Send) → (l : Letter) → letter names c.args ≡ Ok l → Sound texts l
   letter_sound e l h = by_receiver (receiver names c.args) refl h where
     by_content : (to : ℕ) (w : Verb) → receiver names c.args ≡ Ok to → verb_at c.args 1 ≡ Some w → (o : Result Term Why) → content_at w c.args 2 ≡ o → with_content to w o ≡ Ok l
         → Sound texts l
@@ -288,18 +295,9 @@ module _ (names : List (List ℕ)) (texts : List AgentText) (written : Written t
 
   -- ---- `.broadcast`
 
-  is_no_send : bytes_eq c.name (codes "broadcast") ≡ true → lint.is_send linted.source ≡ false
-  is_no_send e =
-      let is : linted.source.name ≡ codes "broadcast" = (bytes_eq-Decides linted.source.name (codes "broadcast")).0 (named (codes "broadcast") e) in
-      ap (λ z. bytes_eq z (codes "send") && ((length linted.source.args == 3) || (length linted.source.args == 4))) is
-
-  broadcast_holds : bytes_eq c.name (codes "broadcast") ≡ true
+  broadcast_holds : actions.named c.name ≡ Some (action.Does deed.Broadcast)
       → lint.broadcast_holds texts (lint.term_at linted.source.args 0) (lint.term_at linted.source.args 1) ≡ true
-  broadcast_holds e =
-      sym (ap (λ b. if b then lint.send_holds names texts (lint.term_at linted.source.args 0) (lint.term_at linted.source.args 1) (lint.term_at linted.source.args 2)
-      else (if lint.is_broadcast linted.source then lint.broadcast_holds texts (lint.term_at linted.source.args 0) (lint.term_at linted.source.args 1) else true)) (is_no_send e)
-      ∙ ap (λ b. if b then lint.broadcast_holds texts (lint.term_at linted.source.args 0) (lint.term_at linted.source.args 1) else true)
-      (linted.arity.broadcast (named (codes "broadcast") e))) ∙ linted.holds
+  broadcast_holds e = sent_holds (action.Does deed.Broadcast) e linted.arity.broadcast
 
   to_each : (me : ℕ) → (me ≡ 0 → ⊥) → (w : Verb) (t : Term) → ((to : ℕ) → IsSent (libs_of texts) to w t) → TermsBelow 1 (t ∷ []) → (n : ℕ) (others : List (List ℕ))
       → AllByRecursion (MessageServed (libs_of texts)) (to_others me w t n others)
@@ -310,7 +308,7 @@ module _ (names : List (List ℕ)) (texts : List AgentText) (written : Written t
     go true later = later
     go false later = (record { from = mine; below = b; sent = s n }, later)
 
-  pub spread_sound : (peers : Peers) → (peers.me ≡ 0 → ⊥) → bytes_eq c.name (codes "broadcast") ≡ true → (ms : List Message) → spread peers c.args ≡ Ok ms
+  pub spread_sound : (peers : Peers) → (peers.me ≡ 0 → ⊥) → actions.named c.name ≡ Some (action.Does deed.Broadcast) → (ms : List Message) → spread peers c.args ≡ Ok ms
       → AllByRecursion (MessageServed (libs_of texts)) ms
   spread_sound peers mine e ms h = by_verb (verb_at c.args 0) refl h where
     by_content : (w : Verb) → verb_at c.args 0 ≡ Some w → (o : Result Term Why) → content_at w c.args 1 ≡ o → spread_content peers w o ≡ Ok ms

@@ -18,6 +18,10 @@ use Rattle.asl_term.specs.Same.{same_tree}
 use Rattle.asl_term.specs.Trees.{all, or_true, or_zero, is_ground, ground_step}
 use Rattle.asl_term.specs.Exprs.{map_arg}
 use Rattle.asl_term.proofs.Terms.{OfTail, by_cases, fold_num, fold_str, fold_var, fold_lit, fold_list, fold_op}
+use Rattle.asl_term_actions.specs.declared.action.Action.{Action}
+use Rattle.asl_term_actions.specs.declared.action.Action.TheVariants as action
+use Rattle.asl_term_actions.specs.declared.action.Collector.TheVariants as collector
+use Rattle.asl_term_actions.specs.Actions.{named}
 use Rattle.asl_unify.specs.declared.subst.Pair.{Pair}
 use Rattle.asl_unify.specs.inner.Costs.{total, weight, weight_step}
 use Rattle.asl_unify.specs.Compare.{ask, Question, Outcome, Unified, Failed, same_frame}
@@ -33,7 +37,7 @@ use Rattle.asl_unify.proofs.General.{and_true}
 use Rattle.asl_resolve.specs.declared.calls.Gather.{Gather}
 use Rattle.asl_resolve.specs.declared.calls.Gather.TheVariants.{Findall, Count}
 use Rattle.asl_resolve.specs.Base.{Base}
-use Rattle.asl_resolve.specs.Calls.{Collection, findall_of, count_of, gathered, listed, terms, unless_free}
+use Rattle.asl_resolve.specs.Calls.{Collection, findall_of, count_of, collected, gathered, listed, terms, unless_free}
 use Rattle.asl_resolve.specs.Solves.{Among, Becomes, One, Solution, substs}
 use Rattle.asl_resolve.specs.Solves as so
 use Rattle.asl_lint_laws.specs.Fresh.{late, terms_count, literal_count, arg_count, expr_count, pairs_count, ExprBelow, SubstBelow, FactBelow, SolvesBelow, SolutionsBelow}
@@ -188,11 +192,10 @@ module _ (f : Var → ℕ) where
       subst (λ (z : Collection Expr). GatherNone z.gather) same (omega (arith, a))
   count_none _ g a k = cc
 
-  collected_none : (p q : Bool) (args : List (ArgOf Expr)) (g : Collection Expr) → ArgsNone args
-      → cond p (findall_of args) (cond q (count_of args) None) ≡ Some g → GatherNone g.gather
-  collected_none true q args g a k = findall_none args g a k
-  collected_none false true args g a k = count_none args g a k
-  collected_none false false args g a k = cc
+  collected_none : (o : Option Action) (args : List (ArgOf Expr)) (g : Collection Expr) → ArgsNone args → collected args o ≡ Some g → GatherNone g.gather
+  collected_none (Some (action.Collects collector.Findall)) args g a k = findall_none args g a k
+  collected_none (Some (action.Collects collector.Count)) args g a k = count_none args g a k
+  collected_none other args g a k = cc
 
   terms_none : (args : List (ArgOf Expr)) → ArgsNone args → terms_count f (terms args) ≡ 0
   terms_none [] a = refl
@@ -242,7 +245,7 @@ module _ (b : Base) (facts : AllByRecursion FactBelow b.facts) (solves : SolvesB
   below {s = s} {t = t} {n = n} (so.action c ts q r k) e d =
       (omega arith, solves n c.name (terms c.args) s t ts (terms_none (late n) c.args (sym (count_inner (late n) c) ∙ e)) d r k)
   below {s = s} {t = t} {n = n} (so.collection c g xs q a k) e d =
-      (omega arith, gathered_none (late n) g.gather s t (substs xs) (collected_none (late n) _ _ c.args g (sym (count_inner (late n) c) ∙ e) q) d k)
+      (omega arith, gathered_none (late n) g.gather s t (substs xs) (collected_none (late n) (named c.name) c.args g (sym (count_inner (late n) c) ∙ e) q) d k)
   below (so.negation a) e d = (omega arith, d)
   below {s = s} {t = t} {n = n} {m = m} (so.both {a = a} {c = c} u k o p) e d =
       let sums = count_and (late n) a c in

@@ -12,6 +12,11 @@ use Rattle.asl_term.specs.declared.syntax.Term.TheOpen as layer
 use Rattle.asl_term.specs.Layers.{made}
 use Rattle.asl_term.specs.Trees.{all}
 use Rattle.asl_term.proofs.Terms.{fold_num, fold_str, fold_lit, fold_list, out_made}
+use Rattle.asl_term_actions.specs.declared.action.Action.{Action}
+use Rattle.asl_term_actions.specs.declared.action.Action.TheVariants as action
+use Rattle.asl_term_actions.specs.declared.action.Look.TheVariants as look
+use Rattle.asl_term_actions.specs.declared.action.Test.{Test}
+use Rattle.asl_term_actions.specs.Actions.{named}
 use Rattle.asl_unify.specs.declared.subst.Pair.{Pair}
 use Rattle.asl_unify.specs.inner.Costs.{weight, weight_step}
 use Rattle.asl_unify.specs.Compare.{ask, Outcome, Unified, Failed}
@@ -23,15 +28,12 @@ use Rattle.asl_unify.specs.Settling.{Settled, each, settle, number_of}
 use Rattle.asl_unify.proofs.Views.{by_layers}
 use Rattle.asl_resolve.specs.declared.actions.Inner.TheVariants.{Sols, TermLimit}
 use Rattle.asl_resolve.specs.Solves.{Among}
-use Rattle.asl_stdlib.specs.declared.named.Action.{Action}
-use Rattle.asl_stdlib.specs.declared.named.Action.TheVariants as action
-use Rattle.asl_stdlib.specs.declared.kinds.Test.{Test}
 use Rattle.asl_stdlib.specs.declared.numbers.Extreme.{Extreme}
 use Rattle.asl_stdlib.specs.declared.numbers.Extreme.TheVariants.{Least, Greatest}
 use Rattle.asl_stdlib.specs.Kinds.{items_in, items_of, is_list, unless_open}
 use Rattle.asl_stdlib.specs.Findings.{Finding, Holds, Gives, nothing, gives, each_met, solutions}
 use Rattle.asl_stdlib.specs.Rows.{list_term, atom_term, test_row, my_name_row, member_row, length_of, length_row, item_at, nth_row, reverse_row, best_of, best_row, plain_text, joined, gives_joined, concat_row}
-use Rattle.asl_stdlib.specs.Solving.{named, found_by, on_settled, solve}
+use Rattle.asl_stdlib.specs.Solving.{found_by, on_settled, solve}
 use Rattle.asl_lint_laws.specs.Fresh.{late, terms_count, pairs_count, StandardBelow}
 use Rattle.asl_lint_laws.proofs.Counts.{applied_none}
 use Rattle.asl_lint_laws.proofs.FreshSettles.{terms_stay}
@@ -179,16 +181,16 @@ module _ (f : Var → ℕ) where
   name_none me _ e = tt
 
   found_none : (me : List ℕ) (o : Option Action) (args : List Term) → terms_count f args ≡ 0 → FindingNone (found_by me o args)
-  found_none me None args e = tt
-  found_none me (Some action.Member) args e = member_none args e
-  found_none me (Some action.Length) args e = length_none args e
-  found_none me (Some action.Nth) args e = nth_none args e
-  found_none me (Some action.Concat) args e = concat_none args e
-  found_none me (Some action.Max) args e = best_none Greatest args e
-  found_none me (Some action.Min) args e = best_none Least args e
-  found_none me (Some action.Reverse) args e = reversed_none args e
-  found_none me (Some action.MyName) args e = name_none me args e
-  found_none me (Some (action.Passes k)) args e = test_none k args
+  found_none me (Some (action.Looks look.Member)) args e = member_none args e
+  found_none me (Some (action.Looks look.Length)) args e = length_none args e
+  found_none me (Some (action.Looks look.Nth)) args e = nth_none args e
+  found_none me (Some (action.Looks look.Concat)) args e = concat_none args e
+  found_none me (Some (action.Looks look.Max)) args e = best_none Greatest args e
+  found_none me (Some (action.Looks look.Min)) args e = best_none Least args e
+  found_none me (Some (action.Looks look.Reverse)) args e = reversed_none args e
+  found_none me (Some (action.Looks look.MyName)) args e = name_none me args e
+  found_none me (Some (action.Looks (look.Passes k))) args e = test_none k args
+  found_none me other args e = tt
 
   -- ---- its solutions
 

@@ -48,7 +48,8 @@ pub record RanServed (names : List (List ℕ)) (texts : List AgentText) (libs : 
 
 abbrev pub CycleKeeps : Type 0
 CycleKeeps =
-    (texts : List AgentText) (libs : List (List OwnedPlan)) (k : Surroundings) (peers : Peers) (p : Circumstance) (asks : ℕ) (kept : Option Feedback) (i : Input) →
+    (texts : List AgentText) (libs : List (List OwnedPlan)) →
+    (k : Surroundings) (peers : Peers) (p : Circumstance) (asks : ℕ) (kept : Option Feedback) (i : Input) →
     AreOpened texts libs → (peers.me ≡ 0 → ⊥) → slice_get libs (peers.me - 1) ≡ Some k.plans → AreOwn k.plans → AroundServed peers.names texts k →
     PartsServed peers.names texts k.plans p → InputServed libs peers.me i →
     RanServed peers.names texts libs k.plans (cycle k peers p asks kept i)

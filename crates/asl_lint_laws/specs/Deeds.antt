@@ -40,7 +40,8 @@ pub record DidServed (names : List (List ℕ)) (texts : List AgentText) (libs : 
 
 abbrev pub DeedKeeps : Type 0
 DeedKeeps =
-    (texts : List AgentText) (libs : List (List OwnedPlan)) (k : Surroundings) (peers : Peers) (asks : ℕ) (p : Circumstance) (cur : List Means) (c : CallOf Expr) →
+    (texts : List AgentText) (libs : List (List OwnedPlan)) →
+    (k : Surroundings) (peers : Peers) (asks : ℕ) (p : Circumstance) (cur : List Means) (c : CallOf Expr) →
     AreOpened texts libs → (peers.me ≡ 0 → ⊥) → AroundServed peers.names texts k → PartsServed peers.names texts k.plans p →
     StackServed peers.names texts k.plans p.number cur → CallServed peers.names texts k.plans p.number c →
     DidServed peers.names texts libs k.plans p.number (act_inside k peers asks p cur c)

@@ -3,7 +3,7 @@
 ghost use Rattle.std.specs.Prelude.{◌≡◌, ◌++◌, [], ◌∷◌, length, Some, IfOk, OnOk};
 ghost use Rattle.asl_parser_tree.specs.Holding.{limited};
 ghost use Rattle.asl_parser_expr.specs.Reading as spec;
-ghost use Rattle.asl_parser_tree.specs.Leaves.{Gives, view_front};
+ghost use Rattle.asl_parser_tree.specs.Leaves.{Gives, token_by, view_front};
 ghost use Rattle.asl_parser_expr.specs.Reading.{inside};
 ghost use Rattle.asl_parser_tree.specs.declared.leaves.OperatorLevel.TheVariants as levels;
 
@@ -23,10 +23,10 @@ use asl_term::sequence::{Seq, Starved};
 use asl_term::syntax::{ListingOf, RelOp, Text};
 use std::alloc::Global;
 
-fn keep(all: &mut Vec<Held>, m: Held) -> Result<(), Starved>
+fn keep(all: &mut Vec<Held>, m: Boxed<Held>) -> Result<(), Starved>
     ensures { OnOk result (all.new.items ≡ all.old.items ++ m ∷ []) }
 {
-    match all.push(m) {
+    match all.push(m.into_inner()) {
         Ok(()) => Ok(()),
         Err(_) => Err(Starved),
     }
@@ -37,7 +37,7 @@ fn whole<'a>(
     alloc: Global,
     making: Operands<'_>,
     rest: &'a [Lexeme],
-) -> Result<Option<(Held, &'a [Lexeme])>, Starved>
+) -> Result<Option<(Boxed<Held>, &'a [Lexeme])>, Starved>
     ensures { Gives (λ x. (x.0, x.1.now)) result (spec.whole limited making.entry rest.now) }
 {
     match made(alloc, making)? {
@@ -52,7 +52,7 @@ fn operand(
     level: OperatorLevel,
     tokens: &[Lexeme],
     depth: u32,
-) -> Result<Option<(Held, &[Lexeme])>, Starved>
+) -> Result<Option<(Boxed<Held>, &[Lexeme])>, Starved>
     ensures { Gives (λ x. (x.0, x.1.now)) result (spec.operand_by limited (inside limited depth) level tokens.now) }
 {
     match level {
@@ -66,10 +66,10 @@ fn operand(
 // The left operand, joined to the right one where there is one.
 fn join_to<'a>(
     alloc: Global,
-    left: Held,
+    left: Boxed<Held>,
     joint: Joint,
-    right: Option<(Held, &'a [Lexeme])>,
-) -> Result<Option<(Held, &'a [Lexeme])>, Starved>
+    right: Option<(Boxed<Held>, &'a [Lexeme])>,
+) -> Result<Option<(Boxed<Held>, &'a [Lexeme])>, Starved>
     ensures { Gives (λ x. (x.0, x.1.now)) result (spec.join_to limited left joint (view_front right.entry)) }
 {
     match right {
@@ -84,11 +84,11 @@ fn join_to<'a>(
 fn step<'a>(
     alloc: Global,
     level: OperatorLevel,
-    left: Held,
+    left: Boxed<Held>,
     joint: Joint,
     tokens: &'a [Lexeme],
     depth: u32,
-) -> Result<Option<(Held, &'a [Lexeme])>, Starved>
+) -> Result<Option<(Boxed<Held>, &'a [Lexeme])>, Starved>
     ensures { Gives (λ x. (x.0, x.1.now)) result (spec.step_by limited (spec.operand_by limited (inside limited depth) level) left (joint, tokens.now)) }
 {
     match operand(alloc, level, tokens, depth) {
@@ -104,7 +104,7 @@ fn chain(
     level: OperatorLevel,
     tokens: &[Lexeme],
     depth: u32,
-) -> Result<Option<(Held, &[Lexeme])>, Starved>
+) -> Result<Option<(Boxed<Held>, &[Lexeme])>, Starved>
     ensures { Gives (λ x. (x.0, x.1.now)) result (spec.level_by limited (inside limited depth) level tokens.now) }
 {
     let Some((mut left, mut rest)) = operand(alloc, level, tokens, depth)? else {
@@ -126,7 +126,7 @@ fn base(
     before: Prefix,
     tokens: &[Lexeme],
     depth: u32,
-) -> Result<Option<(Held, &[Lexeme])>, Starved>
+) -> Result<Option<(Boxed<Held>, &[Lexeme])>, Starved>
     ensures { Gives (λ x. (x.0, x.1.now)) result (spec.base_by limited (inside limited depth) before tokens.now) }
 {
     match before {
@@ -141,9 +141,9 @@ fn wraps<'a>(
     alloc: Global,
     before: Prefix,
     count: usize,
-    m: Held,
+    m: Boxed<Held>,
     rest: &'a [Lexeme],
-) -> Result<Option<(Held, &'a [Lexeme])>, Starved>
+) -> Result<Option<(Boxed<Held>, &'a [Lexeme])>, Starved>
     ensures { Gives (λ x. (x.0, x.1.now)) result (spec.wrapped limited before count (Some (m, rest.now))) }
 {
     let mut whole = m;
@@ -163,7 +163,7 @@ fn prefix(
     before: Prefix,
     tokens: &[Lexeme],
     depth: u32,
-) -> Result<Option<(Held, &[Lexeme])>, Starved>
+) -> Result<Option<(Boxed<Held>, &[Lexeme])>, Starved>
     ensures { Gives (λ x. (x.0, x.1.now)) result (spec.prefix_by limited before (spec.base_by limited (inside limited depth) before) tokens.now) }
 {
     let mut count: usize = 0;
@@ -181,10 +181,10 @@ fn prefix(
 // The left side, related to the right one where there is one.
 fn relate_to<'a>(
     alloc: Global,
-    left: Held,
+    left: Boxed<Held>,
     op: RelOp,
-    right: Option<(Held, &'a [Lexeme])>,
-) -> Result<Option<(Held, &'a [Lexeme])>, Starved>
+    right: Option<(Boxed<Held>, &'a [Lexeme])>,
+) -> Result<Option<(Boxed<Held>, &'a [Lexeme])>, Starved>
     ensures { Gives (λ x. (x.0, x.1.now)) result (spec.relate_to limited left op (view_front right.entry)) }
 {
     match right {
@@ -198,11 +198,11 @@ fn relate_to<'a>(
 #[tactic(auto, unfolding(crate::specs::Reading::compared_by))]
 fn side<'a>(
     alloc: Global,
-    left: Held,
+    left: Boxed<Held>,
     op: RelOp,
     tokens: &'a [Lexeme],
     depth: u32,
-) -> Result<Option<(Held, &'a [Lexeme])>, Starved>
+) -> Result<Option<(Boxed<Held>, &'a [Lexeme])>, Starved>
     ensures { Gives (λ x. (x.0, x.1.now)) result (spec.compared_by limited (spec.sum_by limited (inside limited depth)) left (op, tokens.now)) }
 {
     match chain(alloc, OperatorLevel::Sum, tokens, depth) {
@@ -217,7 +217,7 @@ fn relation(
     alloc: Global,
     tokens: &[Lexeme],
     depth: u32,
-) -> Result<Option<(Held, &[Lexeme])>, Starved>
+) -> Result<Option<(Boxed<Held>, &[Lexeme])>, Starved>
     ensures { Gives (λ x. (x.0, x.1.now)) result (spec.relation_by limited (inside limited depth) tokens.now) }
 {
     let Some((left, rest)) = chain(alloc, OperatorLevel::Sum, tokens, depth)? else {
@@ -229,13 +229,24 @@ fn relation(
     }
 }
 
+// What is a token or two.
+#[inline(never)]
+fn leaf(alloc: Global, tokens: &[Lexeme]) -> Result<Option<(Boxed<Held>, &[Lexeme])>, Starved>
+    ensures { Gives (λ x. (x.0, x.1.now)) result (token_by tokens.now) }
+{
+    match token(alloc, tokens)? {
+        Some((m, rest)) => Ok(Some((Boxed::new(alloc, m)?, rest))),
+        None => Ok(None),
+    }
+}
+
 #[cycle(reader)]
 #[tactic(auto, unfolding(crate::specs::Reading::primary_by))]
 fn primary(
     alloc: Global,
     tokens: &[Lexeme],
     depth: u32,
-) -> Result<Option<(Held, &[Lexeme])>, Starved>
+) -> Result<Option<(Boxed<Held>, &[Lexeme])>, Starved>
     ensures { Gives (λ x. (x.0, x.1.now)) result (spec.primary_by limited (inside limited depth) tokens.now) }
 {
     match start_of(tokens) {
@@ -253,7 +264,7 @@ fn primary(
             whole(alloc, Operands::Literal(l), rest)
         }
         Start::Dotted => call(alloc, tokens, depth),
-        Start::Other => token(alloc, tokens),
+        Start::Other => leaf(alloc, tokens),
     }
 }
 
@@ -263,7 +274,7 @@ fn bracketed(
     alloc: Global,
     tokens: &[Lexeme],
     depth: u32,
-) -> Result<Option<(Held, &[Lexeme])>, Starved>
+) -> Result<Option<(Boxed<Held>, &[Lexeme])>, Starved>
     ensures { Gives (λ x. (x.0, x.1.now)) result (spec.bracketed_by (inside limited depth) tokens.now) }
 {
     let Some(rest) = after_open(BracketShape::Round, tokens) else {
@@ -408,7 +419,11 @@ pub fn literal(
 
 #[cycle(reader)]
 #[tactic(auto, unfolding(crate::specs::Reading::call_by))]
-fn call(alloc: Global, tokens: &[Lexeme], depth: u32) -> Result<Option<(Held, &[Lexeme])>, Starved>
+fn call(
+    alloc: Global,
+    tokens: &[Lexeme],
+    depth: u32,
+) -> Result<Option<(Boxed<Held>, &[Lexeme])>, Starved>
     ensures { Gives (λ x. (x.0, x.1.now)) result (spec.call_by limited (inside limited depth) tokens.now) }
 {
     let Some((name, rest)) = inner_at(tokens) else {
@@ -525,5 +540,8 @@ pub fn expression(
 ) -> Result<Option<(Held, &[Lexeme])>, Starved>
     ensures { Gives (λ x. (x.0, x.1.now)) result (spec.level_by limited (inside limited depth) levels.Or tokens.now) }
 {
-    chain(alloc, OperatorLevel::Or, tokens, depth)
+    match chain(alloc, OperatorLevel::Or, tokens, depth)? {
+        Some((m, rest)) => Ok(Some((m.into_inner(), rest))),
+        None => Ok(None),
+    }
 }

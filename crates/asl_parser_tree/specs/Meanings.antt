@@ -1,7 +1,6 @@
 -- What expressions mean, as terms and as formulas.
-use Rattle.std.specs.Prelude.{ℕ, suc, pos, Bool, true, false, ◌&&◌, ◌||◌, ◌==◌, nat_le, List, [], ◌∷◌, length, Option, Some, None, codes, if◌then◌else◌}
-use Rattle.std.specs.Option.{option_map}
-use Rattle.std.specs.Str.{bytes_eq}
+use Rattle.std.specs.Prelude.{ℕ, suc, pos, Bool, true, false, not, ◌||◌, ◌==◌, List, [], ◌∷◌, length, Option, Some, None, codes, if◌then◌else◌}
+use Rattle.std.specs.Option.{option_map, option_map_or}
 use Rattle.asl_term.specs.declared.syntax.Op.{Op}
 use Rattle.asl_term.specs.declared.syntax.Op.TheVariants.{Sub}
 use Rattle.asl_term.specs.declared.syntax.RelOp.{RelOp}
@@ -12,6 +11,10 @@ use Rattle.asl_term.specs.declared.syntax.Term.{Term}
 use Rattle.asl_term.specs.declared.syntax.Term.TheVariants as term
 use Rattle.asl_term.specs.declared.syntax.Expr.{Expr}
 use Rattle.asl_term.specs.declared.syntax.Expr.TheVariants as expr
+use Rattle.asl_term_actions.specs.declared.action.Action.{Action}
+use Rattle.asl_term_actions.specs.declared.action.Action.TheVariants as action
+use Rattle.asl_term_actions.specs.declared.action.Collector.TheVariants as collector
+use Rattle.asl_term_actions.specs.Actions.{named, known, stands_in_formula}
 use Rattle.asl_parser_tree.specs.declared.meaning.Meaning.{Meaning}
 use Rattle.asl_parser_tree.specs.declared.meaning.Meaning.TheVariants as meaning
 use Rattle.asl_parser_tree.specs.declared.meaning.Joint.{Joint}
@@ -36,39 +39,22 @@ truth b = meaning.Truth b (atom (truth_name b))
 
 -- ---- calls of internal actions
 
--- so many arguments, or more
-abbrev pub is_count : List ℕ → ℕ → List ℕ → ℕ → Bool
-is_count known n name count = bytes_eq name known && count == n
-
-abbrev pub is_from : List ℕ → ℕ → List ℕ → ℕ → Bool
-is_from known n name count = bytes_eq name known && nat_le n count
-
--- the internal actions that stand in a formula, with their numbers of arguments
+-- there is one that stands in a formula, and takes so many arguments
 unfoldable pub is_pure : List ℕ → ℕ → Bool
-is_pure name count =
-    is_count (codes "findall") 3 name count || is_count (codes "count") 2 name count || is_count (codes "member") 2 name count
-    || is_count (codes "length") 2 name count || is_count (codes "nth") 3 name count || is_from (codes "concat") 3 name count
-    || is_count (codes "max") 2 name count || is_count (codes "min") 2 name count || is_count (codes "reverse") 2 name count
-    || is_count (codes "ground") 1 name count || is_count (codes "my_name") 1 name count || is_count (codes "number") 1 name count
-    || is_count (codes "string") 1 name count || is_count (codes "list") 1 name count || is_count (codes "atom") 1 name count
-    || is_count (codes "literal") 1 name count
+is_pure name count = option_map_or stands_in_formula (known name count) false
 
--- those that treat goals
-unfoldable pub is_on_goals : List ℕ → ℕ → Bool
-is_on_goals name count =
-    is_count (codes "drop_intention") 1 name count || is_count (codes "drop_desire") 1 name count || is_count (codes "succeed_goal") 1 name count
-    || is_count (codes "fail_goal") 1 name count || is_count (codes "intend") 1 name count || is_count (codes "desire") 1 name count
-
--- the internal actions that stand in the body of a plan alone
+-- there is one that stands in the body of a plan alone, and takes so many arguments
 unfoldable pub is_deed : List ℕ → ℕ → Bool
-is_deed name count =
-    is_on_goals name count || is_from (codes "print") 0 name count || is_count (codes "fail") 0 name count || is_count (codes "abolish") 1 name count
-    || is_count (codes "send") 3 name count || is_count (codes "send") 4 name count || is_count (codes "broadcast") 2 name count
-    || is_count (codes "stopMAS") 0 name count
+is_deed name count = option_map_or (λ a. not (stands_in_formula a)) (known name count) false
+
+abbrev pub formula_at : Option Action → ℕ → Bool
+formula_at (Some (action.Collects collector.Findall)) place = place == 1
+formula_at (Some (action.Collects collector.Count)) place = place == 0
+formula_at other place = false
 
 -- whether the argument at a place, counted from 0, is a formula: the second of `findall` and the first of `count`
 unfoldable pub wants_formula : List ℕ → ℕ → Bool
-wants_formula name place = is_count (codes "findall") 1 name place || is_count (codes "count") 0 name place
+wants_formula name place = formula_at (named name) place
 
 -- ---- terms and formulas
 

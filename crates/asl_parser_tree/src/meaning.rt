@@ -8,6 +8,8 @@ use asl_term::boxed::Boxed;
 use asl_term::copying::text_of;
 use asl_term::sequence::{Seq, Starved};
 use asl_term::syntax::{ArithOf, Call, Expr, Literal, LiteralOf, Op, RelOp, Relation, Term, Text};
+use asl_term_actions::action::{Action, Collector, stands_in_formula};
+use asl_term_actions::named::{known, named};
 use std::alloc::Global;
 
 /// What an expression means. The large ones are boxed, since the reader's frames hold many of them at each level of brackets.
@@ -40,52 +42,16 @@ pub enum Prefix {
     Minus,
 }
 
-fn is_count(known: &[u8], n: u64, name: &Text, count: u64) -> bool
-    ensures { result ≡ spec.is_count known.now n name.now count }
-{
-    name.as_slice() == known && count == n
-}
-
-fn is_from(known: &[u8], n: u64, name: &Text, count: u64) -> bool
-    ensures { result ≡ spec.is_from known.now n name.now count }
-{
-    name.as_slice() == known && n <= count
-}
-
 /// Whether there is a pure internal action of this name with so many arguments: one that may stand
 /// in contexts, rules and bodies.
 #[tactic(auto, unfolding(crate::specs::Meanings::is_pure))]
 pub fn is_pure(name: &Text, count: u64) -> bool
     ensures { result ≡ spec.is_pure name.now count }
 {
-    is_count(b"findall".as_slice(), 3, name, count)
-        || is_count(b"count".as_slice(), 2, name, count)
-        || is_count(b"member".as_slice(), 2, name, count)
-        || is_count(b"length".as_slice(), 2, name, count)
-        || is_count(b"nth".as_slice(), 3, name, count)
-        || is_from(b"concat".as_slice(), 3, name, count)
-        || is_count(b"max".as_slice(), 2, name, count)
-        || is_count(b"min".as_slice(), 2, name, count)
-        || is_count(b"reverse".as_slice(), 2, name, count)
-        || is_count(b"ground".as_slice(), 1, name, count)
-        || is_count(b"my_name".as_slice(), 1, name, count)
-        || is_count(b"number".as_slice(), 1, name, count)
-        || is_count(b"string".as_slice(), 1, name, count)
-        || is_count(b"list".as_slice(), 1, name, count)
-        || is_count(b"atom".as_slice(), 1, name, count)
-        || is_count(b"literal".as_slice(), 1, name, count)
-}
-
-#[tactic(auto, unfolding(crate::specs::Meanings::is_on_goals))]
-fn is_on_goals(name: &Text, count: u64) -> bool
-    ensures { result ≡ spec.is_on_goals name.now count }
-{
-    is_count(b"drop_intention".as_slice(), 1, name, count)
-        || is_count(b"drop_desire".as_slice(), 1, name, count)
-        || is_count(b"succeed_goal".as_slice(), 1, name, count)
-        || is_count(b"fail_goal".as_slice(), 1, name, count)
-        || is_count(b"intend".as_slice(), 1, name, count)
-        || is_count(b"desire".as_slice(), 1, name, count)
+    match known(name, count) {
+        Some(action) => stands_in_formula(action),
+        None => false,
+    }
 }
 
 /// Whether there is an internal action of this name with so many arguments that is an item
@@ -94,14 +60,10 @@ fn is_on_goals(name: &Text, count: u64) -> bool
 pub fn is_deed(name: &Text, count: u64) -> bool
     ensures { result ≡ spec.is_deed name.now count }
 {
-    is_on_goals(name, count)
-        || is_from(b"print".as_slice(), 0, name, count)
-        || is_count(b"fail".as_slice(), 0, name, count)
-        || is_count(b"abolish".as_slice(), 1, name, count)
-        || is_count(b"send".as_slice(), 3, name, count)
-        || is_count(b"send".as_slice(), 4, name, count)
-        || is_count(b"broadcast".as_slice(), 2, name, count)
-        || is_count(b"stopMAS".as_slice(), 0, name, count)
+    match known(name, count) {
+        Some(action) => !stands_in_formula(action),
+        None => false,
+    }
 }
 
 /// Whether an internal action takes a formula at this place of its arguments, counted from 0. Only
@@ -110,7 +72,11 @@ pub fn is_deed(name: &Text, count: u64) -> bool
 pub fn wants_formula(name: &Text, place: u64) -> bool
     ensures { result ≡ spec.wants_formula name.now place }
 {
-    is_count(b"findall".as_slice(), 1, name, place) || is_count(b"count".as_slice(), 0, name, place)
+    match named(name) {
+        Some(Action::Collects(Collector::Findall)) => place == 1,
+        Some(Action::Collects(Collector::Count)) => place == 0,
+        Some(Action::Looks(_) | Action::Print | Action::Fail | Action::Does(_)) | None => false,
+    }
 }
 
 /// A positive literal that is a name alone. The name moves into it, and no memory is taken.

@@ -1,10 +1,15 @@
 -- An action other than `.member` has at most one solution.
-use Rattle.std.proofs.Common.{◌≡◌, ◌≤◌, ℕ, Bool, true, false, List, [], ◌∷◌, ◌++◌, map, length, cond, codes, Option, Some, None, Ok, Err, ltb, ◌-◌, take, sym, subst, arith}
+use Rattle.std.proofs.Common.{◌≡◌, ◌≤◌, ℕ, Bool, true, false, List, [], ◌∷◌, ◌++◌, map, length, cond, codes, Option, Some, None, Ok, Err, ltb, ◌-◌, take, refl, sym, subst, arith}
 use Rattle.std.specs.List.{slice_get}
-use Rattle.std.specs.Option.{option_map}
 use Rattle.std.specs.Str.{bytes_eq}
 use Rattle.asl_term.specs.Trees.{all}
 use Rattle.asl_term.specs.declared.syntax.Term.{Term}
+use Rattle.asl_term_actions.specs.declared.action.Action.{Action}
+use Rattle.asl_term_actions.specs.declared.action.Action.TheVariants as action
+use Rattle.asl_term_actions.specs.declared.action.Look.TheVariants as look
+use Rattle.asl_term_actions.specs.declared.action.Test.{Test}
+use Rattle.asl_term_actions.specs.Actions.{named}
+use Rattle.asl_term_actions.proofs.Names.{not_member}
 use Rattle.asl_unify.specs.declared.subst.Pair.{Pair}
 use Rattle.asl_unify.specs.Compare.{ask, Outcome, Unified, Failed}
 use Rattle.asl_unify.specs.Limits.{within}
@@ -13,14 +18,11 @@ use Rattle.asl_unify.specs.Puts.{apply}
 use Rattle.asl_unify.specs.Settling.{Settled, each, settle}
 use Rattle.asl_unify.specs.Unified.{unified}
 use Rattle.asl_resolve.specs.declared.actions.Inner.TheVariants.{Sols, TermLimit}
-use Rattle.asl_stdlib.specs.declared.kinds.Test.{Test}
-use Rattle.asl_stdlib.specs.declared.named.Action.{Action}
-use Rattle.asl_stdlib.specs.declared.named.Action.TheVariants as action
 use Rattle.asl_stdlib.specs.declared.numbers.Extreme.{Extreme}
 use Rattle.asl_stdlib.specs.declared.numbers.Extreme.TheVariants.{Least, Greatest}
 use Rattle.asl_stdlib.specs.Findings.{Finding, Holds, Gives, nothing, gives, solutions}
 use Rattle.asl_stdlib.specs.Rows as row
-use Rattle.asl_stdlib.specs.Solving.{test_named, named, found_by, on_settled, solve}
+use Rattle.asl_stdlib.specs.Solving.{found_by, on_settled, solve}
 
 -- at most one result
 abbrev One : Finding → Type 0
@@ -85,38 +87,21 @@ joined_one false None given = tt
 concat_one : (args : List Term) → One (row.concat_row args)
 concat_one args = joined_one (ltb (length args) 3) (slice_get args (length args - 1)) (take (length args - 1) args)
 
--- what an action of this kind finds
+-- what an action finds
 abbrev Single : Option Action → Type 0
 Single o = (me : List ℕ) (args : List Term) → One (found_by me o args)
 
-either : (b : Bool) (x y : Option Action) → Single x → Single y → Single (cond b x y)
-either true x y h g = h
-either false x y h g = g
-
-tested : (o : Option Test) → Single (option_map action.Passes o)
-tested (Some k) me args = test_one k args
-tested None me args = tt
-
--- the actions of the other names
-abbrev rest : List ℕ → Option Action
-rest name =
-    cond (bytes_eq name (codes "length")) (Some action.Length)
-    (cond (bytes_eq name (codes "nth")) (Some action.Nth)
-    (cond (bytes_eq name (codes "concat")) (Some action.Concat)
-    (cond (bytes_eq name (codes "max")) (Some action.Max)
-    (cond (bytes_eq name (codes "min")) (Some action.Min)
-    (cond (bytes_eq name (codes "reverse")) (Some action.Reverse)
-    (cond (bytes_eq name (codes "my_name")) (Some action.MyName) (option_map action.Passes (test_named name))))))))
-
-others : (name : List ℕ) → bytes_eq name (codes "member") ≡ false → Single (named name)
-others name h = subst (λ b. Single (cond b (Some action.Member) (rest name))) (sym h) (
-    either (bytes_eq name (codes "length")) (Some action.Length) _ (λ me args. length_one args) (
-    either (bytes_eq name (codes "nth")) (Some action.Nth) _ (λ me args. nth_one args) (
-    either (bytes_eq name (codes "concat")) (Some action.Concat) _ (λ me args. concat_one args) (
-    either (bytes_eq name (codes "max")) (Some action.Max) _ (λ me args. best_one Greatest args) (
-    either (bytes_eq name (codes "min")) (Some action.Min) _ (λ me args. best_one Least args) (
-    either (bytes_eq name (codes "reverse")) (Some action.Reverse) _ (λ me args. reverse_one args) (
-    either (bytes_eq name (codes "my_name")) (Some action.MyName) _ (λ me args. name_one me args) (tested (test_named name)))))))))
+singles : (o : Option Action) → (o ≡ Some (action.Looks look.Member) → ⊥) → Single o
+singles (Some (action.Looks look.Member)) h = absurd (h refl)
+singles (Some (action.Looks look.Length)) h = λ me args. length_one args
+singles (Some (action.Looks look.Nth)) h = λ me args. nth_one args
+singles (Some (action.Looks look.Concat)) h = λ me args. concat_one args
+singles (Some (action.Looks look.Max)) h = λ me args. best_one Greatest args
+singles (Some (action.Looks look.Min)) h = λ me args. best_one Least args
+singles (Some (action.Looks look.Reverse)) h = λ me args. reverse_one args
+singles (Some (action.Looks look.MyName)) h = λ me args. name_one me args
+singles (Some (action.Looks (look.Passes k))) h = λ me args. test_one k args
+singles other h = λ me args. tt
 
 settled_one : (inside : Bool) (me name : List ℕ) (s : List Pair) (ts : List (List Pair)) (r : Settled (List Term)) → Single (named name)
     → cond inside (on_settled me name s r) TermLimit ≡ Sols ts → length ts ≤ 1
@@ -130,4 +115,4 @@ pub solve_one : (me name : List ℕ) (args : List Term) (s : List Pair) (ts : Li
     → solve me name args s ≡ Sols ts → length ts ≤ 1
 solve_one me name args s ts h e =
     let put = map (apply s) args in
-    settled_one (all (map within put)) me name s ts (each (map settle put)) (others name h) e
+    settled_one (all (map within put)) me name s ts (each (map settle put)) (singles (named name) (not_member name h)) e

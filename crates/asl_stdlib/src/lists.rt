@@ -7,10 +7,11 @@ ghost use Rattle.asl_stdlib.specs.Findings.{solutions};
 ghost use Rattle.asl_stdlib.specs.Rows as spec;
 
 use crate::findings::{hold, meet, meet_each, meet_made};
-use crate::kinds::{Test, items_of, passes, string_of};
+use crate::kinds::{items_of, passes, string_of};
 use asl_term::copying::{copy_all, copy_text};
 use asl_term::sequence::{Seq, Starved};
 use asl_term::syntax::{ListingOf, LiteralOf, Term, Terms, Text};
+use asl_term_actions::action::Test;
 use asl_unify::settle::number_of;
 use asl_unify::subst::{PairLists, Subst};
 use std::alloc::Global;

@@ -2,6 +2,7 @@
 
 ghost use Rattle.std.specs.Prelude.{◌≡◌, [], ◌∷◌, ◌++◌, IfOk, IfErr, OnOk, Ok, map, true};
 ghost use Rattle.asl_term.specs.Trees.{all};
+ghost use Rattle.asl_term_actions.specs.Actions as actions;
 ghost use Rattle.asl_unify.specs.Limits.{Passes, within};
 ghost use Rattle.asl_unify.specs.Puts.{apply};
 ghost use Rattle.asl_unify.specs.Settling.{Faults, each, settle};
@@ -12,12 +13,13 @@ ghost use Rattle.asl_stdlib.specs.Findings.{solutions};
 ghost use Rattle.asl_stdlib.specs.Solving as spec;
 
 use crate::lists::{length_row, member_row, my_name_row, nth_row, reverse_row, test_row};
-use crate::named::{Action, named};
 use crate::numbers::{Extreme, best_row};
 use crate::texts::concat_row;
 use asl_resolve::actions::{GivenPairs, Inner};
 use asl_term::sequence::{Seq, Starved};
 use asl_term::syntax::{Arg, ArgOf, Call, Term, Terms, Text};
+use asl_term_actions::action::{Action, Look};
+use asl_term_actions::named::named;
 use asl_unify::limits::TermFault;
 use asl_unify::matching::Substs;
 use asl_unify::settle::{ArithFault, settle_term};
@@ -68,26 +70,26 @@ fn settled(alloc: Global, args: &[Term]) -> Result<Terms, ArithFault>
 fn solved(
     alloc: Global,
     me: &Text,
-    a: Action,
+    look: Look,
     args: &[Term],
     s: &Subst,
 ) -> Result<PairLists, Starved>
-    ensures { IfOk result (λ r. behind s.now r ≡ solutions (spec.found me.now a args.now) s.now) }
+    ensures { IfOk result (λ r. behind s.now r ≡ solutions (spec.found me.now look args.now) s.now) }
 {
-    match a {
-        Action::Member => member_row(alloc, args, s),
-        Action::Length => length_row(alloc, args, s),
-        Action::Nth => nth_row(alloc, args, s),
-        Action::Concat => concat_row(alloc, args, s),
-        Action::Max => best_row(alloc, Extreme::Greatest, args, s),
-        Action::Min => best_row(alloc, Extreme::Least, args, s),
-        Action::Reverse => reverse_row(alloc, args, s),
-        Action::MyName => my_name_row(alloc, me, args, s),
-        Action::Passes(test) => test_row(alloc, test, args, s),
+    match look {
+        Look::Member => member_row(alloc, args, s),
+        Look::Length => length_row(alloc, args, s),
+        Look::Nth => nth_row(alloc, args, s),
+        Look::Concat => concat_row(alloc, args, s),
+        Look::Max => best_row(alloc, Extreme::Greatest, args, s),
+        Look::Min => best_row(alloc, Extreme::Least, args, s),
+        Look::Reverse => reverse_row(alloc, args, s),
+        Look::MyName => my_name_row(alloc, me, args, s),
+        Look::Passes(test) => test_row(alloc, test, args, s),
     }
 }
 
-/// The solutions of the action of a name, and none for other names.
+/// The solutions of the action of a name, and none for others.
 fn solved_by(
     alloc: Global,
     me: &Text,
@@ -95,11 +97,13 @@ fn solved_by(
     args: &[Term],
     s: &Subst,
 ) -> Result<PairLists, Starved>
-    ensures { IfOk result (λ r. behind s.now r ≡ solutions (spec.found_by me.now (spec.named name.now) args.now) s.now) }
+    ensures { IfOk result (λ r. behind s.now r ≡ solutions (spec.found_by me.now (actions.named name.now) args.now) s.now) }
 {
     match named(name) {
-        Some(a) => solved(alloc, me, a, args, s),
-        None => Ok(Seq::new(alloc)),
+        Some(Action::Looks(look)) => solved(alloc, me, look, args, s),
+        Some(Action::Collects(_) | Action::Print | Action::Fail | Action::Does(_)) | None => {
+            Ok(Seq::new(alloc))
+        }
     }
 }
 

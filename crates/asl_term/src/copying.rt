@@ -88,6 +88,7 @@ pub fn copy_all(alloc: Global, ts: &[Term]) -> Result<Terms, Starved>
     ensures { IfOk result (λ r. r ≡ ts.now) }
 {
     let mut r = Seq::new(alloc);
+    r.reserve_exact(ts.len() as u64)?;
     for t in ts {
         r.push(copy(alloc, t)?)?;
     }
@@ -156,6 +157,7 @@ fn copy_args(alloc: Global, args: &[Arg]) -> Result<Args, Starved>
     ensures { IfOk result (λ r. r ≡ args.now) }
 {
     let mut r = Seq::new(alloc);
+    r.reserve_exact(args.len() as u64)?;
     for arg in args {
         match arg {
             ArgOf::Plain(t) => r.push(ArgOf::Plain(copy(alloc, t)?))?,
@@ -196,6 +198,7 @@ pub fn copy_formulas(alloc: Global, fs: &[Formula]) -> Result<Formulas, Starved>
     ensures { IfOk result (λ r. r ≡ fs.now) }
 {
     let mut r = Seq::new(alloc);
+    r.reserve_exact(fs.len() as u64)?;
     for f in fs {
         r.push(copy_formula(alloc, f)?)?;
     }

@@ -6,3 +6,4 @@
 #![tactic(auto)]
 
 pub mod queue;
+pub mod room;

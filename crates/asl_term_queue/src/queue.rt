@@ -1,6 +1,7 @@
 //! A list from whose front items are taken.
 
 ghost use Rattle.std.specs.Prelude.{◌≡◌, [], ◌∷◌, ◌++◌, drop, slice_get, OnOk, OnErr};
+ghost use Rattle.std.specs.Option.{option_copied};
 
 use asl_term::sequence::{Seq, Starved};
 use std::alloc::Global;
@@ -9,9 +10,15 @@ use std::marker::Model;
 use std::mem;
 
 /// A list whose first item is taken without moving the others. Contracts see its items.
-#[derive(Drop)]
 pub struct Queue<T> {
     items: VecDeque<T>,
+}
+
+/// By hand, so that a crate above that lets one go proves nothing of its parts.
+impl<T: Drop> Drop for Queue<T> {
+    fn drop(self) {
+        let Queue { items: _ } = self;
+    }
 }
 
 impl<T> Model for Queue<T> {
@@ -45,6 +52,13 @@ impl<T> Queue<T> {
         }
     }
 
+    /// The first item.
+    pub fn first(&self) -> Option<&T>
+        ensures { option_copied result ≡ slice_get self.now 0 }
+    {
+        self.items.front()
+    }
+
     /// Its items in two lists, one after the other.
     pub fn parts(&self) -> (&[T], &[T])
         ensures { self.now ≡ result.0.now ++ result.1.now }
@@ -57,7 +71,7 @@ impl<T> Queue<T> {
         ensures items { result ≡ self.old }
         ensures rest { self.new ≡ [] }
     {
-        let Queue { items } = mem::replace(self, Queue::new(alloc));
+        let items = mem::replace(&mut self.items, VecDeque::new(alloc));
         Seq::from_vec(Vec::from(items))
     }
 }

@@ -45,6 +45,7 @@ pub enum Does {
     EqualTriggers,
     First,
     FirstMatch,
+    Letter,
     List,
     MatchAnnots,
     MatchLiteral,
@@ -83,7 +84,7 @@ pub struct Shape {
 const ANY: u64 = u64::MAX;
 
 /// The calls: name, what it does, the kind of its arguments, the fewest and the most, and whether equations may follow.
-const CALLS: [(&str, Does, ArgumentKind, u64, u64, bool); 64] = [
+const CALLS: [(&str, Does, ArgumentKind, u64, u64, bool); 65] = [
     ("agent", Does::Agent, ArgumentKind::Text, 0, 0, false),
     (
         "agent_again",
@@ -299,6 +300,7 @@ const CALLS: [(&str, Does, ArgumentKind, u64, u64, bool); 64] = [
         2,
         true,
     ),
+    ("letter", Does::Letter, ArgumentKind::Term, 1, 5, false),
     ("list", Does::List, ArgumentKind::Literal, 0, ANY, false),
     (
         "match_annots",

@@ -1,7 +1,7 @@
 -- What is escaped is made of plain bytes and names.
 use Rattle.std.proofs.Common.{◌≡◌, ℕ, Bool, true, false, ◌==◌, List, [], ◌∷◌, ◌++◌, refl, codes, if◌then◌else◌, arith}
 use Rattle.std.proofs.lemmas.Bool.{eqb-false}
-use Rattle.chart.specs.Escape.{is_control, escaped, escaped_text, IsPlain, EscapedIsPlain}
+use Rattle.chart.specs.Escape.{is_control, escaped_text, IsPlain, EscapedIsPlain}
 use Rattle.chart.specs.Escape.IsPlain.{nothing, byte, less, more, ampersand, quote}
 
 -- a byte that is no sign of its own

@@ -1,3 +1,5 @@
 pub mod Refused
 pub mod Form
 pub mod Escape
+pub mod Shown
+pub mod Texts

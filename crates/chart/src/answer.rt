@@ -4,10 +4,11 @@ ghost use Rattle.std.specs.Prelude.{◌≡◌, OnOk, IfOk, IfErr, IfSome};
 ghost use Rattle.std.specs.Io.KnownBytes.{Keeps};
 ghost use Rattle.std.specs.Str.Lossy.{utf8_lossy};
 ghost use Rattle.std.specs.String.{string_bytes};
-ghost use Rattle.chart.specs.Refused.{IsNoWrite, IsRefused, IsUnread, IsWritten, refused_line};
+ghost use Rattle.chart.specs.Refused.{IsNoWrite, IsRefused, IsUnread, IsWritten, IsShownIn, refused_line};
 
+use crate::choice::Choice;
 use crate::faults::Fault;
-use crate::picture::picture;
+use crate::made::made;
 use std::alloc::Global;
 use std::io;
 use std::io::{Read, Write};
@@ -25,15 +26,21 @@ fn read_all<R: Read>(alloc: Global, input: &mut R) -> Result<String, Fault>
     }
 }
 
-/// Draws the report that is read. The picture is made whole before any of it is written.
-pub fn answer<R: Read, W: Write>(alloc: Global, input: &mut R, output: &mut W) -> Result<(), Fault>
+/// Draws the report that is read, as was asked for. The picture or page is made whole before any of it is written.
+pub fn answer<R: Read, W: Write>(
+    alloc: Global,
+    choice: Choice<'_>,
+    input: &mut R,
+    output: &mut W,
+) -> Result<(), Fault>
     ensures refused { IfSome (refused_line (R.remaining input.old)) (IsRefused result) }
-    ensures written { OnOk result (IsWritten (W.contents output.old) (W.contents output.new)) }
+    ensures shown { OnOk result (IfSome (R.remaining input.old) (IsShownIn choice.entry (W.contents output.old) (W.contents output.new))) }
+    ensures written { OnOk result (IsWritten choice.entry (W.contents output.old) (W.contents output.new)) }
     ensures kept { IfErr result (λ e. IsNoWrite e → Keeps (W.contents output.old) (W.contents output.new)) }
 {
     let text = read_all(alloc, input)?;
-    let svg = picture(alloc, text.as_bytes())?;
-    match output.write_all(svg.as_slice()) {
+    let made = made(alloc, choice, text.as_bytes())?;
+    match output.write_all(made.as_slice()) {
         Ok(()) => Ok(()),
         Err(_) => Err(Fault::Write),
     }

@@ -9,6 +9,8 @@ use std::alloc::AllocError;
 pub enum Fault {
     /// The number of the first line that is not as a report has it.
     Line(u64),
+    /// The words of the call are not such.
+    Words,
     Read,
     Write,
     Memory,
@@ -30,6 +32,7 @@ pub fn code(fault: Fault) -> u8
 {
     match fault {
         Fault::Line(_) => 1,
+        Fault::Words => 2,
         Fault::Read => 4,
         Fault::Write => 5,
         Fault::Memory => 9,

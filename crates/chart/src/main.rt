@@ -1,4 +1,4 @@
-//! A program that draws the report of a run: it reads the report from standard input and writes a picture, an SVG, to standard output.
+//! A program that draws the report of a run: it reads the report from standard input and writes a picture, an SVG, or a page to standard output.
 //!
 //! May stand on: nothing but std
 //!
@@ -6,30 +6,69 @@
 #![tactic(auto)]
 
 mod answer;
-mod arrows;
+mod choice;
+mod columns;
 mod drawing;
 mod escape;
 mod faults;
 mod form;
+mod lanes;
+mod layout;
 mod lines;
+mod made;
+mod messages;
 mod numbers;
+mod order;
+mod page;
+mod page_parts;
 mod picture;
-mod placing;
 mod report;
-mod rows;
+mod shown;
 mod signs;
 
 use crate::answer::answer;
+use crate::choice::{Choice, asked_of, names_of};
 use crate::faults::Fault;
-use std::io;
 use std::process::ExitCode;
+use std::{env, io};
+
+const USAGE: &str =
+    "usage: chart [--all] [--page] [--agents NAME,NAME,..] [--turns FROM..TO] <REPORT";
+
+/// The words of the command line without the program's own name.
+fn words_of(rt: &HostRuntime) -> io::Result<Vec<String>> {
+    let mut words = Vec::new(rt.alloc());
+    for word in env::args(rt)?.skip(1) {
+        words.push(word)?;
+    }
+    Ok(words)
+}
+
+/// Draws what the words ask for.
+fn drawn(rt: &HostRuntime) -> Result<(), Fault> {
+    let Ok(words) = words_of(rt) else {
+        return Err(Fault::Words);
+    };
+    let Some(asked) = asked_of(words.as_slice()) else {
+        return Err(Fault::Words);
+    };
+    let names = names_of(rt.alloc(), asked)?;
+    let choice = Choice {
+        is_page: asked.is_page,
+        is_all: asked.is_all,
+        names: names.as_slice(),
+        turns: asked.turns,
+    };
+    answer(rt.alloc(), choice, &mut rt.reader(), &mut io::writer(rt))
+}
 
 fn main(rt: HostRuntime) -> ExitCode {
-    let Err(fault) = answer(rt.alloc(), &mut rt.reader(), &mut io::writer(&rt)) else {
+    let Err(fault) = drawn(&rt) else {
         return ExitCode::from(0);
     };
     let _ = match fault {
         Fault::Line(number) => eprintln!(rt; "refused line {number}"),
+        Fault::Words => eprintln!(rt; "{USAGE}"),
         Fault::Read => eprintln!(rt; "read fault"),
         Fault::Write => eprintln!(rt; "write fault"),
         Fault::Memory => eprintln!(rt; "memory"),

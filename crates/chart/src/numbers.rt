@@ -1,5 +1,8 @@
 //! Numbers and words in a line.
 
+ghost use Rattle.std.specs.Prelude.{◌≡◌};
+ghost use Rattle.chart.specs.Shown.{behind};
+
 /// The number that these digits write; None where they are none, or it has more than 64 bits.
 pub fn number(digits: &[u8]) -> Option<u64> {
     if digits.is_empty() {
@@ -16,7 +19,9 @@ pub fn number(digits: &[u8]) -> Option<u64> {
 }
 
 /// What stands before the first such byte, and what behind it; all and nothing where it is not there.
-pub fn cut_at(sign: u8, text: &[u8]) -> (&[u8], &[u8]) {
+pub fn cut_at(sign: u8, text: &[u8]) -> (&[u8], &[u8])
+    ensures { result.1.now ≡ behind sign text.now }
+{
     for at in 0..text.len() {
         if text[at] == sign {
             return (&text[..at], &text[at + 1..]);

@@ -1,130 +1,71 @@
-//! What is drawn of a report.
+//! What is read of a report besides its lines.
 
 use crate::lines::{LineKind, kind_of};
 use crate::numbers::{cut_at, last_word, number};
 use std::alloc::{AllocError, Global};
 
-/// So many turns are drawn at most.
-pub const MOST_TURNS: usize = 2000;
-
-/// A line of a trace: its cycle, and what is behind that.
+/// An agent, from 0, that makes so many turns, one after the other.
 #[derive(Clone, Copy)]
-pub struct Line<'a> {
-    pub cycle: u64,
-    pub text: &'a [u8],
-}
-
-#[derive(Drop)]
-pub struct AgentSection<'a> {
-    pub name: &'a [u8],
-    pub lines: Vec<Line<'a>>,
-    /// How its part ended, and after how many cycles.
-    pub end: &'a [u8],
+pub struct Entry {
+    pub agent: usize,
+    pub times: u64,
 }
 
 #[derive(Drop)]
 pub struct Report<'a> {
-    pub options: &'a [u8],
-    pub agents: Vec<AgentSection<'a>>,
-    pub facts: Vec<&'a [u8]>,
-    pub mail: Vec<&'a [u8]>,
+    /// The names of the agents.
+    pub names: Vec<&'a [u8]>,
     /// How many turns there were.
     pub count: Option<u64>,
-    /// The agents of the first of them, from 0.
-    pub turns: Vec<usize>,
-}
-
-fn empty<'a>(alloc: Global) -> Report<'a> {
-    Report {
-        options: &[],
-        agents: Vec::new(alloc),
-        facts: Vec::new(alloc),
-        mail: Vec::new(alloc),
-        count: None,
-        turns: Vec::new(alloc),
-    }
-}
-
-/// Whether the line is one of a trace; it is then kept.
-fn put_trace<'a>(report: &mut Report<'a>, line: &'a [u8]) -> Result<bool, AllocError> {
-    let (digits, text) = cut_at(b' ', line);
-    let Some(cycle) = number(digits) else {
-        return Ok(false);
-    };
-    if let Some(agent) = report.agents.last_mut() {
-        agent.lines.push(Line { cycle, text })?;
-    }
-    Ok(true)
+    pub entries: Vec<Entry>,
 }
 
 /// The agent and the number of turns of an entry, as `2` or `2x16`; None where it is none of so many agents.
-fn entry(agents: usize, text: &[u8]) -> Option<(usize, u64)> {
+fn entry_of(agents: usize, text: &[u8]) -> Option<Entry> {
     let (agent, times) = cut_at(b'x', text);
     let agent = number(agent)? as usize;
     if agent < 1 || agent > agents {
         return None;
     }
+    let agent = agent - 1;
     if times.is_empty() {
-        return Some((agent - 1, 1));
+        return Some(Entry { agent, times: 1 });
     }
-    Some((agent - 1, number(times)?))
+    let times = number(times)?;
+    Some(Entry { agent, times })
 }
 
-/// Whether the line has as many turns as were counted, each of an agent; the first of them are then kept.
+/// Whether the line has as many turns as were counted, each of an agent.
 fn put_turns(report: &mut Report<'_>, line: &[u8], count: u64) -> Result<bool, AllocError> {
     let mut sum: u64 = 0;
     for text in line.split(|b| *b == b' ') {
-        let Some((agent, times)) = entry(report.agents.len(), text) else {
+        let Some(entry) = entry_of(report.names.len(), text) else {
             return Ok(false);
         };
-        sum = sum.saturating_add(times);
-        for _ in 0..times.min(MOST_TURNS as u64) {
-            if report.turns.len() < MOST_TURNS {
-                report.turns.push(agent)?;
-            }
-        }
+        sum = sum.saturating_add(entry.times);
+        report.entries.push(entry)?;
     }
     Ok(sum == count)
 }
 
-/// How an agent's part ended.
-fn put_end<'a>(report: &mut Report<'a>, line: &'a [u8]) -> bool {
-    let (_, behind) = cut_at(b' ', line);
-    let (_, end) = cut_at(b' ', behind);
-    if let Some(agent) = report.agents.last_mut() {
-        agent.end = end;
-    }
-    number(last_word(end)).is_some()
-}
-
-fn put_agent<'a>(alloc: Global, report: &mut Report<'a>, name: &'a [u8]) -> Result<(), AllocError> {
-    report.agents.push(AgentSection {
-        name,
-        lines: Vec::new(alloc),
-        end: &[],
-    })?;
-    Ok(())
+/// The cycle of a line of a trace.
+pub fn cycle_of(line: &[u8]) -> Option<u64> {
+    let (digits, _) = cut_at(b' ', line);
+    number(digits)
 }
 
 /// Whether the numbers of a line are such; what it says is then kept.
-fn put_line<'a>(
-    alloc: Global,
-    report: &mut Report<'a>,
-    line: &'a [u8],
-) -> Result<bool, AllocError> {
+fn put_line<'a>(report: &mut Report<'a>, line: &'a [u8]) -> Result<bool, AllocError> {
     let (_, behind) = cut_at(b' ', line);
     match kind_of(line) {
-        LineKind::Options => report.options = line,
-        LineKind::AgentSection => put_agent(alloc, report, behind)?,
+        LineKind::AgentSection => report.names.push(behind)?,
         LineKind::Numbered => {
             return match report.count {
-                None => put_trace(report, line),
+                None => Ok(cycle_of(line).is_some()),
                 Some(count) => put_turns(report, line, count),
             };
         }
-        LineKind::End => return Ok(put_end(report, line)),
-        LineKind::Fact => report.facts.push(behind)?,
-        LineKind::Letter => report.mail.push(line)?,
+        LineKind::End => return Ok(number(last_word(behind)).is_some()),
         LineKind::Count => {
             report.count = number(behind);
             return Ok(report.count.is_some());
@@ -136,11 +77,15 @@ fn put_line<'a>(
 
 /// A report from lines that have its form, or the number of the first of them with a number that is none.
 pub fn read<'a>(alloc: Global, lines: &[&'a [u8]]) -> Result<Result<Report<'a>, u64>, AllocError> {
-    let mut report = empty(alloc);
+    let mut report = Report {
+        names: Vec::new(alloc),
+        count: None,
+        entries: Vec::new(alloc),
+    };
     let mut at: u64 = 0;
     for line in lines {
         at = at.saturating_add(1);
-        if !put_line(alloc, &mut report, line)? {
+        if !put_line(&mut report, line)? {
             return Ok(Err(at));
         }
     }

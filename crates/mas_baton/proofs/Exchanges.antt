@@ -2,7 +2,7 @@
 use Rattle.std.proofs.Common.{◌≡◌, ℕ, false, Option, Some, None, Result, Ok, Err, IfOk, OnErr, List, [], ◌∷◌, ◌++◌, cond, length, sym, ap, ◌∙◌, subst, append-nil, arith}
 use Rattle.std.specs.Option.{option_to_list}
 use Rattle.asl_term.specs.declared.sequence.Starved.{Starved}
-use Rattle.mas_board_lists.specs.Lists.{StartsWith, Each}
+use Rattle.mas_board_lists.specs.Lists.{StartsWith, Each, times}
 use Rattle.mas_mind.specs.declared.mind.Outs.{Outs}
 use Rattle.mas_mind.specs.declared.mind.Feedback.{Feedback}
 use Rattle.mas_mind.specs.declared.mind.End.TheVariants.{Budget}
@@ -37,6 +37,7 @@ module _ {A : Type 0} where
     number = n;
     goes_on = t.sees;
     stands = alone (first_of old).state x.state old.number (known old).turns s.turns t.stands;
+    latest = (subst (Each (λ (e : ℕ × List Turn). times e.0 x.schedule ≡ times e.0 (known old).seen)) s.turns t.latest).0;
     taken = t.is;
   }
 
@@ -73,6 +74,7 @@ module _ {A : Type 0} (old mid new : Seat A) (x y : Noted) (made : Option Turn) 
         seen = ap (λ (v : SideView). v.seen) back;
         halted = ap (λ (v : SideView). v.halted) back;
         stands = subst (λ (b : Noted). Stands (first_of old).state b.state (old.number, turns_of old)) e m.stands;
+        latest = subst (λ (b : Noted). times old.number b.schedule ≡ times old.number (known old).seen) e m.latest;
       }
 
 -- ---- a Sense

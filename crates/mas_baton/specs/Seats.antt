@@ -2,7 +2,7 @@
 use Rattle.std.specs.Prelude.{◌≡◌, ℕ, ◌<◌, Bool, false, Option, None, Some, List, [], ◌∷◌, ◌++◌, length}
 use Rattle.std.specs.Option.{option_to_list}
 use Rattle.crossbeam_queue.specs.Passes.{view, IsPassOf}
-use Rattle.mas_board_lists.specs.Lists.{StartsWith, Each, Row}
+use Rattle.mas_board_lists.specs.Lists.{StartsWith, Each, Row, times}
 use Rattle.mas_mind.specs.declared.mind.Input.{Input}
 use Rattle.mas_mind.specs.declared.mind.Outs.{Outs}
 use Rattle.mas_mind.specs.declared.mind.Feedback.{Feedback}
@@ -69,8 +69,8 @@ module _ {A : Type 0} where
 
   -- ---- the exchanges
 
-  -- one exchange of a seat: the board that it met goes on from what it had seen; a turn was made of it and noted, or nothing
-  -- was made; and it was given back so
+  -- one exchange of a seat: the board that it met goes on from what it had seen, with no turn of its agent behind that; a turn
+  -- was made of it and noted, or nothing was made; and it was given back so
   pub record Exchanged (old new : Seat A) (made : Option Turn) (after : Noted) : Type 0 where
     pub number : new.number ≡ old.number
     pub first : first_of new ≡ first_of old
@@ -80,12 +80,15 @@ module _ {A : Type 0} where
     pub seen : seen_by new ≡ after.schedule
     pub halted : left_halted new ≡ after.halted
     pub stands : Stands (first_of old).state (met_by new).state (old.number, turns_of old)
+    pub latest : times old.number (met_by new).schedule ≡ times old.number (seen_by old)
 
-  -- the board that a seat has taken goes on from what it had seen, and its agent stands there where its turns have led it
+  -- the board that a seat has taken goes on from what it had seen, with no turn of its agent behind that, and its agent stands
+  -- there where its turns have led it
   pub record Met (old new : Seat A) (x : Noted) : Type 0 where
     pub number : new.number ≡ old.number
     pub goes_on : StartsWith x.schedule (seen_by old)
     pub stands : Stands (first_of old).state x.state (old.number, turns_of old)
+    pub latest : times old.number x.schedule ≡ times old.number (seen_by old)
     pub taken : known new ≡ took (known old) x
 
   -- the answer is what the board that was met answers

@@ -1,5 +1,5 @@
 -- Boxes of which one is changed.
-use Rattle.std.proofs.Common.{arith, ◌≡◌, ◌≢◌, ◌<◌, ◌≤◌, ◌+◌, ◌-◌, ℕ, zero, suc, List, [], ◌∷◌, ◌++◌, drop, length, remove, slice_get, slice_set, OnOk, OnErr, IfSome, Some, Result, Ok, Err, ◌⊎◌, inl, inr, length-set, lit≤, refl, sym, ap, subst, ◌∙◌}
+use Rattle.std.proofs.Common.{arith, ◌≡◌, ◌≢◌, ◌<◌, ◌≤◌, ◌+◌, ◌-◌, ℕ, zero, suc, List, [], ◌∷◌, ◌++◌, drop, length, slice_get, slice_set, OnOk, OnErr, IfSome, Some, Result, Ok, Err, ◌⊎◌, inl, inr, length-set, lit≤, refl, sym, ap, subst, ◌∙◌}
 use Rattle.std.specs.List.{AllByRecursion}
 use Rattle.asl_term.specs.Spare.{WithSpare}
 use Rattle.mas_mind.specs.declared.mind.Message.{Message}
@@ -31,13 +31,9 @@ pub first_of_all : {X : Type 0} (P : X → Type 0) (xs : List X) → AllByRecurs
 first_of_all P [] a = tt
 first_of_all P (x ∷ xs) a = a.0
 
-rest_all : {X : Type 0} (P : X → Type 0) (xs : List X) → AllByRecursion P xs → AllByRecursion P (remove xs 0)
+rest_all : {X : Type 0} (P : X → Type 0) (xs : List X) → AllByRecursion P xs → AllByRecursion P (drop 1 xs)
 rest_all P [] a = tt
 rest_all P (x ∷ xs) a = a.1
-
-pub rest : {X : Type 0} (xs : List X) → remove xs 0 ≡ drop 1 xs
-rest [] = refl
-rest (x ∷ xs) = refl
 
 -- a place that becomes free, or none
 pub never_less : {X : Type 0} (xs : List X) (old new : ℕ) → (0 < length xs → new ≡ old + 1) → (length xs ≤ 0 → new ≡ old) → old ≤ new
@@ -129,7 +125,7 @@ module _ (boxes self : List Box) (is : boxes ≡ self) (a : ℕ) (agent : IsAgen
   same e p = are p (subst (For a) (sym e) (were p))
 
   -- without the oldest
-  pub taken : new.list ≡ remove old.list 0 → IsPost boxes → IsPost written
+  pub taken : new.list ≡ drop 1 old.list → IsPost boxes → IsPost written
   taken e p = are p (subst (For a) (sym e) (rest_all (IsTo a) old.list (were p)))
 
   -- the oldest

@@ -8,6 +8,7 @@ use Rattle.asl_term.proofs.names.Names.TheSendSync.{the_send as names_send}
 use Rattle.asl_term.proofs.room.Roomy.TheSendSync.{the_send as roomy_send}
 use Rattle.asl_term.proofs.sequence.Seq.TheSendSync.{the_send as seq_send}
 use Rattle.asl_term.proofs.Sends.{term_field_send}
+use Rattle.asl_term_queue.proofs.room.RoomyQueue.TheSendSync.{the_send as roomy_queue_send}
 use Rattle.mas_mind.proofs.mind.Verb.TheSendSync.{the_field_send as verb_send}
 use Rattle.mas_mind.specs.contracts.mind.Message as message
 use Rattle.mas_world.proofs.Sends.{world_send}
@@ -24,7 +25,7 @@ message_send : IsSend message.the_row
 message_send = search (sendable, term_field_send, verb_send) depth 20
 
 pub post_send : IsSend post.the_row
-post_send = view_send post_inside.the_row _ _ _ _ (declared_send post_inside.the_type (seq_send _ (roomy_send _ message_send), tt))
+post_send = view_send post_inside.the_row _ _ _ _ (declared_send post_inside.the_type (seq_send _ (roomy_queue_send _ message_send), tt))
 
 number_send : IsSend (UInt w64)
 number_send = search sendable

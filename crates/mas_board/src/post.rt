@@ -6,15 +6,15 @@ ghost use Rattle.mas_mind.specs.Minds.{IsAgent};
 ghost use Rattle.mas_board.specs.Posts as spec;
 ghost use Rattle.mas_board.specs.Posts.{IsTo};
 
-use asl_term::room::Roomy;
 use asl_term::sequence::{Seq, Starved};
+use asl_term_queue::room::RoomyQueue;
 use mas_mind::mind::Message;
 use std::marker::Model;
 
 /// A box for each agent, by the agents' numbers from 1 on. Contracts see for each box its messages, the oldest first,
 /// and its free places.
 pub struct Post {
-    boxes: Seq<Roomy<Message>>,
+    boxes: Seq<RoomyQueue<Message>>,
 }
 
 /// By hand, so that a crate above that lets one go proves nothing of its parts.
@@ -43,7 +43,7 @@ impl Model for Post {
 
 impl Post {
     /// These boxes, in their order.
-    pub fn of(boxes: Seq<Roomy<Message>>) -> Post
+    pub fn of(boxes: Seq<RoomyQueue<Message>>) -> Post
         requires { spec.IsPost boxes }
         ensures { result ≡ boxes }
     {
@@ -84,7 +84,7 @@ impl Post {
         ensures addressed { IfSome result (IsTo a) }
         ensures others { spec.OthersStay a self.old self.new }
     {
-        self.boxes.at_mut((a - 1) as u64).remove(0)
+        self.boxes.at_mut((a - 1) as u64).take_first()
     }
 
     /// The number of messages in a box.

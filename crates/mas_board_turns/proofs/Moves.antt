@@ -1,5 +1,5 @@
 -- What one turn makes of the board.
-use Rattle.std.proofs.Common.{◌≡◌, ℕ, ◌+◌, ◌-◌, Bool, true, false, Option, None, length, slice_set, sym, refl, ap, ◌∙◌, arith, if◌then◌else◌}
+use Rattle.std.proofs.Common.{◌≡◌, ℕ, ◌+◌, ◌-◌, Bool, true, false, Option, None, Some, is_some, length, slice_set, sym, refl, ap, ◌∙◌, arith, if◌then◌else◌}
 use Rattle.std.proofs.lemmas.List.{length-set}
 use Rattle.mas_mind.specs.declared.mind.End.{End}
 use Rattle.mas_mind.specs.declared.mind.End.TheVariants.{Quiet, Stopped, Cycles, Budget}
@@ -14,7 +14,7 @@ use Rattle.mas_board.specs.declared.seats.Sensed.TheVariants as answer
 use Rattle.mas_board.specs.Boards.{State, seat_at, is_at_limit, all_quiet, is_ahead, left_by, left_cycles, left_stopped, left_quiet, ahead, given, begun, sense, rested, emit}
 use Rattle.mas_board_turns.specs.declared.turn.Turn.{Turn}
 use Rattle.mas_board_turns.specs.declared.turn.Turn.TheVariants.{Sensed as Got, Left, Emitted, Gone}
-use Rattle.mas_board_turns.specs.Turns.{Makes, phase_of, cycle_of}
+use Rattle.mas_board_turns.specs.Turns.{Makes, phase_of, cycle_of, mark_of}
 
 -- ---- a Sense
 
@@ -64,17 +64,20 @@ pub record Moved (s : State) (a : ℕ) (turn : Turn) (t : State) : Type 0 where
   pub seats : t.seats ≡ slice_set s.seats (a - 1) seat
   pub phase : seat.phase ≡ phase_of turn
   pub cycle : seat.cycle ≡ (seat_at s a).cycle + cycle_of turn
+  pub mark : is_some seat.mark ≡ mark_of (is_some (seat_at s a).mark) turn
   pub agent : IsAgent (length s.seats) a
   pub names : t.names ≡ s.names
   pub cycles : t.cycles ≡ s.cycles
   pub lead : t.lead ≡ s.lead
 
-goes_off : (s t : State) (a : ℕ) (e : End) (turn : Turn) → IsAgent (length s.seats) a → phase_of turn ≡ Away e → cycle_of turn ≡ 0 → t ≡ left_by s a e → Moved s a turn t
-goes_off s t a e turn k p c h = record {
+goes_off : (s t : State) (a : ℕ) (e : End) (turn : Turn) → IsAgent (length s.seats) a → phase_of turn ≡ Away e → cycle_of turn ≡ 0 → ((was : Bool) → mark_of was turn ≡ was)
+    → t ≡ left_by s a e → Moved s a turn t
+goes_off s t a e turn k p c w h = record {
   seat = record (seat_at s a) { phase = Away e };
   seats = ap (λ (x : State). x.seats) h;
   phase = sym p;
   cycle = omega arith;
+  mark = sym (w (is_some (seat_at s a).mark));
   agent = k;
   names = ap (λ (x : State). x.names) h;
   cycles = ap (λ (x : State). x.cycles) h;
@@ -87,11 +90,16 @@ begins s t a i k h = record {
   seats = ap (λ (x : State). x.seats) h;
   phase = refl;
   cycle = refl;
+  mark = refl;
   agent = k;
   names = ap (λ (x : State). x.names) h;
   cycles = ap (λ (x : State). x.cycles) h;
   lead = ap (λ (x : State). x.lead) h;
 }
+
+is_marked : (quiet : Bool) (kept : ℕ) → is_some (if quiet then Some kept else None) ≡ quiet
+is_marked true kept = refl
+is_marked false kept = refl
 
 emits : (s t : State) (a : ℕ) (o : Outs) (f : Option Feedback) → IsAgent (length s.seats) a → (f, t) ≡ emit s a o → Moved s a (Emitted o f) t
 emits s t a o f k e = let h : t ≡ (emit s a o).1 = ap (λ (p : Option Feedback × State). p.1) e in record {
@@ -99,6 +107,7 @@ emits s t a o f k e = let h : t ≡ (emit s a o).1 = ap (λ (p : Option Feedback
   seats = ap (λ (x : State). x.seats) h;
   phase = refl;
   cycle = omega arith;
+  mark = is_marked o.quiet (seat_at s a).kept;
   agent = k;
   names = ap (λ (x : State). x.names) h;
   cycles = ap (λ (x : State). x.cycles) h;
@@ -107,9 +116,9 @@ emits s t a o f k e = let h : t ≡ (emit s a o).1 = ap (λ (p : Option Feedback
 
 pub moved : (s t : State) (a : ℕ) (turn : Turn) → Makes s a turn t → Moved s a turn t
 moved s t a (Got i) h = begins s t a i h.0.agent (given_input s t a i h.1)
-moved s t a (Left e) h = goes_off s t a e (Left e) h.0.agent refl refl (left_with s t a e h.1)
+moved s t a (Left e) h = goes_off s t a e (Left e) h.0.agent refl refl (λ was. refl) (left_with s t a e h.1)
 moved s t a (Emitted o f) h = emits s t a o f h.0.agent h.1
-moved s t a Gone h = goes_off s t a Budget Gone h.0.agent refl refl h.1
+moved s t a Gone h = goes_off s t a Budget Gone h.0.agent refl refl (λ was. refl) h.1
 
 pub moved_seats : (s t : State) (a : ℕ) (turn : Turn) → Makes s a turn t → length t.seats ≡ length s.seats
 moved_seats s t a turn h = let m = moved s t a turn h in ap length m.seats ∙ length-set s.seats (a - 1) m.seat

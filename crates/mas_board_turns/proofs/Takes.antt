@@ -1,5 +1,5 @@
 -- The board comes, and is taken.
-use Rattle.std.proofs.Common.{◌≡◌, ℕ, zero, suc, ◌+◌, ◌<◌, ◌≤◌, Bool, true, false, true≢false, List, [], ◌∷◌, ◌++◌, length, set, sym, append-nil, refl, ap, ◌∙◌, subst, ⊎_elim, inr, arith}
+use Rattle.std.proofs.Common.{◌≡◌, ℕ, zero, suc, ◌+◌, ◌<◌, ◌≤◌, Bool, true, false, true≢false, is_some, List, [], ◌∷◌, ◌++◌, length, set, sym, append-nil, refl, ap, ◌∙◌, subst, ⊎_elim, inr, arith}
 use mathlib.Core.Option.{some, some-injective, some-ne-none}
 use lib.ListN.{get_elem?}
 use Rattle.crossbeam_queue.specs.Fifo.{Pushes, Pops}
@@ -10,7 +10,7 @@ use Rattle.mas_board_lists.proofs.Starts.{starts_refl}
 use Rattle.mas_mind.specs.Minds.{IsAgent}
 use Rattle.mas_board.specs.Boards.{State, Noted, seat_at}
 use Rattle.mas_board_turns.specs.declared.turn.Turn.{Turn}
-use Rattle.mas_board_turns.specs.Turns.{Entry, Plays, phase_after, cycles_in}
+use Rattle.mas_board_turns.specs.Turns.{Entry, Plays, phase_after, cycles_in, mark_after}
 use Rattle.mas_board_turns.proofs.Places.{plays_stands, plays_kept}
 use Rattle.mas_board_turns.specs.declared.view.SideView.{SideView}
 use Rattle.mas_board_turns.specs.Views.{Turns, Opening, numbers, silent}
@@ -122,6 +122,7 @@ stands_one first board log seen e plays agent k =
         phase_is = s.phase_is ∙ ap (phase_after (seat_at first.board.state e.0).phase) k.0;
       };
       cycle = s.cycle_is ∙ ap (λ (l : List Turn). (seat_at first.board.state e.0).cycle + cycles_in l) k.0;
+      marked = s.mark_is ∙ ap (mark_after (is_some (seat_at first.board.state e.0).mark)) k.0;
       agents = kept.seats;
       limit = kept.cycles;
     }
@@ -133,6 +134,12 @@ stands_all first board log seen (e ∷ es) plays agent h = (
   stands_one first board log seen e plays (agent e.0 (let t = times_self e.0 in omega arith)) h.0,
   stands_all first board log seen es plays (λ a l. agent a (omega arith)) h.1,
 )
+
+-- no turn of an agent stands behind what was seen
+latest_all : (first : Opening) (log : List Entry) (seen schedule : List ℕ) (es : Turns) → schedule ≡ order first log → Each (Knows first log seen) es
+    → Each (λ (e : ℕ × List Turn). times e.0 schedule ≡ times e.0 seen) es
+latest_all first log seen schedule [] s h = tt
+latest_all first log seen schedule (e ∷ es) s h = (ap (times e.0) s ∙ sym h.0.1, latest_all first log seen schedule es s h.1)
 
 pub takes_seat : {X : Type 0} {r : Showing X} {a : ℕ} {v : SideView} (p : ℕ) → Sits a false v → Pops (Holds r) p v (Taken r v)
 takes_seat {X} {r} {a} {v} p s x items views h at =
@@ -147,6 +154,7 @@ takes_seat {X} {r} {a} {v} p s x items views h at =
         is = t.2;
         sees = subst (λ (l : List ℕ). StartsWith l v.seen) (sym k.lies.0.scheduled) f.sees;
         stands = subst (λ (b : Opening × State). Each (Stands b.0.board.state b.1) v.turns) (λ i. (sym same i, sym k.lies.0.is i)) stands;
+        latest = latest_all k.first k.log v.seen (r.board x).schedule v.turns k.lies.0.scheduled f.mine;
         kept = subst (λ (o : Opening). r.keeps o x) (sym same) k.lies.0.kept;
       },
     )

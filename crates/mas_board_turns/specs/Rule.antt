@@ -58,11 +58,12 @@ module _ {X : Type 0} where
   Holds s items views = ((items ≡ []) × (views ≡ blank ∷ [])) ⊎ Playing s items views
 
   -- what a taking tells: the board that was met goes on from what was seen, and each agent of the view stands where its turns
-  -- have led it
+  -- have led it; no turn of it stands in the schedule behind what was seen
   pub record Taken (s : Showing X) (v : SideView) (x : X) (w : SideView) : Type 0 where
     pub is : w ≡ took v (s.board x)
     pub sees : StartsWith (s.board x).schedule v.seen
     pub stands : Each (Stands v.first.board.state (s.board x).state) v.turns
+    pub latest : Each (λ (e : ℕ × List Turn). times e.0 (s.board x).schedule ≡ times e.0 v.seen) v.turns
     pub kept : s.keeps v.first x
 
   -- what a giving back asks for: what was made of the board that was met, and what is kept

@@ -1,10 +1,10 @@
 -- What each step makes of a view.
-use Rattle.std.specs.Prelude.{◌≡◌, ℕ, ◌+◌, Bool, true, false, Option, None, Some, List, [], ◌∷◌, ◌++◌, length, drop, take}
+use Rattle.std.specs.Prelude.{◌≡◌, ℕ, ◌+◌, Bool, true, false, Option, None, Some, is_some, List, [], ◌∷◌, ◌++◌, length, drop, take}
 use Rattle.mas_board_lists.specs.Lists.{longer, times, once_in}
 use Rattle.mas_board.specs.Boards.{State, Noted, seat_at}
 use Rattle.mas_board.specs.Seating.{IsAt}
 use Rattle.mas_board_turns.specs.declared.turn.Turn.{Turn}
-use Rattle.mas_board_turns.specs.Turns.{Makes, phase_after, cycles_in}
+use Rattle.mas_board_turns.specs.Turns.{Makes, phase_after, cycles_in, mark_after}
 use Rattle.mas_board_turns.specs.declared.view.SideView.{SideView}
 use Rattle.mas_board_turns.specs.Views.{Turns, Opening, numbers, silent, noted, no_board, no_opening}
 
@@ -101,10 +101,12 @@ abbrev pub Made : Option Turn → Noted → ℕ → Noted → Type 0
 Made None old a new = (new.state ≡ old.state) × (new.schedule ≡ old.schedule)
 Made (Some turn) old a new = Makes old.state a turn new.state × (new.schedule ≡ old.schedule ++ a ∷ [])
 
--- an agent stands on this board where its turns have led it from where it stood on the first one
+-- an agent stands on this board where its turns have led it from where it stood on the first one, and it has a mark where they
+-- have left one
 pub record Stands (first board : State) (e : ℕ × List Turn) : Type 0 where
   pub at : IsAt board e.0 (phase_after (seat_at first e.0).phase e.1)
   pub cycle : (seat_at board e.0).cycle ≡ (seat_at first e.0).cycle + cycles_in e.1
+  pub marked : is_some (seat_at board e.0).mark ≡ mark_after (is_some (seat_at first e.0).mark) e.1
   pub agents : length board.seats ≡ length first.seats
   pub limit : board.cycles ≡ first.cycles
 

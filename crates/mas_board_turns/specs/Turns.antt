@@ -1,5 +1,5 @@
 -- Turns that are kept, one after another: the board to which they lead, the numbers in whose order they stand, and of each agent its own.
-use Rattle.std.specs.Prelude.{ℕ, ◌≡◌, ◌+◌, nat_eq, if◌then◌else◌, List, [], ◌∷◌}
+use Rattle.std.specs.Prelude.{ℕ, ◌≡◌, ◌+◌, nat_eq, if◌then◌else◌, Bool, false, List, [], ◌∷◌}
 use Rattle.mas_mind.specs.declared.mind.End.TheVariants.{Budget}
 use Rattle.mas_board.specs.declared.seats.Phase.{Phase}
 use Rattle.mas_board.specs.declared.seats.Phase.TheVariants.{Idle, Busy, Left as Away}
@@ -62,3 +62,14 @@ cycle_of Gone = 0
 abbrev pub cycles_in : List Turn → ℕ
 cycles_in [] = 0
 cycles_in (turn ∷ turns) = cycle_of turn + cycles_in turns
+
+-- whether an agent has a mark after a turn: a Sense with an input clears it, and a cycle that was quiet sets it
+abbrev pub mark_of : Bool → Turn → Bool
+mark_of was (Sensed input) = false
+mark_of was (Left end) = was
+mark_of was (Emitted outs feedback) = outs.quiet
+mark_of was Gone = was
+
+abbrev pub mark_after : Bool → List Turn → Bool
+mark_after was [] = was
+mark_after was (turn ∷ turns) = mark_after (mark_of was turn) turns

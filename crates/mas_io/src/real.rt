@@ -29,6 +29,30 @@ impl<'a, R: Files> FileShelf<'a, R> {
     }
 }
 
+/// Whether there can be no file of the name: nothing has it, what stands before a `/` is no folder, or it is too long for the system.
+pub fn is_missing(e: &io::Error) -> bool {
+    match e.kind() {
+        io::ErrorKind::NotFound => true,
+        io::ErrorKind::NotADirectory => true,
+        io::ErrorKind::InvalidFilename => true,
+        _ => false,
+    }
+}
+
+/// Whether a file has that name, and no folder, pipe, device or socket. It opens nothing, so it never waits for the other end of a pipe.
+pub fn is_plain<R: Files>(rt: &R, path: &str) -> io::Result<bool> {
+    Ok(fs::metadata(rt, path)?.is_file())
+}
+
+/// The file of that name, opened. What is no file is not opened.
+fn open_plain<R: Files>(rt: &R, path: &str) -> io::Result<R::File> {
+    if is_plain(rt, path)? {
+        fs::open(rt, path)
+    } else {
+        Err(io::Error::from(io::ErrorKind::InvalidInput))
+    }
+}
+
 /// Whether the system had no memory for the call. That is no fault of the file.
 fn is_want(e: &io::Error) -> bool {
     e.kind() == io::ErrorKind::OutOfMemory
@@ -59,9 +83,9 @@ fn read_file<R: Files>(rt: &R, alloc: Global, name: &Text, most: u64) -> Result<
     let Ok(path) = std::str::from_utf8(name.as_slice()) else {
         return Ok(Fetched::Failed);
     };
-    match fs::open(rt, path) {
+    match open_plain(rt, path) {
         Ok(mut file) => read_some(alloc, &mut file, most),
-        Err(e) if e.kind() == io::ErrorKind::NotFound => Ok(Fetched::Missing),
+        Err(e) if is_missing(&e) => Ok(Fetched::Missing),
         Err(e) if is_want(&e) => Err(Starved),
         Err(_) => Ok(Fetched::Failed),
     }

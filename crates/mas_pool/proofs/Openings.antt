@@ -19,6 +19,8 @@ use Rattle.mas_pool_task.specs.declared.going.Going.{Going}
 use Rattle.mas_pool_task.specs.Goings.{Became}
 use Rattle.mas_pool.specs.Workers.{number_of, AreAt}
 use Rattle.mas_pool.specs.Dealing.{dealt_one, dealt}
+use Rattle.mas_pool.specs.Ends.{AreSeated}
+use Rattle.mas_pool.proofs.Whole.{length_dealt}
 
 no_seat_at : (n i : ℕ) → seat_or_none (slice_get (replicate n no_seat) i) ≡ no_seat
 no_seat_at zero i = refl
@@ -89,3 +91,26 @@ module _ {V A : Type 0} (k : Kind V) where
       let n = s.fit.number in
       subst (λ (t : ℕ × ℕ). IfSome (slice_get ms t.0) (IsMindOf k start.state t.1)) (λ j. (e j, f j)) (s.fit.each (suc i) (record { from_one = omega arith; named = omega arith })))) in
       dealt_from b start 1 ss ms sound (λ a. seats_none start a s.unplayed opens) o.each minds
+
+  pub are_seated : (b : Baton A) (start : Noted) (ss : List (Seat A)) (ms : List V) (gs : List (Going V A)) → IsSound start.state → Opens start → Start k start ms → Opened start b ss → gs ≡ dealt ss ms
+      → AreSeated k start ms b gs
+  are_seated b start ss ms gs sound opens s o e =
+      let d = dealt_all b start ss ms sound opens s o in
+      let seats = o.count in
+      let minds = s.fit.number in
+      let agents = sound.limits.some in
+      let size = ap length e in
+      let wide = length_dealt ss ms (omega arith) in
+      let count : length gs ≡ length start.state.seats = omega arith in
+      record {
+        seats = ss;
+        opened = o;
+        start = s;
+        idle = λ a. ap (λ (x : board.AgentPlace). x.phase) (seats_none start a s.unplayed opens);
+        goings_are = e;
+        count = count;
+        some = omega arith;
+        numbers_are = subst (λ (l : List (Going V A)). numbers number_of l ≡ numbers_from 1 (length l)) (sym e) d.numbers_are;
+        rest = subst (λ (l : List (Going V A)). Each (λ (g : Going V A). Became k g g) l) (sym e) d.begin;
+        home = subst (AreAt b) (sym e) d.home;
+      }

@@ -23,6 +23,7 @@ use Rattle.mas_pool_ready.specs.Rule.{numbers}
 use Rattle.mas_pool_task.specs.declared.going.Going.{Going}
 use Rattle.mas_pool.specs.Workers.{number_of, AreAt, EndedOf, AreEnded}
 use Rattle.mas_pool.specs.Dealing.{dealt_one, dealt, seats_of, minds_of, AllGone}
+use Rattle.mas_pool.specs.Ends.{AreSeated, AreBack}
 
 -- ---- lists
 
@@ -232,3 +233,21 @@ module _ {V A : Type 0} (k : Kind V) where
         each = back_row b (dealt ss ms) 1 (length (dealt ss ms)) row home e.numbers_are e.each;
         all = seats ∙ wide ∙ count ∙ ap (λ (x : Noted). length x.state.seats) (sym first);
       }
+
+  -- ---- as the run was dealt
+
+  seats_some : (b : Baton A) (board : Noted) (ms : List V) (gs : List (Going V A)) → AreSeated k board ms b gs → 0 < length board.state.seats
+  seats_some b board ms gs s = let some = s.some in let count = s.count in omega arith
+
+  pub seats_back : (b : Baton A) (row : List (Going V A)) → AreBack k b row → AllBack b (seats_of row)
+  seats_back b row back =
+      let s = back.seated in
+      all_back b back.board s.seats back.minds row s.opened (seats_some b back.board back.minds back.first s) s.start.fit.number (subst (AreAt b) s.goings_are s.home)
+      (subst (λ (l : List (Going V A)). AreEnded k l row) s.goings_are back.ended)
+
+  pub has_run : (b : Baton A) (row : List (Going V A)) (after : Noted) → Closed (seats_of row) after → ended after.state.seats ≡ true → (back : AreBack k b row)
+      → RanAlong k (opening_platform back.board.state back.minds) after.schedule after (minds_of row)
+  has_run b row after closed gone back =
+      let s = back.seated in
+      whole_run b back.board after s.seats back.minds row s.opened (seats_some b back.board back.minds back.first s) s.start.fit.number s.idle
+      (subst (λ (l : List (Going V A)). AreEnded k l row) s.goings_are back.ended) closed gone

@@ -6,10 +6,9 @@ ghost use Rattle.mas_core.specs.Fits.{Start};
 ghost use Rattle.mas_core.specs.Replay.{RanAlong};
 ghost use Rattle.mas_core.specs.Robin.{RanOut};
 
-use crate::dealing::{deal, have_left, part};
+use crate::ends::{closed, seated};
 use crate::shifts::all_ended;
 use asl_term::sequence::{Seq, Starved};
-use mas_baton::baton::open_baton;
 use mas_board::board::Board;
 use mas_core::robin::{Done, round_robin};
 use mas_mind::thinking::Mind;
@@ -54,13 +53,7 @@ pub fn run_pool<R: Threads + Wait + Sync, M: Mind + Send, A: Artifact + Send, G:
     if workers == 1 {
         return round_robin(alloc, board, minds);
     }
-    let (baton, seats) = open_baton(rt, alloc, board)?;
-    let goings = deal(alloc, seats, minds)?;
+    let (baton, goings) = seated(rt, alloc, board, minds)?;
     let goings = all_ended(rt, alloc, goings, workers, &baton, gate)?;
-    let (seats, minds) = part(alloc, goings)?;
-    let board = baton.close(rt, seats);
-    if !have_left(&board) {
-        return Err(Starved);
-    }
-    Ok(Done { board, minds })
+    closed(rt, alloc, baton, goings)
 }

@@ -4,7 +4,7 @@ use Rattle.std.proofs.Common.{OnErr, List, [], ◌∷◌, ◌++◌, cond, length
 use Rattle.std.specs.Option.{option_to_list}
 use Rattle.std.proofs.lemmas.Option.{same_Some}
 use Rattle.asl_term.specs.declared.sequence.Starved.{Starved}
-use Rattle.mas_board_lists.specs.Lists.{StartsWith, Each}
+use Rattle.mas_board_lists.specs.Lists.{StartsWith, Each, times}
 use Rattle.mas_record_disk.specs.Disk.{DiskState}
 use Rattle.mas_record_disk.specs.declared.disk.DiskFail.{DiskFail}
 use Rattle.mas_record_journal.specs.declared.journal.Journal.{Journal}
@@ -52,6 +52,7 @@ met_is old new x s n t = record {
   number = n;
   goes_on = t.taken.sees;
   stands = alone (first_of old).board.state x.board.state old.number (known old).turns s.turns t.taken.stands;
+  latest = (subst (Each (λ (e : ℕ × List Turn). times e.0 x.board.schedule ≡ times e.0 (known old).seen)) s.turns t.taken.latest).0;
   taken = t.is;
   kept = t.taken.kept;
 }
@@ -158,6 +159,7 @@ module _ {A D : Type 0} (state : D → DiskState) (old mid : Ticket A D) (x : De
           seen = ap (λ (v : SideView). v.seen) back;
           torn = ap (λ (v : SideView). v.halted) back;
           stands = subst (λ (b : Noted). Stands (first_of old).board.state b.state (old.number, turns_of old)) e m.stands;
+          latest = subst (λ (b : Noted). times old.number b.schedule ≡ times old.number (known old).seen) e m.latest;
           recorded = given_back t;
         }
 

@@ -3,7 +3,7 @@ use Rattle.std.specs.Prelude.{◌≡◌, ℕ, ◌<◌, ◌+◌, ◌⊎◌, Bool,
 use Rattle.std.specs.Option.{option_to_list}
 use Rattle.crossbeam_queue.specs.Passes.{view, IsPassOf}
 use Rattle.asl_term.specs.declared.sequence.Starved.{Starved}
-use Rattle.mas_board_lists.specs.Lists.{StartsWith, Each, Row}
+use Rattle.mas_board_lists.specs.Lists.{StartsWith, Each, Row, times}
 use Rattle.mas_record_disk.specs.Disk.{DiskState}
 use Rattle.mas_record_disk.specs.declared.disk.DiskFail.{DiskFail}
 use Rattle.mas_record_journal.specs.declared.journal.Journal.{Journal}
@@ -125,6 +125,7 @@ module _ {A D : Type 0} where
     pub number : new.number ≡ old.number
     pub goes_on : StartsWith x.board.schedule (seen_by old)
     pub stands : Stands (first_of old).board.state x.board.state (old.number, turns_of old)
+    pub latest : times old.number x.board.schedule ≡ times old.number (seen_by old)
     pub taken : knows new ≡ took state (knows old) x
     pub kept : IsKept state (first_of old) x
 
@@ -145,6 +146,7 @@ module _ {A D : Type 0} where
     pub seen : seen_by new ≡ after.schedule
     pub torn : left_torn new ≡ after.halted
     pub stands : Stands (first_of old).board.state (met_by new).state (old.number, turns_of old)
+    pub latest : times old.number (met_by new).schedule ≡ times old.number (seen_by old)
     pub recorded : IsGivenBack old new
 
   -- ---- a Sense

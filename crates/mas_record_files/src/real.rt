@@ -8,23 +8,25 @@ ghost use Rattle.mas_record_files.specs.Real as spec;
 
 use asl_term::copying::copy_text;
 use asl_term::syntax::Text;
+use mas_io::real::{is_missing, is_plain};
 use mas_record_disk::disk::{Disk, DiskFail, Picked};
-use std::fs::{OpenFile, OpenOptions};
+use std::fs::{File, OpenFile, OpenOptions};
 use std::io;
 use std::io::{Read, Seek, SeekFrom, Write};
 use std::rt::Files;
 
-/// The file system, with a count of the calls that failed; the picked file and its name. A sync is asked of the file alone: that
+/// The file system, with a count of the calls that failed; the picked file and its name. The file is picked with a lock, which it has until the
+/// disk is dropped or the process ends: a file that another open has locked is not picked. A sync is asked of the file alone: that
 /// a new name outlives a crash is up to the file system.
 #[derive(Drop)]
-pub struct FileDisk<'a, R: Files> {
+pub struct FileDisk<'a, R: Files<File = File>> {
     rt: &'a R,
-    file: Option<R::File>,
+    file: Option<File>,
     name: Option<Text>,
     faults: u64,
 }
 
-impl<'a, R: Files> FileDisk<'a, R> {
+impl<'a, R: Files<File = File>> FileDisk<'a, R> {
     /// The files of the machine, none of them picked. None is opened before one is.
     pub fn new(rt: &'a R) -> Self
         ensures faults { result.faults ≡ 0 }
@@ -39,20 +41,26 @@ impl<'a, R: Files> FileDisk<'a, R> {
     }
 }
 
-/// The file of that name, which is made where it is not there and `make` says so. A name that is no UTF-8 names no file.
-fn open_file<R: Files>(rt: &R, name: &Text, make: bool) -> io::Result<R::File> {
+fn no_file() -> io::Error {
+    io::Error::from(io::ErrorKind::InvalidInput)
+}
+
+/// The file of that name, locked, which is made where it is not there and `make` says so. A name that is no UTF-8 names no file; what is a
+/// folder, a pipe or a device is not opened.
+fn open_file<R: Files<File = File>>(rt: &R, name: &Text, make: bool) -> io::Result<File> {
     let Ok(path) = std::str::from_utf8(name.as_slice()) else {
-        return Err(io::Error::from(io::ErrorKind::InvalidInput));
+        return Err(no_file());
     };
+    if let Ok(false) = is_plain(rt, path) {
+        return Err(no_file());
+    }
     let mut how = OpenOptions::new();
     how.read(true);
     how.write(true);
     how.create(make);
-    how.open(rt, path)
-}
-
-fn no_file() -> io::Error {
-    io::Error::from(io::ErrorKind::InvalidInput)
+    let file = how.open(rt, path)?;
+    file.try_lock()?;
+    Ok(file)
 }
 
 fn length<F: OpenFile>(file: &Option<F>) -> io::Result<u64> {
@@ -125,7 +133,7 @@ fn answered<T: Drop>(faults: &mut u64, answer: io::Result<T>) -> Result<T, DiskF
     }
 }
 
-impl<'a, R: Files> Disk for FileDisk<'a, R> {
+impl<'a, R: Files<File = File>> Disk for FileDisk<'a, R> {
     ghost state = { λ d. spec.untold d.name d.faults };
 
     ghost counts_now = { λ d t name c le now. now };
@@ -142,7 +150,7 @@ impl<'a, R: Files> Disk for FileDisk<'a, R> {
                 self.name = Some(kept);
                 Ok(Picked::Ready)
             }
-            Err(e) if !make && e.kind() == io::ErrorKind::NotFound => Ok(Picked::Missing),
+            Err(e) if !make && is_missing(&e) => Ok(Picked::Missing),
             Err(e) => Err(failed(&mut self.faults, &e)),
         }
     }

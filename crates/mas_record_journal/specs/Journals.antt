@@ -1,5 +1,5 @@
 -- The file of a journal, and the turns that it tells, whatever a crash made of it.
-use Rattle.std.specs.Prelude.{ℕ, ◌≡◌, ◌⊎◌, ◌+◌, ◌*◌, ◌/◌, ◌%◌, ◌==◌, if◌then◌else◌, codes}
+use Rattle.std.specs.Prelude.{ℕ, ◌≡◌, ◌⊎◌, Bool, ◌+◌, ◌*◌, ◌/◌, ◌%◌, ◌==◌, if◌then◌else◌, codes}
 use Rattle.std.specs.Prelude.{List, [], ◌∷◌, ◌++◌, take, drop, Option, None, Some}
 use Rattle.std.specs.Str.{bytes_eq}
 use Rattle.mas_record_disk.specs.Disk.{Image}
@@ -13,9 +13,13 @@ abbrev pub turns_in : List ℕ → List ℕ
 turns_in (gate ∷ high ∷ low ∷ rest) = if gate == 1 then (256 * high + low) ∷ turns_in rest else []
 turns_in rest = []
 
+-- the bytes of a file begin as a journal
+abbrev pub has_header : List ℕ → Bool
+has_header bytes = bytes_eq (take 8 bytes) header
+
 -- the turns that the bytes of a file tell; nothing where they do not begin as a journal
 abbrev pub recovered : List ℕ → Option (List ℕ)
-recovered bytes = if bytes_eq (take 8 bytes) header then Some (turns_in (drop 8 bytes)) else None
+recovered bytes = if has_header bytes then Some (turns_in (drop 8 bytes)) else None
 
 -- no file tells nothing
 abbrev pub recovered_image : Image → Option (List ℕ)

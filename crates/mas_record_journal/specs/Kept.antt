@@ -50,12 +50,16 @@ pub record HasLooked (old new : DiskState) : Type 0 where
   pub ran : Ran (λ c. (picked_file old).may_leave c) old new
   pub files : old.told ≡ true → SameBut None old new
 
+-- a crash leaves of the picked file what it read as
+abbrev pub IsAllThatIsLeft : DiskState → DiskState → Type 0
+IsAllThatIsLeft old new = old.told ≡ true → (c : Image) → (picked_file new).may_leave c → c ≡ (picked_file old).reads
+
 -- the bytes of the file, which a crash leaves from then on
 pub record HasBytes (old new : DiskState) (bytes : List ℕ) : Type 0 where
   pub looked : HasLooked old new
   pub short : length bytes ≤ most_bytes
   pub are : old.told ≡ true → bytes ≡ picked_bytes old
-  pub only : old.told ≡ true → (c : Image) → (picked_file new).may_leave c → c ≡ (picked_file old).reads
+  pub only : IsAllThatIsLeft old new
 
 -- the turns that the file tells
 pub record IsRead (old new : DiskState) (turns : List ℕ) : Type 0 where

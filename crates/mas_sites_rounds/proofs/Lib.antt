@@ -1,6 +1,7 @@
 pub mod Cycling
 pub mod Folds
 pub mod Uses
+pub mod Awake
 pub mod Seats
 pub mod Moving
 pub mod Meetings

@@ -1,6 +1,6 @@
 //! Laws of the rounds of sites.
 
-ghost use Rattle.mas_sites_rounds.specs.Laws.{RoundsFold, RoundsKeepTally};
+ghost use Rattle.mas_sites_rounds.specs.Laws.{RoundsFold, RoundsKeepTally, NoSiteEndsQuiet};
 
 use mas_mind::thinking::Mind;
 
@@ -13,4 +13,10 @@ pub fn rounds_fold<M: Mind>()
 /// is on the way in step.
 pub fn rounds_keep_tally<M: Mind>()
     ensures { RoundsKeepTally M.kind }
+{}
+
+/// No site ends for quiet: the stand of an agent that lives elsewhere never does, and as long as it has not left no other
+/// agent can.
+pub fn no_site_ends_quiet<M: Mind>()
+    ensures { NoSiteEndsQuiet M.kind }
 {}

@@ -8,11 +8,10 @@ ghost use Rattle.mas_core.specs.Robin.{RanOut};
 
 use crate::shifts::all_ended;
 use asl_term::sequence::{Seq, Starved};
-use mas_baton::baton::open_baton;
 use mas_board::board::Board;
 use mas_core::robin::Done;
 use mas_mind::thinking::Mind;
-use mas_pool::dealing::{deal, have_left, part};
+use mas_pool::ends::{closed, seated};
 use mas_pool::pool::run_pool;
 use mas_pool_task::gate::Gate;
 use mas_world::artifact::Artifact;
@@ -38,14 +37,7 @@ pub fn run_stealing<R: Threads + Wait + Sync, M: Mind + Send, A: Artifact + Send
     if workers == 1 {
         return run_pool(rt, alloc, board, minds, workers, gate);
     }
-    board.holds();
-    let (baton, seats) = open_baton(rt, alloc, board)?;
-    let goings = deal(alloc, seats, minds)?;
+    let (baton, goings) = seated(rt, alloc, board, minds)?;
     let goings = all_ended(rt, alloc, goings, workers, &baton, gate)?;
-    let (seats, minds) = part(alloc, goings)?;
-    let board = baton.close(rt, seats);
-    if !have_left(&board) {
-        return Err(Starved);
-    }
-    Ok(Done { board, minds })
+    closed(rt, alloc, baton, goings)
 }

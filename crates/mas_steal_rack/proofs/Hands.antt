@@ -7,7 +7,10 @@ use Rattle.mas_steal_rack.specs.declared.hand.Hand.{Hand}
 use Rattle.mas_steal_rack.specs.declared.hand.Rack.{Rack}
 use Rattle.mas_board_lists.specs.Lists.{Each, times}
 use Rattle.mas_steal_rack.specs.Rule.{Waits, with_put, Found}
-use Rattle.mas_steal_rack.specs.Hands.{IsHandOf, Moved, Took, Working, Worked, hand_home, own_view, keys_put, keys_got, puts_of, gets_of, listed}
+use Rattle.mas_steal_rack.specs.Turns.{MatchTurned, Went, Ended}
+use Rattle.mas_steal_rack.specs.declared.turns.AgentTurned.{AgentTurned}
+use Rattle.mas_steal_rack.specs.declared.turns.AgentTurned.TheVariants.{Again, Ahead, Ended as Done}
+use Rattle.mas_steal_rack.specs.Hands.{IsHandOf, Moved, Took, Settled, Working, Worked, hand_home, own_view, keys_put, keys_got, puts_of, gets_of, listed}
 use Rattle.mas_board_lists.proofs.Sums.{each_append}
 use Rattle.mas_board_lists.proofs.Times.{times_append}
 use Rattle.mas_steal_rack.proofs.Sums.{times_both}
@@ -128,6 +131,11 @@ module _ {T H : Type 0} (number : T → ℕ) (home_of : T → H) (is_ready : T �
   pub waits_again : {home : Option H} {x : T} (y : T) → Waits number home_of is_ready home x → home_of y ≡ home_of x → is_ready y → Waits number home_of is_ready home y
   waits_again y w e r = record { at = w.at ∙ ap Some (sym e); ready = r }
 
+  pub settled_home : (r : AgentTurned T) (old new : Hand T H) → Settled number r old new → hand_home new ≡ hand_home old
+  settled_home (Again y) old new s = s.home
+  settled_home (Ahead y) old new s = s.home
+  settled_home (Done y) old new s = ap (λ v. (worker_view {V = DequeView H} v).home) s.own
+
   module _ (has_ended : T → Type 0) where
     pub working_first : (h : Hand T H) → h.list.items ≡ [] → h.kept.items ≡ [] → Working number has_ended h h
     working_first h l k = record {
@@ -165,6 +173,13 @@ module _ {T H : Type 0} (number : T → ℕ) (home_of : T → H) (is_ready : T �
           omega (arith, times_both a number h'.kept.items (y ∷ []), w.counts a, t.counts a));
       ended = subst (Each has_ended) (sym (k ∙ ap (λ v. v.items ++ y ∷ []) t.kept)) (each_append has_ended h.kept.items (y ∷ []) w.ended (d, tt));
     }
+
+    -- the turn of one agent, whatever became of it
+    pub working_settles : (r : AgentTurned T) {i h h' h'' : Hand T H} {x : T} → Working number has_ended i h → Moved number h h' [] (number x ∷ [])
+        → MatchTurned r (Went number home_of is_ready x) (Went number home_of is_ready x) (Ended number has_ended x) → Settled number r h' h'' → Working number has_ended i h''
+    working_settles (Again y) w t e m = working_gives w t e.same m
+    working_settles (Ahead y) w t e m = working_gives w t e.same m
+    working_settles (Done y) w t e m = working_keeps w t e.same e.ended m.place m.own m.keys m.list m.kept
 
     pub working_ends : {i h h' : Hand T H} → Working number has_ended i h → Moved number h h' [] [] → h'.list.items ≡ [] → Worked number has_ended i h'
     working_ends {i} {h} {h'} w m l = record {

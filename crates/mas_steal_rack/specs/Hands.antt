@@ -1,5 +1,6 @@
 -- What a worker's hand has put and got over all deques.
-use Rattle.std.specs.Prelude.{◌≡◌, ℕ, ◌+◌, ◌<◌, Option, Some, Result, List, [], ◌∷◌, map, length, IsSome, MatchOption, MatchResult, slice_get}
+use Rattle.std.specs.Prelude.{◌≡◌, ℕ, ◌+◌, ◌<◌, Option, Some, None, Result, Ok, Err, IsSome, MatchOption, MatchResult}
+use Rattle.std.specs.Prelude.{List, [], ◌∷◌, ◌++◌, map, length, slice_get}
 use Rattle.crossbeam_deque.specs.Handles.{Pass, view, IsPassOf, stealer_deque, stealer_flavor, worker_deque, worker_flavor, worker_view, worker_index}
 use Rattle.crossbeam_deque.specs.declared.handles.Stealer.{Stealer}
 use Rattle.crossbeam_deque.specs.declared.handles.Worker.{Worker}
@@ -8,6 +9,8 @@ use Rattle.mas_steal_rack.specs.declared.hand.Hand.{Hand}
 use Rattle.mas_steal_rack.specs.declared.hand.Rack.{Rack}
 use Rattle.mas_board_lists.specs.Lists.{Each, total, times}
 use Rattle.mas_steal_rack.specs.Rule.{whole, Waits, with_put}
+use Rattle.mas_steal_rack.specs.Turns.{MatchTurned}
+use Rattle.mas_steal_rack.specs.declared.turns.AgentTurned.{AgentTurned}
 
 -- the two lists are as long, and what stands at one place goes together
 abbrev pub Both : {A B : Type 0} → (A → B → Type 0) → List A → List B → Type 0
@@ -29,6 +32,11 @@ keys_put {T} {H} {A} a keys = total (λ (k : Pass T (DequeView H) A). times a (v
 
 abbrev pub keys_got : {T H A : Type 0} → ℕ → List (Pass T (DequeView H) A) → ℕ
 keys_got {T} {H} {A} a keys = total (λ (k : Pass T (DequeView H) A). times a (view {V = DequeView H} k).got) keys
+
+-- the agent, if there is one
+abbrev pub agent_of : {T E : Type 0} → Result T E → Option T
+agent_of (Ok x) = Some x
+agent_of (Err e) = None
 
 -- an agent was put last, or it comes back and nothing has changed
 abbrev pub Pushed : {T H A P : Type 0} → (T → ℕ) → (T → H) → Result (Unit {0}) T → T → Worker T A (DequeView H) P → Worker T A (DequeView H) P → Type 0
@@ -65,6 +73,18 @@ module _ {T H : Type 0} (number : T → ℕ) where
     pub home : hand_home new ≡ hand_home old
     pub kept : new.kept ≡ old.kept
     pub counts : (a : ℕ) → gets_of a new + puts_of a old + listed a old + times a came ≡ gets_of a old + puts_of a new + listed a new + times a left
+
+  -- it keeps one agent more, and nothing else has changed
+  pub record Keeps (x : T) (old new : Hand T H) : Type 0 where
+    pub place : new.place ≡ old.place
+    pub own : new.own ≡ old.own
+    pub keys : new.keys ≡ old.keys
+    pub list : new.list ≡ old.list
+    pub kept : new.kept.items ≡ old.kept.items ++ x ∷ []
+
+  -- an agent that goes on is put back, and one that has ended is kept
+  abbrev pub Settled : AgentTurned T → Hand T H → Hand T H → Type 0
+  Settled turned old new = MatchTurned turned (λ x. Moved old new (number x ∷ []) []) (λ x. Moved old new (number x ∷ []) []) (λ x. Keeps x old new)
 
 module _ {T H : Type 0} (number : T → ℕ) (home_of : T → H) (is_ready : T → Type 0) where
   -- a hand of this rack: it owns the deque at its place, and has a key to each

@@ -1,4 +1,5 @@
 pub mod Rule
 pub mod Hands
 pub mod Turns
+pub mod Looks
 pub mod Racks

@@ -6,6 +6,7 @@ use Rattle.mas_steal_rack.specs.declared.hand.Rack.{Rack}
 use Rattle.mas_board_lists.specs.Lists.{Each, total, times}
 use Rattle.mas_steal_rack.specs.Rule.{Waits}
 use Rattle.mas_steal_rack.specs.Hands.{IsHandOf, Worked, hand_home, puts_of, gets_of}
+use Rattle.mas_steal_rack.specs.Looks.{HasRoomFor}
 
 -- the home of the first agent
 abbrev pub first_home : {T H : Type 0} → (T → H) → List T → Option H
@@ -29,12 +30,13 @@ module _ {T H : Type 0} (number : T → ℕ) (home_of : T → H) (is_ready : T �
     pub list : h.list.items ≡ []
     pub kept : h.kept.items ≡ []
 
-  -- the agents lie in the deques of this rack, each once
+  -- the agents lie in the deques of this rack, each once, and each hand has room for all of them
   pub record Dealt (agents : List T) (rack : Rack T H) (hands : List (Hand T H)) : Type 0 where
     pub number_is : length hands ≡ length rack.doors.items
     pub some : 0 < length hands
     pub order : map (λ (h : Hand T H). worker_deque h.own) hands ≡ map stealer_deque rack.doors.items
     pub fresh : Each (IsFresh (first_home home_of agents) rack) hands
+    pub room : Each (HasRoomFor (length agents)) hands
     pub counts : (a : ℕ) → total (puts_of a) hands ≡ total (gets_of a) hands + times a (map number agents)
 
   -- the hands of a rack after all workers, in order

@@ -8,6 +8,10 @@ MatchTurned (Again x) again ahead done = again x
 MatchTurned (Ahead x) again ahead done = ahead x
 MatchTurned (Done x) again ahead done = done x
 
+-- it has to wait for others
+abbrev pub IsAhead : {T : Type 0} → AgentTurned T → Type 0
+IsAhead turned = MatchTurned turned (λ _. ⊥) (λ _. Unit {0}) (λ _. ⊥)
+
 -- the same agent, which waits again
 pub record Went {T H : Type 0} (number : T → ℕ) (home_of : T → H) (is_ready : T → Type 0) (old new : T) : Type 0 where
   pub same : number new ≡ number old

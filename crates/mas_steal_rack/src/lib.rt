@@ -8,5 +8,6 @@
 pub mod agent;
 pub mod deque;
 pub mod hand;
+pub mod looks;
 pub mod rule;
 pub mod turns;

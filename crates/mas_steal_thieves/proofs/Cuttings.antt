@@ -13,6 +13,7 @@ use Rattle.mas_board_lists.specs.Lists.{Each, total, times}
 use Rattle.mas_board_lists.proofs.Sums.{each_append, each_map, each_front}
 use Rattle.mas_steal_rack.specs.Rule.{whole, view_of, less, one_part, Waits}
 use Rattle.mas_steal_rack.specs.Hands.{Both, IsKeyOf, hand_home, own_view, keys_put, keys_got, puts_of, gets_of}
+use Rattle.mas_steal_rack.specs.Looks.{HasRoomFor}
 use Rattle.mas_steal_rack.specs.Racks.{first_home, IsFresh, Dealt}
 use Rattle.mas_steal_rack.proofs.Keys.{both_length}
 use Rattle.mas_steal_thieves.specs.Closing.{Beside, owners_put, owners_got}
@@ -313,8 +314,9 @@ module _ {T H : Type 0} (number : T → ℕ) (home_of : T → H) (is_ready : T �
 
   -- all together: the agents lie in the deques of the rack
   pub are_dealt : (agents : List T) (workers : ℕ) (owners cut : List (Worker T Global (DequeView H) (DequeRule T))) (rack : Rack T H) (hands : List (Hand T H)) → 0 < workers → workers ≤ 64 → AreDealt number home_of agents workers owners
-      → Both (λ o w. HasCut workers o w) owners cut → Both (λ w d. IsDoorOf w d) cut rack.doors.items → Both (IsHandFor cut) cut hands → Dealt number home_of is_ready agents rack hands
-  are_dealt agents workers owners cut rack hands some few d c doors h =
+      → Both (λ o w. HasCut workers o w) owners cut → Both (λ w d. IsDoorOf w d) cut rack.doors.items → Both (IsHandFor cut) cut hands → Each (HasRoomFor (length agents)) hands
+      → Dealt number home_of is_ready agents rack hands
+  are_dealt agents workers owners cut rack hands some few d c doors h r =
       let home = first_home home_of agents in
       let Own : Type 0 = Worker T Global (DequeView H) (DequeRule T) in
       let has = all_cut workers home owners cut d.has c in
@@ -330,6 +332,7 @@ module _ {T H : Type 0} (number : T → ℕ) (home_of : T → H) (is_ready : T �
         order = owned ∙ sym same;
         fresh = both_each (For cut) (λ (w : Own). Has (whole - workers) home w) (IsFresh number home_of is_ready home rack) cut hands
             (λ w x. fresh_hand home workers rack cut w x few (omega arith) (omega arith) same (λ keys o. keys_of_doors (whole - workers) home cut rack.doors.items keys has doors o)) has h;
+        room = r;
         counts = λ a.
             (let p = hand_put a cut cut hands h in
             let g = hand_got a cut cut hands h in
@@ -352,7 +355,7 @@ module _ {T H : Type 0} (number : T → ℕ) (home_of : T → H) (is_ready : T �
   same_rows cut queue rows q r = subst (λ ws. Each (λ r. IsRow ws r) rows) (sym q) r
 
   pub rack_dealt : (agents : List T) (workers : ℕ) (owners cut queue : List (Worker T Global (DequeView H) (DequeRule T))) (rack : Rack T H) (hands : List (Hand T H)) → (0 < workers) × (workers ≤ 64)
-      → AreDealt number home_of agents workers owners → Both (λ o w. HasCut workers o w) owners cut → queue ≡ cut → Both (λ w d. IsDoorOf w d) cut rack.doors.items → Both (IsHandFor queue) queue hands
+      → AreDealt number home_of agents workers owners → Both (λ o w. HasCut workers o w) owners cut → queue ≡ cut → Both (λ w d. IsDoorOf w d) cut rack.doors.items → Both (IsHandFor queue) queue hands → Each (HasRoomFor (length agents)) hands
       → Dealt number home_of is_ready agents rack hands
-  rack_dealt agents workers owners cut queue rack hands w d c q doors h =
-      are_dealt agents workers owners cut rack hands w.0 w.1 d c doors (subst (λ ws. Both (IsHandFor ws) ws hands) q h)
+  rack_dealt agents workers owners cut queue rack hands w d c q doors h r =
+      are_dealt agents workers owners cut rack hands w.0 w.1 d c doors (subst (λ ws. Both (IsHandFor ws) ws hands) q h) r

@@ -81,9 +81,13 @@ module _ {T H A P : Type 0} where
   abbrev pub IsRow : {G : Type 0} → List (Worker T A (DequeView H) P) → Vec (Pass T (DequeView H) A) G → Type 0
   IsRow owners row = Both (λ (w : Worker T A (DequeView H) P) (k : Pass T (DequeView H) A). IsCutOff w k) owners row.items
 
+-- a worker's own end of its deque
+abbrev pub Owner : Type 0 → Type 0 → Type 0
+Owner T H = Worker T Global (DequeView H) (DequeRule T)
+
 module _ {T H : Type 0} where
   -- the hand of this owner, one of these, before its worker works
-  pub record IsHandFor (owners : List (Worker T Global (DequeView H) (DequeRule T))) (own : Worker T Global (DequeView H) (DequeRule T)) (h : Hand T H) : Type 0 where
+  pub record IsHandFor (owners : List (Owner T H)) (own : Owner T H) (h : Hand T H) : Type 0 where
     pub place : h.place < length owners
     pub at : slice_get (map worker_deque owners) h.place ≡ Some (worker_deque own)
     pub own_is : h.own ≡ own

@@ -42,6 +42,7 @@ fn split_hands<T: ReadyAgent>(
             keys,
             list: _,
             list_is_next: _,
+            ahead: _,
             kept,
         } = hand;
         owners.push(own)?;

@@ -6,6 +6,7 @@ ghost use Rattle.mas_steal_rack.specs.Rule.{whole, Waits, blank};
 ghost use Rattle.mas_steal_rack.specs.Turns.{Went};
 ghost use Rattle.mas_steal_rack.specs.Racks.{first_home, AllWait, Dealt};
 ghost use Rattle.mas_steal_rack.specs.Hands.{Both};
+ghost use Rattle.mas_steal_rack.specs.Looks.{HasRoomFor};
 ghost use Rattle.mas_steal_thieves.specs.Opening.{IsStarted, Has, HasRoom, Opens, Deals, DealsAll, AreDealt, IsDoorOf, CanCut, HasCut, IsRow, IsHandFor};
 
 use mas_steal_rack::agent::ReadyAgent;
@@ -162,6 +163,7 @@ fn new_hand<T: ReadyAgent>(
     ensures keys { IfOk result (λ h. h.keys ≡ keys) }
     ensures list { IfOk result (λ h. h.list.items ≡ []) }
     ensures kept { IfOk result (λ h. h.kept.items ≡ []) }
+    ensures room { IfOk result (HasRoomFor agents) }
 {
     Ok(Hand {
         place,
@@ -169,6 +171,7 @@ fn new_hand<T: ReadyAgent>(
         keys,
         list: VecDeque::with_capacity(alloc, agents)?,
         list_is_next: false,
+        ahead: false,
         kept: Vec::with_capacity(alloc, agents)?,
     })
 }
@@ -182,7 +185,8 @@ fn hands_of<T: ReadyAgent>(
 ) -> Result<Vec<Hand<T>>, AllocError>
     requires number { length rows.items ≡ length owners.items }
     requires rows { Each (λ row. IsRow owners.items row) rows.items }
-    ensures { IfOk result (λ v. Both (IsHandFor owners.items) owners.items v.items) }
+    ensures hands { IfOk result (λ v. Both (IsHandFor owners.items) owners.items v.items) }
+    ensures room { IfOk result (λ v. Each (HasRoomFor agents) v.items) }
 {
     let mut hands = Vec::new(alloc);
     while let Some(own) = owners.pop_front() {

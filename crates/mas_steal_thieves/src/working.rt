@@ -20,7 +20,8 @@ fn shift<T: ReadyAgent, W: Turns<T>, R: Threads + Wait + Sync>(
     requires { IsFresh T.number T.home T.ready (W.serves work.now) rack.now hand.old }
     ensures { Done T.number T.home T.ready (W.ended work.now) rack.now hand.old hand.new }
 {
-    steal_worker(rt, rack, hand, work);
+    let found_none = steal_worker(rt, rack, hand, work);
+    drop(found_none);
 }
 
 /// A worker for each hand, in a thread of its own where one can be made.

@@ -23,7 +23,8 @@ use Rattle.asl_parser_tree.specs.declared.meaning.Meaning.{Meaning}
 use Rattle.asl_parser_tree.specs.declared.meaning.Meaning.TheVariants as meaning
 use Rattle.asl_parser_tree.specs.Leaves.{positive, variable}
 use Rattle.asl_parser_tree.specs.Limits.{within, within_literal, within_expr}
-use Rattle.asl_parser_tree.specs.Meanings.{arith, joined, compared, called, as_args, wants_formula, is_pure, is_deed, is_on_goals}
+use Rattle.asl_term_actions.specs.Actions.{named}
+use Rattle.asl_parser_tree.specs.Meanings.{arith, joined, compared, called, as_args, wants_formula, is_pure, is_deed}
 use Rattle.asl_parser_tree.specs.Plain.{plain_step, is_plain_literal}
 use Rattle.asl_parser_expr.specs.Grammar.{Reads, disjunction, sum as sums, primary, ReadsLiteral, minus, more, just_or, just_and, just_negation, just_relation, just_sum, just_product, just_signed}
 use Rattle.asl_parser_expr.specs.Grammar.{chained, related, a_number, a_string, a_variable, a_call, last_item, round_parts, no_parts, an_atom, is_held}
@@ -80,7 +81,7 @@ print_ready = record { name = codes "print"; args = Plain (term.Str (codes "read
 
 pub print_read : {n : ℕ} {xs : List Lexeme}
     → Reads (suc n) disjunction (Inner (codes "print") ∷ Sign sign.Open ∷ Str (codes "ready") ∷ Sign sign.Close ∷ xs) xs (meaning.Call print_ready)
-unfolding called as_args wants_formula is_pure is_deed is_on_goals
+unfolding called as_args wants_formula is_pure is_deed named
 print_read = as_all (a_call (round_parts (last_item (as_all a_string))) refl)
 
 -- ---- sizes

@@ -3,7 +3,7 @@ pub mod Counted
 pub mod Artifacts
 pub mod Unless
 pub mod Fetched
-pub mod SourceParts
+pub mod Parts
 pub mod Stands
 pub mod Within
 pub mod Single

@@ -9,7 +9,7 @@ use Rattle.mas_top_files.specs.Projects.{folder, project_in, is_agent_file, solo
 use Rattle.mas_top_files.specs.Files.{HasFile, most_bytes, projects, worlds, IsRefusal}
 use Rattle.mas_top_files.specs.Sources.{ProjectBy, HasProject, Describe, HasSource, ProjectRefused, PartRefused, FirstRefused, project_refused, cycles_refused, part_refused, UnlessMemory, AreRefused, CyclesTold}
 use Rattle.mas_top_files.proofs.Fetched.{refusal_from}
-use Rattle.mas_top_files.proofs.SourceParts.{line_from}
+use Rattle.mas_top_files.proofs.Parts.{line_from}
 use Rattle.mas_top_files.proofs.Unless.{unless, unless_as}
 
 pub placed : (held : Option (List Filed)) (word : List ℕ) (p q : ProjectText) → HasFile most_bytes held word (λ bytes. IsProject bytes p) →

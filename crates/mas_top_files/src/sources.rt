@@ -84,7 +84,7 @@ fn count_in(line: &AgentLine) -> u32
 }
 
 /// What the file of a line describes, or why it is refused.
-#[tactic(auto, using(crate::proofs::SourceParts::role))]
+#[tactic(auto, using(crate::proofs::Parts::role))]
 fn role_of<S: Shelf>(alloc: Global, line: &AgentLine, shelf: &mut S) -> Result<Role, Status>
     ensures same { S.holds shelf.new ≡ S.holds shelf.old }
     ensures later { S.faults shelf.old ≤ S.faults shelf.new }
@@ -99,7 +99,7 @@ fn role_of<S: Shelf>(alloc: Global, line: &AgentLine, shelf: &mut S) -> Result<R
 }
 
 /// What the files of these lines describe, or why one of them is refused.
-#[tactic(auto, using(crate::proofs::SourceParts::begins, crate::proofs::SourceParts::more, crate::proofs::SourceParts::ends, crate::proofs::SourceParts::stops))]
+#[tactic(auto, using(crate::proofs::Parts::begins, crate::proofs::Parts::more, crate::proofs::Parts::ends, crate::proofs::Parts::stops))]
 fn roles_of<S: Shelf>(
     alloc: Global,
     lines: &[AgentLine],
@@ -125,7 +125,7 @@ fn roles_of<S: Shelf>(
 }
 
 /// The world that a project names, where it names one and there are artifacts of these names.
-#[tactic(auto, using(crate::proofs::SourceParts::world_read, crate::proofs::SourceParts::world_unread))]
+#[tactic(auto, using(crate::proofs::Parts::world_read, crate::proofs::Parts::world_unread))]
 fn world_if<S: Shelf>(
     alloc: Global,
     known: &Names,
@@ -150,7 +150,7 @@ fn world_if<S: Shelf>(
 
 /// What the files of a project describe, its agents having these names, where there are artifacts of the known names;
 /// that of the world is read first.
-#[tactic(auto, using(crate::proofs::SourceParts::world_first, crate::proofs::SourceParts::then_agents))]
+#[tactic(auto, using(crate::proofs::Parts::world_first, crate::proofs::Parts::then_agents))]
 pub fn described<S: Shelf>(
     alloc: Global,
     known: &Names,

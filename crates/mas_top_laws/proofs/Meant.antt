@@ -1,10 +1,9 @@
 -- What is read means terms, formulas and calls that are so.
-use Rattle.std.proofs.Common.{◌≡◌, ◌==◌, ◌||◌, ◌&&◌, ℕ, suc, Bool, true, false, if◌then◌else◌, List, [], ◌∷◌, ◌++◌, map, length, Option, Some, None, refl}
-use Rattle.std.proofs.Common.{sym, ap, ◌∙◌, subst, codes, pos}
+use Rattle.std.proofs.Common.{◌≡◌, ◌||◌, ℕ, suc, Bool, true, false, not, cond, if◌then◌else◌, List, [], ◌∷◌, ◌++◌, map, length, Option, Some, None, refl}
+use Rattle.std.proofs.Common.{sym, ap, ◌∙◌, subst, pos}
 use Rattle.std.proofs.Common as common
-use Rattle.std.proofs.lemmas.Slice.Eq.{bytes_eq-Decides}
 use Rattle.std.specs.List.{AllByRecursion}
-use Rattle.std.specs.Option.{option_map}
+use Rattle.std.specs.Option.{option_map, option_map_or}
 use Rattle.asl_term.specs.declared.syntax.ArgOf.{ArgOf}
 use Rattle.asl_term.specs.declared.syntax.ArgOf.TheVariants.{Plain, Logic}
 use Rattle.asl_term.specs.declared.syntax.CallOf.{CallOf}
@@ -18,6 +17,11 @@ use Rattle.asl_term.specs.declared.syntax.Term.{Term}
 use Rattle.asl_term.specs.declared.syntax.Term.TheVariants as term
 use Rattle.asl_term.specs.Exprs.{map_arg}
 use Rattle.asl_term.proofs.Exprs.{fold_true, fold_false}
+use Rattle.asl_term_actions.specs.declared.action.Action.{Action}
+use Rattle.asl_term_actions.specs.declared.action.Action.TheVariants as action
+use Rattle.asl_term_actions.specs.declared.action.Deed.TheVariants as deed
+use Rattle.asl_term_actions.specs.Actions.{named}
+use Rattle.asl_term_actions.specs.Actions as actions
 use Rattle.asl_unify.specs.inner.Costs.{total}
 use Rattle.asl_lint_laws.specs.Fresh.{late, arg_count, expr_count, expr_count_step, ExprBelow}
 use Rattle.asl_lint_laws.proofs.Exprs.{count_holds, count_rel, count_inner, count_not, count_and, count_or}
@@ -29,7 +33,7 @@ use Rattle.asl_parser_tree.specs.declared.meaning.Meaning.TheVariants as meaning
 use Rattle.asl_parser_tree.specs.declared.meaning.Prefix.{Prefix}
 use Rattle.asl_parser_tree.specs.declared.meaning.Prefix.TheVariants as prefix
 use Rattle.asl_parser_tree.specs.declared.leaves.BracketShape.{BracketShape}
-use Rattle.asl_parser_tree.specs.Meanings.{◌>>=◌, arith, atom, truth_name, is_pure, is_on_goals, is_deed, wants_formula, as_term, as_formula, as_terms}
+use Rattle.asl_parser_tree.specs.Meanings.{◌>>=◌, arith, atom, truth_name, is_pure, is_deed, wants_formula, as_term, as_formula, as_terms}
 use Rattle.asl_parser_tree.specs.Meanings.{both_terms, both_formulas, joined, compared, prefixed, as_arg, as_args, called}
 use Rattle.asl_parser_expr.specs.Grammar.{Rule, Reads, just_or, just_and, just_negation, just_relation, just_sum, just_product, just_signed, chained, related}
 use Rattle.asl_parser_expr.specs.Grammar.{negated, subtracted, a_number, a_negative, a_string, a_variable, a_truth, a_literal, a_list, in_brackets, a_call}
@@ -194,27 +198,22 @@ args_good name place (m ∷ ms) g xs e =
     subst (ArgsGood (length (m ∷ ms))) (some_is (a.value ∷ b.value) xs b.rest)
     (record { args = (arg_good (wants_formula name place) m g.0 a.value a.is, r.args); count = ap suc r.count })
 
-or_false : (a : Bool) → (a || false) ≡ true → a ≡ true
-or_false true e = refl
-or_false false e = e
+-- it stands in formulas, or in bodies alone
+abbrev stands : Option Action → Bool
+stands o = option_map_or actions.stands_in_formula o false || option_map_or (λ x. not (actions.stands_in_formula x)) o false
 
--- calls that are known take as many arguments as lint looks for
-known_send : (n : ℕ) → (is_pure (codes "send") n || is_deed (codes "send") n) ≡ true → ((n == 3) || (n == 4)) ≡ true
-unfolding is_pure is_deed is_on_goals
-known_send n e = or_false ((n == 3) || (n == 4)) (or_false (((n == 3) || (n == 4)) || false) e)
-
-known_broadcast : (n : ℕ) → (is_pure (codes "broadcast") n || is_deed (codes "broadcast") n) ≡ true → (n == 2) ≡ true
-unfolding is_pure is_deed is_on_goals
-known_broadcast n e = or_false (n == 2) e
+-- what is known with so many arguments takes so many
+takes : (name : List ℕ) (n : ℕ) (a : Action) → (is_pure name n || is_deed name n) ≡ true → named name ≡ Some a → actions.takes a n ≡ true
+unfolding is_pure is_deed
+takes name n a e is = go (actions.takes a n) (subst (λ o. stands (actions.if_takes o n) ≡ true) is e) where
+  go : (b : Bool) → stands (cond b (Some a) None) ≡ true → b ≡ true
+  go true h = refl
+  go false h = h
 
 has_arity : (name : List ℕ) (args : List (ArgOf Expr)) → (is_pure name (length args) || is_deed name (length args)) ≡ true → HasArity (record { name = name; args = args })
 has_arity name args e = record {
-  send = λ d.
-      let is : name ≡ codes "send" = (bytes_eq-Decides name (codes "send")).0 d in
-      ap (λ b. b && ((length args == 3) || (length args == 4))) d ∙ known_send (length args) (subst (λ z. (is_pure z (length args) || is_deed z (length args)) ≡ true) is e);
-  broadcast = λ d.
-      let is : name ≡ codes "broadcast" = (bytes_eq-Decides name (codes "broadcast")).0 d in
-      ap (λ b. b && (length args == 2)) d ∙ known_broadcast (length args) (subst (λ z. (is_pure z (length args) || is_deed z (length args)) ≡ true) is e);
+  send = takes name (length args) (action.Does deed.Send) e;
+  broadcast = takes name (length args) (action.Does deed.Broadcast) e;
 }
 
 called_good : (name : List ℕ) (ms : List Meaning) (m : Meaning) → AllByRecursion IsGood ms → called name ms ≡ Some m → IsGood m

@@ -1,7 +1,6 @@
 -- What the rows for the current stack keep: an action that they hand on has no variable, the stacks that run stay, and one
 -- waits for its action exactly where they hand one on.
-use Rattle.std.specs.Prelude.{◌≡◌, ℕ, Bool, true, false, cond, if◌then◌else◌, refl, List, [], ◌∷◌, ◌++◌, Option, None, Some, is_some, Ok, Err, codes}
-use Rattle.std.specs.Str.{bytes_eq}
+use Rattle.std.specs.Prelude.{◌≡◌, ℕ, Bool, true, false, cond, if◌then◌else◌, refl, List, [], ◌∷◌, ◌++◌, Option, None, Some, is_some, Ok, Err}
 use Rattle.std.proofs.Common.{sym, ap, ◌∙◌}
 use Rattle.asl_term.specs.declared.syntax.LiteralOf.{LiteralOf}
 use Rattle.asl_term.specs.declared.syntax.CallOf.{CallOf}
@@ -12,6 +11,9 @@ use Rattle.asl_term.specs.declared.syntax.Expr.TheVariants as expr
 use Rattle.asl_term.specs.declared.syntax.Formula.{Formula}
 use Rattle.asl_term.specs.declared.syntax.Formula.TheVariants as formula
 use Rattle.asl_term.specs.Exprs.{is_ground_literal}
+use Rattle.asl_term_actions.specs.declared.action.Action.{Action}
+use Rattle.asl_term_actions.specs.declared.action.Action.TheVariants as action
+use Rattle.asl_term_actions.specs.Actions as actions
 use Rattle.asl_unify.specs.Applied.{within_formula}
 use Rattle.asl_unify.specs.Comparing.{Holding, Gives, Fails, Passes, holds}
 use Rattle.asl_unify.specs.Settling.{Settled, settle_formula}
@@ -29,7 +31,6 @@ use Rattle.asl_exec_circumstance.specs.declared.rows.Row.{Row}
 use Rattle.asl_exec_circumstance.specs.declared.rows.Row.TheVariants as row
 use Rattle.asl_exec_circumstance.specs.declared.went.Went.{Went}
 use Rattle.asl_exec_circumstance.specs.declared.went.Went.TheVariants as went
-use Rattle.asl_exec.specs.Said.{print_text}
 use Rattle.asl_exec_circumstance.specs.Circumstance.{Surroundings, Circumstance, Made, made, failed}
 use Rattle.asl_exec.specs.Exec as spec
 use Rattle.asl_exec_circumstance.specs.Sought.{sought}
@@ -156,23 +157,14 @@ module _ (k : Surroundings) (p : Circumstance) (cur : List Means) where
   replaces b = either Kept (is_ground_literal b) (spec.changed row.RepBel p cur (replaced b p.beliefs)) (failed k row.ExecFree error.NotGround p cur)
       (record { sound = tt; running = refl; held = none_held }) (fallen row.ExecFree error.NotGround tt)
 
-  abbrev deed_or : CallOf Expr → Made
-  deed_or c = cond (spec.is_deed c.name) (made p cur (went.Outer c)) (spec.searched k p cur c)
-
-  abbrev fails_first : CallOf Expr → Made
-  fails_first c = cond (bytes_eq c.name (codes "fail")) (failed k row.IaFail error.IaFailed p cur) (deed_or c)
-
-  deeds : (c : CallOf Expr) → Named ≡ dropped_by_call c → Kept (deed_or c)
-  deeds c is = either Kept (spec.is_deed c.name) (made p cur (went.Outer c)) (spec.searched k p cur c)
-      (record { sound = is; running = refl; held = none_held }) (answers (sought k p (expr.Inner c)))
-
-  fails_or : (c : CallOf Expr) → Named ≡ dropped_by_call c → Kept (fails_first c)
-  fails_or c is = either Kept (bytes_eq c.name (codes "fail")) (failed k row.IaFail error.IaFailed p cur) (deed_or c)
-      (fallen row.IaFail error.IaFailed tt) (deeds c is)
+  inners_by : (c : CallOf Expr) (o : Option Action) → Named ≡ dropped_by_call c → Kept (spec.of_action k p cur c o)
+  inners_by c (Some action.Print) is = record { sound = tt; running = refl; held = none_held }
+  inners_by c (Some action.Fail) is = fallen row.IaFail error.IaFailed tt
+  inners_by c (Some (action.Does d)) is = record { sound = is; running = refl; held = none_held }
+  inners_by c other is = answers (sought k p (expr.Inner c))
 
   inners : (c : CallOf Expr) → Named ≡ dropped_by_call c → Kept (spec.inner k p cur c)
-  inners c is = either Kept (bytes_eq c.name (codes "print")) (made p (without_head cur) (went.Say (print_text c.args))) (fails_first c)
-      (record { sound = tt; running = refl; held = none_held }) (fails_or c is)
+  inners c is = inners_by c (actions.named c.name) is
 
   formulas : (f : Formula) → Named ≡ dropped_by_settled (Ok f) → Kept (spec.of_formula k p cur f)
   formulas (formula.Act l) is = acts_by l (is_ground_literal l) refl

@@ -52,8 +52,9 @@ nothing_sent me n (thought.Outs o) f q = f.quiet q
 nothing_sent me n thought.Spent f q = cc
 
 -- a quiet cycle has no message
-quiet_feeds : (k : Surroundings) (peers : Peers) (p : Circumstance) (s : Sofar) (kept : Option Feedback) (m : Option Message) → IsCalm peers.me (length peers.names) s
-    → is_quiet (spec.from_feed k peers p s kept m).thought ≡ true → SendsNothing (spec.from_feed k peers p s kept m).thought
+quiet_feeds : (k : Surroundings) (peers : Peers) (p : Circumstance) (s : Sofar) (kept : Option Feedback) (m : Option Message)
+    → IsCalm peers.me (length peers.names) s → is_quiet (spec.from_feed k peers p s kept m).thought ≡ true
+    → SendsNothing (spec.from_feed k peers p s kept m).thought
 quiet_feeds k peers p s kept None h q =
     nothing_sent peers.me (length peers.names) (spec.from_feed k peers p s kept None).thought (feeds_fine k peers p s kept None tt h) q
 quiet_feeds k peers p s kept (Some m) h q = clash q (feeds_message k peers p s kept m)
@@ -74,8 +75,8 @@ sender_of me agents None h = tt
 sender_of me agents (Some m) h = h.sender
 
 -- the thought of a cycle that came to this
-pub lawful_of : (k : Surroundings) (peers seen : Peers) (p q : Circumstance) (asks next : ℕ) (kept : Option Feedback) (i : Input) (ls : List TraceLine) (t : Thought)
-    → peers ≡ seen → IfSome i.message (IsFor seen.me (length seen.names))
+pub lawful_of : (k : Surroundings) (peers seen : Peers) (p q : Circumstance) (asks next : ℕ) (kept : Option Feedback)
+    → (i : Input) (ls : List TraceLine) (t : Thought) → peers ≡ seen → IfSome i.message (IsFor seen.me (length seen.names))
     → spec.cycle k peers p asks kept i ≡ record { parts = q; asks = next; lines = ls; thought = t } → AreLawful seen.me (length seen.names) t
 lawful_of k peers seen p q asks next kept i ls t same sent e =
     let agents = length seen.names in
@@ -129,7 +130,8 @@ module _ (k : Surroundings) (peers : Peers) where
       clash q (rel k peers w.parts (written s w) v (is_loud s.lines (line.Rule row.SelEv1) [] refl))
 
 module _ (k : Surroundings) (peers : Peers) where
-  mail_stays : (p : Circumstance) (s : Sofar) (m : Option Message) → is_quiet (spec.from_msg k peers p s m).thought ≡ true → Stays p (spec.from_msg k peers p s m)
+  mail_stays : (p : Circumstance) (s : Sofar) (m : Option Message) → is_quiet (spec.from_msg k peers p s m).thought ≡ true
+      → Stays p (spec.from_msg k peers p s m)
   mail_stays p s None q = ev_stays (taught k p.number None) peers p (written s (by row.Msg0 p [] true)) p.agenda.events refl q
   mail_stays p s (Some m) q = clash q (reads k peers p s m)
 

@@ -1,5 +1,5 @@
 -- Whatever an agent sends is from itself, and to one of the agents.
-use Rattle.std.specs.Prelude.{◌≤◌, ◌+◌, ℕ, suc, Bool, true, false, cond, if◌then◌else◌, eqb, refl, codes}
+use Rattle.std.specs.Prelude.{◌≤◌, ◌+◌, ℕ, suc, Bool, true, false, cond, if◌then◌else◌, eqb, refl}
 use Rattle.std.specs.Prelude.{List, [], ◌∷◌, ◌++◌, length, slice_get, Option, None, Some, IfSome, All, Result, Ok, Err}
 use Rattle.std.specs.Option.{option_map}
 use Rattle.std.specs.Str.{bytes_eq}
@@ -12,6 +12,12 @@ use Rattle.asl_term.specs.declared.syntax.CallOf.{CallOf}
 use Rattle.asl_term.specs.declared.syntax.Expr.{Expr}
 use Rattle.asl_term.specs.declared.syntax.LiteralOf.{LiteralOf}
 use Rattle.asl_term.specs.declared.syntax.Term.{Term}
+use Rattle.asl_term_actions.specs.declared.action.Action.{Action}
+use Rattle.asl_term_actions.specs.declared.action.Action.TheVariants as action
+use Rattle.asl_term_actions.specs.declared.action.Deed.TheVariants as deed
+use Rattle.asl_term_actions.specs.declared.action.LiteralDeed.{LiteralDeed}
+use Rattle.asl_term_actions.specs.declared.action.LiteralDeed.TheVariants as literal_deed
+use Rattle.asl_term_actions.specs.Actions as actions
 use Rattle.asl_unify.specs.declared.subst.Pair.{Pair}
 use Rattle.asl_intend.specs.declared.entry.Means.{Means}
 use Rattle.asl_intend.specs.declared.agenda.Agenda.{Agenda}
@@ -168,31 +174,32 @@ module _ (k : Surroundings) (peers : Peers) (asks : ℕ) (p : Circumstance) (cur
       pick (λ r. Fit (spec.sent_all k asks p cur r)) (sending.is_ask v) {x = Err (why.Argument 0)} {y = r}
       (refuses (why.Argument 0)) (spreads_content v (sending.content_at v args 1))
 
-  about : (name : List ℕ) (g : LiteralOf Term) → Fit (spec.about k asks p cur name g)
-  about name g =
-      pick Fit (bytes_eq name (codes "drop_intention")) (drops (without_intentions g p.agenda) (has_goal g cur))
-      (pick Fit (bytes_eq name (codes "drop_desire")) (drops (without_desires g p.agenda) (has_goal g cur))
-      (pick Fit (bytes_eq name (codes "succeed_goal")) (ends way.Succeed g)
-      (pick Fit (bytes_eq name (codes "fail_goal")) (ends way.Fail g)
-      (pick Fit (bytes_eq name (codes "intend")) (looks (goals.first_goal false g p.agenda cur))
-      (pick Fit (bytes_eq name (codes "desire")) (looks (goals.first_goal true g p.agenda cur))
-      (pick Fit (bytes_eq name (codes "abolish")) {x = spec.abolish k asks p cur g} (record { posts = tt })
-      (refuses (why.Argument 0))))))))
+  about : (d : LiteralDeed) (g : LiteralOf Term) → Fit (spec.about k asks p cur d g)
+  about literal_deed.DropIntention g = drops (without_intentions g p.agenda) (has_goal g cur)
+  about literal_deed.DropDesire g = drops (without_desires g p.agenda) (has_goal g cur)
+  about literal_deed.SucceedGoal g = ends way.Succeed g
+  about literal_deed.FailGoal g = ends way.Fail g
+  about literal_deed.Intend g = looks (goals.first_goal false g p.agenda cur)
+  about literal_deed.Desire g = looks (goals.first_goal true g p.agenda cur)
+  about literal_deed.Abolish g = record { posts = tt }
 
-  about_literal : (name : List ℕ) (o : Option (LiteralOf Term)) → Fit (spec.about_literal k asks p cur name o)
-  about_literal name None = refuses (why.Argument 0)
-  about_literal name (Some g) = about name g
+  about_literal : (d : LiteralDeed) (o : Option (LiteralOf Term)) → Fit (spec.about_literal k asks p cur d o)
+  about_literal d None = refuses (why.Argument 0)
+  about_literal d (Some g) = about d g
 
-  about_term : (name : List ℕ) (o : Option Term) → Fit (spec.about_term k asks p cur name o)
-  about_term name None = refuses (why.Argument 0)
-  about_term name (Some t) = about_literal name (literal_of t)
+  about_term : (d : LiteralDeed) (o : Option Term) → Fit (spec.about_term k asks p cur d o)
+  about_term d None = refuses (why.Argument 0)
+  about_term d (Some t) = about_literal d (literal_of t)
+
+  acts_by : (args : List (ArgOf Expr)) (o : Option Action) → Fit (spec.act_by k asks p cur peers args o)
+  acts_by args (Some (action.Does (deed.OnLiteral d))) = about_term d (sending.term_at args 0)
+  acts_by args (Some (action.Does deed.Send)) = sends args (sending.letter peers.names args) (addressed peers.names args)
+  acts_by args (Some (action.Does deed.Broadcast)) = spreads_verb args (sending.verb_at args 0)
+  acts_by args (Some (action.Does deed.StopMas)) = record { posts = tt }
+  acts_by args other = refuses (why.Argument 0)
 
   acts : (c : CallOf Expr) → Fit (spec.act k asks p cur peers c)
-  acts c =
-      pick Fit (bytes_eq c.name (codes "send")) (sends c.args (sending.letter peers.names c.args) (addressed peers.names c.args))
-      (pick Fit (bytes_eq c.name (codes "broadcast")) {x = spec.broadcast k asks p cur peers c.args} (spreads_verb c.args (sending.verb_at c.args 0))
-      (pick Fit (bytes_eq c.name (codes "stopMAS")) {x = spec.stop k asks p cur} (record { posts = tt })
-      (about_term c.name (sending.term_at c.args 0))))
+  acts c = acts_by c.args (actions.named c.name)
 
 pub deed_posts : (k : Surroundings) (peers : Peers) (asks : ℕ) (p : Circumstance) (cur : List Means) (c : CallOf Expr)
     → AreFrom peers.me (length peers.names) (spec.act_inside k peers asks p cur c).acted

@@ -3,7 +3,7 @@ use Rattle.std.proofs.lemmas.Iterator.Adapters.{YieldsList-from_vec}
 use Rattle.std.proofs.lemmas.Iterator.Consumers.{YieldsList-end}
 use Rattle.asl_term.specs.declared.syntax.Clause.{Clause}
 use Rattle.asl_intend.specs.declared.entry.Means.{Means}
-use Rattle.asl_exec_circumstance.specs.Circumstance.{Circumstance, around}
+use Rattle.asl_exec_circumstance.specs.Circumstance.{Circumstance, around, seen}
 use Rattle.asl_goals.specs.Goals.{from_lowest, in_place, with_running}
 use Rattle.asl_goals.proofs.Folds.{goes_on_as, finished}
 use Rattle.asl_goals.proofs.sweep.sweep_running.Goals as goal
@@ -28,7 +28,8 @@ returns-clause-made g c =
     let all = a.p.now.agenda.running in
     let i = c.into_iter-stack-iterator.ensures.into_iter_gives in
     let n : c.into_iter-stack-iterator.result.rest.len ≡ length c.into_vec-stack-items.result.items = search rules in
-    let items = c.into_vec-stack-items.ensures ∙ c.replace-running.ensures.value in
+    let items = c.into_vec-stack-items.ensures ∙ c.take_all-running.ensures.items in
     let e = YieldsList-end (YieldsList-from_vec all (i.0 ∙ items) (n ∙ ap length items)) l.yielded l.stack-iterator l.yielded_by c.next.result c.next.new.self c.in-None.is c.next.ensures.steps in
     let s = finished _ _ _ _ _ _ _ _ l.invariant.sofar (sym (map-id l.yielded) ∙ e.0) in
-    (λ j. with_running (s.parts j) (s.left j), s.fell)
+    let now = seen g.B.BeliefBase.beliefs l.p in
+    (ap (with_running now) c.from_seq.ensures ∙ (λ j. with_running (s.parts j) (s.left j)), s.fell)

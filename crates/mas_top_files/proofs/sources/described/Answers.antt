@@ -1,6 +1,6 @@
 use Rattle.std.proofs.Common.{subst}
 use Rattle.mas_top_files.specs.Sources.{LineRefused, UnlessMemory, HasWorld}
-use Rattle.mas_top_files.proofs.SourceParts.{then_agents}
+use Rattle.mas_top_files.proofs.Parts.{then_agents}
 use Rattle.mas_top_files.proofs.sources.described.Goals as goal
 
 -- src/sources.rt:112:1

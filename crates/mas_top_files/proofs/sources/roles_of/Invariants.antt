@@ -1,5 +1,5 @@
 use Rattle.std.proofs.Common.{◌≡◌, ◌≤◌, length}
-use Rattle.mas_top_files.proofs.SourceParts.{ReadUpTo}
+use Rattle.mas_top_files.proofs.Parts.{ReadUpTo}
 use Rattle.mas_top_files.proofs.sources.roles_of.Given as goal
 
 abbrev pub invariant-lines : goal.invariant-lines

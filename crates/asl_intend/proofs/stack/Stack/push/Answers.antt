@@ -8,5 +8,5 @@ returns-clause-ok c =
     let log = c.self.inside.log in
     on_ok_weaker c.put_last.result (λ e. (
     logs.pushed log c.self.inside.entries.items c.put_last.new.entries.items _ e
-    ∙ (λ i. logs.seen_pushed log c.in_ok-own.own c.args.s.now c.len-since.result c.args.m c.len-since.ensures c.in_ok-own.ensures.value i ∷ c.self.view_is i)
+    ∙ (λ i. logs.seen_pushed log c.args.own c.len-since.result c.args.m c.from_seq-body.result c.len-since.ensures c.from_seq-body.ensures i ∷ c.self.view_is i)
     )) c.put_last.ensures.ok

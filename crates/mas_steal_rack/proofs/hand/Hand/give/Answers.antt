@@ -7,4 +7,4 @@ returns-in-Ok-clause-moved g c = put_own g.T.ReadyAgent.number g.T.ReadyAgent.ho
 
 pub returns-in-Err-clause-moved : goal.returns-in-Err-clause-moved
 returns-in-Err-clause-moved g c =
-    put_listed g.T.ReadyAgent.number g.T.ReadyAgent.home g.T.ReadyAgent.ready c.args.self.now _ c.args.agent c.in-Err.back c.in-Err.ensures.rule.0 refl refl c.put_last.ensures refl c.in-Err.ensures.rule.1
+    put_listed g.T.ReadyAgent.number g.T.ReadyAgent.home g.T.ReadyAgent.ready c.args.self.now _ c.args.agent c.in-Err.back c.in-Err.ensures.rule.0 refl refl c.push_back_reserved.ensures.items refl c.in-Err.ensures.rule.1
