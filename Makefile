@@ -1,5 +1,5 @@
-# make              proves and builds jasonrun and chart, in crates/*/out (the first time takes hours: docs/PERFORMANCE.md)
-# make install      puts the two programs, the manual page, the completions and the files of editors into PREFIX
+# make              proves and builds jasonrun, jasonlook and chart, in crates/*/out (the first time takes hours: docs/PERFORMANCE.md)
+# make install      puts the three programs, the manual pages, the completions and the files of editors into PREFIX
 # make uninstall    removes them
 # make dist         packs them, for x86-64 Linux, into dist/; SHA256SUMS there has the checksum
 
@@ -10,6 +10,7 @@ PREFIX = $(HOME)/.local
 DESTDIR =
 
 JASONRUN = crates/jasonrun/out/jasonrun
+JASONLOOK = crates/jasonlook/out/jasonlook
 CHART = crates/chart/out/chart
 
 to = $(DESTDIR)$(PREFIX)
@@ -23,7 +24,7 @@ own = $(to)/share/jasonrun
 name := jasonrun-$(shell cat VERSION)-$(shell git describe --always --dirty --exclude '*' 2>/dev/null || echo unknown)-x86_64-linux
 time := $(shell git log -1 --format=%ct 2>/dev/null || stat -c %Y VERSION)
 
-all: $(JASONRUN) $(CHART)
+all: $(JASONRUN) $(JASONLOOK) $(CHART)
 
 # `rt run` proves what is not proved, builds it and runs it. Where the text of the program is the same it builds nothing, so the file gets its time here:
 # that at which the proof began.
@@ -31,6 +32,13 @@ $(JASONRUN): crates.txt $(shell find crates/*/src crates/*/specs crates/*/proofs
 	mkdir -p $(@D)
 	touch $@.begun
 	cd crates/jasonrun && rt run -- demo 1 >/dev/null
+	touch -r $@.begun $@
+	rm $@.begun
+
+$(JASONLOOK): crates.txt $(shell find crates/*/src crates/*/specs crates/*/proofs)
+	mkdir -p $(@D)
+	touch $@.begun
+	cd crates/jasonlook && rt run -- --version >/dev/null
 	touch -r $@.begun $@
 	rm $@.begun
 
@@ -43,15 +51,17 @@ $(CHART): $(shell find crates/chart/src crates/chart/specs crates/chart/proofs)
 
 install: all
 	install -d "$(bin)" "$(man)" "$(bash)" "$(zsh)" "$(fish)" "$(own)"
-	install -m 755 $(JASONRUN) $(CHART) "$(bin)"
-	install -m 644 docs/jasonrun.1 "$(man)"
+	install -m 755 $(JASONRUN) $(JASONLOOK) $(CHART) "$(bin)"
+	install -m 644 docs/jasonrun.1 docs/jasonlook.1 "$(man)"
 	install -m 644 completions/jasonrun.bash "$(bash)/jasonrun"
-	install -m 644 completions/_jasonrun "$(zsh)"
-	install -m 644 completions/jasonrun.fish "$(fish)"
+	install -m 644 completions/jasonlook.bash "$(bash)/jasonlook"
+	install -m 644 completions/_jasonrun completions/_jasonlook "$(zsh)"
+	install -m 644 completions/jasonrun.fish completions/jasonlook.fish "$(fish)"
 	cp -r editors LICENSE-MIT LICENSE-APACHE "$(own)"
 
 uninstall:
-	rm -f "$(bin)/jasonrun" "$(bin)/chart" "$(man)/jasonrun.1" "$(bash)/jasonrun" "$(zsh)/_jasonrun" "$(fish)/jasonrun.fish"
+	rm -f "$(bin)/jasonrun" "$(bin)/jasonlook" "$(bin)/chart" "$(man)/jasonrun.1" "$(man)/jasonlook.1"
+	rm -f "$(bash)/jasonrun" "$(zsh)/_jasonrun" "$(fish)/jasonrun.fish" "$(bash)/jasonlook" "$(zsh)/_jasonlook" "$(fish)/jasonlook.fish"
 	rm -rf "$(own)"
 
 # The programs are stripped, so their checksums are others than those of crates/*/out.

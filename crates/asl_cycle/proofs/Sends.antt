@@ -20,7 +20,10 @@ use Rattle.asl_term.specs.contracts.syntax.Clause as clause
 use Rattle.asl_term.specs.contracts.syntax.Formula as formula
 use Rattle.asl_term.specs.contracts.syntax.Plan as plan
 use Rattle.asl_term.specs.contracts.syntax.Trigger as trigger
+use Rattle.asl_unify.proofs.log.Index.TheSendSync as index
 use Rattle.asl_unify.proofs.slots.Slots.TheSendSync as slots
+use Rattle.asl_unify.specs.contracts.log.Log as log
+use Rattle.asl_unify.specs.contracts.log.Log.TheInside as log_inside
 use Rattle.asl_unify.specs.contracts.subst.Pair as pair
 use Rattle.asl_unify.specs.contracts.subst.Subst as bound
 use Rattle.asl_unify.specs.contracts.subst.Subst.TheInside as bound_inside
@@ -96,7 +99,7 @@ library_send = view_send library_inside.the_row _ _ _ _ (declared_send library_i
 store_send : IsSend store.the_row
 store_send = view_send store_inside.the_row _ _ _ _ (declared_send store_inside.the_type (
   search (sendable, as_row_send, seq_send, literal.the_field_send, literal.the_send, term_send) depth 14,
-  (frames_send, (keys_send, (search sendable, (search (sendable, as_row_send, seq_send) depth 14, tt)))),
+  (frames_send, (keys_send, (search sendable, (search (sendable, as_row_send, seq_send) depth 14, (search (sendable, as_row_send, seq_send) depth 14, tt))))),
 ))
 
 indexed_send : IsSend indexed.the_row
@@ -116,8 +119,11 @@ first_send = search (sendable, as_row_send, formula_field_send) depth 16
 entry_send : IsSend entry.the_row
 entry_send = search (sendable, as_row_send, queue_send, trigger_field_send, subst_send, first_send, formula_send) depth 20
 
+log_send : IsSend log.the_row
+log_send = view_send log_inside.the_row _ _ _ _ (declared_send log_inside.the_type (seq_send _ subst_send, (search (sendable, as_row_send, crosses, index.the_send) depth 14, tt)))
+
 stack_send : IsSend stack.the_row
-stack_send = view_send stack_inside.the_row _ _ _ _ (declared_send stack_inside.the_type (seq_send _ subst_send, (search (sendable, as_row_send, crosses, entry_send) depth 16, tt)))
+stack_send = view_send stack_inside.the_row _ _ _ _ (declared_send stack_inside.the_type (log_send, (search (sendable, as_row_send, crosses, entry_send) depth 16, tt)))
 
 event_send : IsSend event.the_row
 event_send = search (sendable, as_row_send, trigger_field_send, stack_send, error.the_field_send) depth 20

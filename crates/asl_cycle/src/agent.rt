@@ -12,12 +12,14 @@ use asl_exec_circumstance::parts::{Circumstance, Surroundings};
 use asl_exec_circumstance::peers::{Peers, agent_name};
 use asl_exec_circumstance::shared::SharedNames;
 use asl_index::indexed::Indexed;
+use asl_intend::agenda::Agenda;
 use asl_intend::opening::agenda;
+use asl_plans::entry::OwnedPlan;
 use asl_plans::library::Library;
 use asl_resolve::answers::Budgets;
 use asl_stdlib::standard::StandardActions;
 use asl_term::sequence::{Seq, Starved};
-use asl_term::syntax::{AgentText, Text};
+use asl_term::syntax::{AgentText, Clause, Literals, Text};
 use mas_mind::mind::{Feedback, Input, Level, Thought};
 use mas_mind::thinking::Mind;
 use std::alloc::Global;
@@ -126,6 +128,44 @@ pub fn open_agent(
         peers: Peers { names, me },
         text: Seq::new(alloc),
     })
+}
+
+/// What can be read of an agent between two cycles.
+impl Agent {
+    /// Its events, and its stacks.
+    pub fn agenda(&self) -> &Agenda
+        ensures { result.now ≡ self.now.parts.agenda }
+    {
+        &self.parts.agenda
+    }
+
+    /// Its plans, each with those who it is from.
+    pub fn plans(&self) -> &[OwnedPlan]
+        ensures { result.now ≡ self.now.plans }
+    {
+        self.around.lib.all()
+    }
+
+    /// Its rules.
+    pub fn rules(&self) -> &[Clause]
+        ensures { result.now ≡ self.now.rules }
+    {
+        self.parts.beliefs.all_rules()
+    }
+
+    /// Equal beliefs, in the order of its own.
+    pub fn copy_beliefs(&self, alloc: Global) -> Result<Literals, Starved>
+        ensures { IfOk result (λ r. r ≡ self.now.parts.beliefs) }
+    {
+        self.parts.beliefs.copy_beliefs(alloc)
+    }
+
+    /// What it was told of its action, and has not used yet.
+    pub fn kept(&self) -> Option<Feedback>
+        ensures { result ≡ self.now.kept }
+    {
+        self.kept
+    }
 }
 
 /// Whether a thought has an action, so that feedback is due.

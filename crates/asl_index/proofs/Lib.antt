@@ -8,3 +8,5 @@ pub mod Forgetting
 pub mod Packs
 pub mod Quiet
 pub mod Perceiving
+pub mod Passing
+pub mod Kept

@@ -4,7 +4,8 @@ ghost use Rattle.std.specs.Prelude.{◌≡◌, ◌++◌, true, refl, IfOk, OnOk}
 ghost use Rattle.asl_beliefs.specs.Bases.{AreBeliefs, all_ground, facts_of, opening, opening_base};
 
 use crate::adding::add_to;
-use crate::finding::{body_of, count_of, head_pairs_of, heads_of, is_rule_at};
+use crate::finding::{body_of, count_of, head_pairs_of, heads_of, is_rule_at, next_of};
+use crate::listed::copy_kept;
 use crate::rules::file_rules;
 use crate::store::Store;
 use crate::taking::{abolish_from, remove_from};
@@ -16,7 +17,7 @@ use asl_beliefs::updating::as_percepts;
 use asl_index_tables::frames::Frames;
 use asl_term::measure::ground_literal;
 use asl_term::sequence::{Seq, Starved};
-use asl_term::syntax::{AgentText, Clauses, Expr, Literal, Literals, Trigger, Triggers};
+use asl_term::syntax::{AgentText, Clause, Clauses, Expr, Literal, Literals, Trigger, Triggers};
 use asl_unify::facts::Facts;
 use asl_unify::matching::Substs;
 use asl_unify::subst::{PairLists, Subst};
@@ -78,6 +79,20 @@ impl Indexed {
         })
     }
 
+    /// Equal beliefs, in order.
+    pub fn copy_beliefs(&self, alloc: Global) -> Result<Literals, Starved>
+        ensures { IfOk result (λ r. r ≡ self.now.beliefs) }
+    {
+        copy_kept(alloc, &self.store)
+    }
+
+    /// The rules, in the order of the source.
+    pub fn all_rules(&self) -> &[Clause]
+        ensures { result.now ≡ self.now.rules }
+    {
+        self.rules.as_slice()
+    }
+
     /// What holds of every belief base of this kind.
     pub fn law(&self)
         ensures { AreBeliefs self.now.beliefs }
@@ -91,6 +106,10 @@ impl Facts for Indexed {
 
     fn count(&self, g: &Literal) -> u64 {
         count_of(&self.store, &self.rules, &self.frames, g)
+    }
+
+    fn next(&self, g: &Literal, k: u64) -> u64 {
+        next_of(&self.store, &self.rules, g, k)
     }
 
     fn heads(

@@ -8,7 +8,9 @@
 
 pub mod adding;
 pub mod finding;
+pub mod firsts;
 pub mod indexed;
+pub mod listed;
 pub mod noted;
 pub mod opening;
 pub mod rules;

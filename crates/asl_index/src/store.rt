@@ -1,16 +1,19 @@
 //! Beliefs in their order, found by sign, functor and number of arguments, or by sign, functor and arguments.
 
-ghost use Rattle.std.specs.Prelude.{◌≡◌, ◌<◌, ◌-◌, ◌^◌, ◌++◌, ◌∷◌, [], true, false, Some, None, length, filter, slice_get, slice_set, IfSome, OnOk, OnErr};
+ghost use Rattle.std.specs.Prelude.{◌≡◌, ◌<◌, ◌≤◌, ◌-◌, ◌^◌, ℕ, ◌++◌, ◌∷◌, [], true, false, Some, None, IfSome, OnOk, OnErr};
+ghost use Rattle.std.specs.Prelude.{length, filter, slice_get, slice_set};
 ghost use Rattle.std.specs.Option.{option_copied, option_map_or, is_some};
 ghost use Rattle.asl_term.specs.declared.syntax.LiteralOf.{LiteralOf};
 ghost use Rattle.asl_term.specs.declared.syntax.Term.{Term};
 ghost use Rattle.asl_unify.specs.Compare.{same_frame};
 ghost use Rattle.asl_beliefs.specs.Changes as spec;
 ghost use Rattle.asl_beliefs.specs.Sources.{with_annots};
+ghost use Rattle.asl_index_tables.specs.Firsts.{AreApart};
 ghost use Rattle.asl_index_tables.specs.Slots.{at_slot, kept, places};
 ghost use Rattle.asl_index.specs.Store.{AreFiled, AreListed, IsHeld};
 ghost use Rattle.asl_index.specs.Noted.{is_perceived};
 
+use crate::firsts::{note_behind, noted_again};
 use crate::noted::{either, may_be_perceived, may_hold, perceived_places, unless};
 use crate::slots::{BeliefSlots, filed_again, held, pack};
 use asl_beliefs::same::same_belief;
@@ -33,6 +36,8 @@ pub struct Store {
     emptied: u64,
     /// The places of what was perceived, as long as nothing of it has changed since they were noted.
     noted: Option<Numbers>,
+    /// The number of the first argument of the belief of each slot, by slot. What is noted of an empty slot says nothing.
+    firsts: Numbers,
 }
 
 /// By hand, so that a crate above that lets one go proves nothing of its parts.
@@ -44,6 +49,7 @@ impl Drop for Store {
             keys: _,
             emptied: _,
             noted: _,
+            firsts: _,
         } = self;
     }
 }
@@ -53,7 +59,7 @@ impl Model for Store {
     ghost use Rattle.asl_term.specs.declared.syntax.LiteralOf.{LiteralOf};
     ghost use Rattle.asl_term.specs.declared.syntax.Term.{Term};
     ghost use Rattle.asl_term.specs.contracts.syntax.Term as term;
-    ghost use Rattle.asl_index.specs.Store.{AreFiled, AreListed};
+    ghost use Rattle.asl_index.specs.Store.{AreFiled, AreListed, AreFirsts};
     ghost use Rattle.asl_index.specs.Noted.{AreNoted};
     ghost use Rattle.std.specs.Coded.{codes};
 
@@ -63,7 +69,7 @@ impl Model for Store {
 
     ghost view = { λ s. s.slots };
 
-    ghost invariant = { λ s. AreFiled s.slots s.frames × (AreListed s.slots s.keys × AreNoted s.slots s.noted) };
+    ghost invariant = { λ s. AreFiled s.slots s.frames × (AreListed s.slots s.keys × (AreNoted s.slots s.noted × AreFirsts s.slots s.firsts)) };
 }
 
 impl Store {
@@ -77,6 +83,7 @@ impl Store {
             keys: Keys::new(alloc),
             emptied: 0,
             noted: None,
+            firsts: Seq::new(alloc),
         }
     }
 
@@ -123,6 +130,17 @@ impl Store {
         }
     }
 
+    /// The first of these, from the k-th on, that may match by its first argument; how many there are where none may, and `k` itself
+    /// where it is not less. Those that are passed over have no match with the goal.
+    pub fn next(&self, g: &Literal, k: u64) -> u64
+        ensures from { k ≤ result }
+        ensures within { k < result → result ≤ length (filter (same_frame g.now) (kept self.now)) }
+        ensures between { (i : ℕ) (b : LiteralOf Term) → k ≤ i → i < result
+            → slice_get (filter (same_frame g.now) (kept self.now)) i ≡ Some b → AreApart g.now b }
+    {
+        self.frames.next(g, self.firsts.as_slice(), k)
+    }
+
     /// The slot with the sign, functor and arguments of a literal.
     pub fn find(&self, b: &Literal) -> Option<u64>
         ensures { IsHeld b.now self.now result }
@@ -136,6 +154,7 @@ impl Store {
         ensures err { OnErr result (kept self.new ≡ kept self.old) }
     {
         let place = self.slots.len();
+        note_behind(&mut self.firsts, self.slots.as_slice(), &b)?;
         self.slots.push(None)?;
         file_last(
             alloc,
@@ -224,11 +243,14 @@ impl Store {
             return;
         }
         self.emptied = 0;
-        if let Ok((frames, keys)) = filed_again(alloc, self.slots.as_slice()) {
-            self.frames = frames;
-            self.keys = keys;
-            self.noted = None;
-            pack(alloc, &mut self.slots);
+        if let Ok(firsts) = noted_again(alloc, self.slots.as_slice()) {
+            if let Ok((frames, keys)) = filed_again(alloc, self.slots.as_slice()) {
+                self.frames = frames;
+                self.keys = keys;
+                self.firsts = firsts;
+                self.noted = None;
+                pack(alloc, &mut self.slots);
+            }
         }
     }
 }

@@ -18,6 +18,7 @@ use asl_beliefs::taking::{gone, is_match, left, minus};
 use asl_term::sequence::{Seq, Starved};
 use asl_term::syntax::{Literal, Term, Trigger, Triggers};
 use asl_unify::build::build_all;
+use asl_unify::log::Later;
 use asl_unify::matching::first_match;
 use asl_unify::subst::Subst;
 use std::alloc::Global;
@@ -95,7 +96,12 @@ pub fn remove_from(
         Some(hit) => {
             // That its pairs are sound is known once they are read.
             hit.subst.pairs();
-            let taken = build_all(alloc, p.annots.as_slice(), &hit.subst, &[])?;
+            let taken = build_all(
+                alloc,
+                p.annots.as_slice(),
+                &hit.subst,
+                Later { log: None, from: 0 },
+            )?;
             let event = lose_at(alloc, store, hit.slot, taken.as_slice())?;
             Ok(Some(Removed {
                 event,

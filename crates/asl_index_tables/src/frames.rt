@@ -1,13 +1,15 @@
 //! Places by sign, functor and number of arguments.
 
-ghost use Rattle.std.specs.Prelude.{◌≡◌, ◌<◌, ◌++◌, ◌∷◌, [], List, ℕ, Bool, Some, None, length, slice_get, slice_set, MatchOption, OnOk, OnErr};
+ghost use Rattle.std.specs.Prelude.{◌≡◌, ◌<◌, ◌≤◌, ◌++◌, ◌∷◌, [], List, ℕ, Bool, Some, None, length, slice_get, slice_set, MatchOption, OnOk, OnErr};
 ghost use Rattle.std.specs.HashMap.{get};
 ghost use Rattle.std.specs.Str.{bytes_eq};
 ghost use Rattle.asl_index_tables.specs.declared.frames.Group.{Group};
 ghost use Rattle.asl_unify.specs.Compare as unify;
+ghost use Rattle.asl_index_tables.specs.Firsts.{AreOther, first_print};
 ghost use Rattle.asl_index_tables.specs.Frames as spec;
 ghost use Rattle.asl_index_tables.specs.Frames.{filed, group_from, place_from, places_in, ArePut, AreTaken, IsSame, IsPut, IsTaken};
 
+use crate::firsts;
 use asl_term::copying::copy_text;
 use asl_term::sequence::{Seq, Starved};
 use asl_term::syntax::{Literal, Numbers, Text};
@@ -178,6 +180,23 @@ impl Frames {
         match self.find(l) {
             Some(places) => places.at(k).copied(),
             None => None,
+        }
+    }
+
+    /// The first of them, from the k-th on, of which the number of the first argument may agree with that of a literal, where
+    /// these numbers are noted by place; how many there are where there is none, and `k` itself where it is not less.
+    pub fn next(&self, l: &Literal, firsts: &[u64], k: u64) -> u64
+        ensures from { k ≤ result }
+        ensures within { k < result → result ≤ length (filed self.now l.now.neg l.now.functor (length l.now.args)) }
+        ensures between { AreOther (first_print l.now) firsts.now (filed self.now l.now.neg l.now.functor (length l.now.args)) k result }
+    {
+        let first = firsts::first_print(l);
+        if first == 0 {
+            return k;
+        }
+        match self.find(l) {
+            Some(places) => firsts::next_like(places.as_slice(), firsts, first, k),
+            None => k,
         }
     }
 

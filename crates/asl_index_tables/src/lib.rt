@@ -5,6 +5,7 @@
 //! Must not: keep the items whose places they file, know of beliefs or plans, start a thread, read or write a file.
 #![tactic(auto)]
 
+pub mod firsts;
 pub mod frames;
 pub mod keys;
 pub mod prints;

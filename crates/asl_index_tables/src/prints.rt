@@ -7,14 +7,14 @@ ghost use Rattle.asl_index_tables.specs.Prints.{key_print, mixed, print};
 use asl_term::syntax::{Literal, Term};
 
 /// One number of two: the first is spread by a prime before the second is added.
-fn mix(a: u64, b: u64) -> u64
+pub fn mix(a: u64, b: u64) -> u64
     ensures { result ≡ spec.mix a b }
 {
     a.wrapping_mul(1_099_511_628_211).wrapping_add(b)
 }
 
 /// A number with the bytes of a text, in order.
-fn mix_text(first: u64, text: &[u8]) -> u64
+pub fn mix_text(first: u64, text: &[u8]) -> u64
     ensures { result ≡ mixed first text.now }
 {
     let mut n = first;

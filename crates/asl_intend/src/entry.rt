@@ -14,6 +14,7 @@ use asl_term_queue::queue::Queue;
 use asl_unify::apply::apply_formula;
 use asl_unify::build::build_literal;
 use asl_unify::limits::{TermFault, apply_literal, fits_literal};
+use asl_unify::log::Log;
 use asl_unify::subst::{Subst, no_subst};
 use std::alloc::Global;
 use std::mem;
@@ -50,17 +51,6 @@ pub struct StackEntry {
 const TRIGGER_NODES: u64 = 1_000_000;
 
 const TRIGGER_LEVELS: u64 = 1_000;
-
-/// What was bound after the first `n` substitutions.
-fn bound_since(log: &[Subst], n: u64) -> &[Subst]
-    ensures { result.now ≡ drop n log.now }
-{
-    if n <= log.len() as u64 {
-        &log[n as usize..]
-    } else {
-        &[]
-    }
-}
 
 impl StackEntry {
     /// Whether there is a first formula.
@@ -103,7 +93,7 @@ impl StackEntry {
     }
 
     /// The same where no formula was put in the place of the first one.
-    fn first_of_body(&self, alloc: Global, log: &[Subst]) -> Result<Option<Formula>, TermFault>
+    fn first_of_body(&self, alloc: Global, log: &Log) -> Result<Option<Formula>, TermFault>
         ensures ok { IfOk result (λ r. (r ≡ spec.first_of_body log.now self.now) × stacks.Bounded r) }
         ensures fault { IfErr result (λ e. Passes (stacks.is_bounded (spec.first_of_body log.now self.now)) e) }
     {
@@ -112,7 +102,7 @@ impl StackEntry {
             Some(f) => {
                 // That its pairs are sound is known once they are read.
                 self.own.pairs();
-                match apply_formula(alloc, f, &self.own, bound_since(log, self.since)) {
+                match apply_formula(alloc, f, &self.own, log.since(self.since)) {
                     Ok(r) => Ok(Some(r)),
                     Err(e) => Err(e),
                 }
@@ -122,14 +112,14 @@ impl StackEntry {
 
     /// The first formula, with what is bound put into it. One that passes the limits is not built.
     #[tactic(auto, using(crate::proofs::Logs::first_put, crate::proofs::Logs::first_own))]
-    pub fn first_formula(&self, alloc: Global, log: &[Subst]) -> Result<Option<Formula>, TermFault>
+    pub fn first_formula(&self, alloc: Global, log: &Log) -> Result<Option<Formula>, TermFault>
         ensures ok { IfOk result (λ r. (r ≡ stacks.first (spec.seen log.now self.now)) × stacks.Bounded r) }
         ensures fault { IfErr result (λ e. Passes (stacks.is_bounded (stacks.first (spec.seen log.now self.now))) e) }
     {
         match &self.first {
             Some(f) => {
                 let none = no_subst(alloc);
-                let first = apply_formula(alloc, &f.formula, &none, bound_since(log, f.since));
+                let first = apply_formula(alloc, &f.formula, &none, log.since(f.since));
                 drop(none);
                 match first {
                     Ok(r) => Ok(Some(r)),
@@ -142,13 +132,13 @@ impl StackEntry {
 
     /// The trigger, with what is bound put into it. One that has more than 1,000,000 nodes or 1,000 levels is not
     /// built: the answer is that memory is short.
-    pub fn full_trigger(&self, alloc: Global, log: &[Subst]) -> Result<Trigger, Starved>
+    pub fn full_trigger(&self, alloc: Global, log: &Log) -> Result<Trigger, Starved>
         ensures value { IfOk result (λ r. r ≡ (spec.seen log.now self.now).trigger) }
         ensures small { IfOk result stacks.IsBuildable }
     {
         let own = &self.own;
         own.pairs();
-        let rest = bound_since(log, self.since);
+        let rest = log.since(self.since);
         let goal = &self.trigger.lit;
         let Some(_) = fits_literal(goal, own, rest, TRIGGER_LEVELS, TRIGGER_NODES) else {
             return Err(Starved);
@@ -162,10 +152,10 @@ impl StackEntry {
     }
 
     /// Whether the trigger stays within the limits of a term.
-    fn is_small(&self, log: &[Subst]) -> bool
+    fn is_small(&self, log: &Log) -> bool
         ensures { result ≡ stacks.is_bounded_trigger (spec.seen log.now self.now).trigger }
     {
-        let rest = bound_since(log, self.since);
+        let rest = log.since(self.since);
         self.own.pairs();
         match fits_literal(&self.trigger.lit, &self.own, rest, 250, 10_000) {
             Some(_) => true,
@@ -177,7 +167,7 @@ impl StackEntry {
     fn is_built_matched(
         &self,
         alloc: Global,
-        log: &[Subst],
+        log: &Log,
         g: &Literal,
         more: &[Term],
     ) -> Result<bool, Starved>
@@ -198,7 +188,7 @@ impl StackEntry {
     pub fn is_matched(
         &self,
         alloc: Global,
-        log: &[Subst],
+        log: &Log,
         g: &Literal,
         more: &[Term],
     ) -> Result<bool, Starved>
@@ -207,7 +197,7 @@ impl StackEntry {
         if self.is_small(log) {
             return self.is_built_matched(alloc, log, g, more);
         }
-        let rest = bound_since(log, self.since);
+        let rest = log.since(self.since);
         match matches_under(alloc, g, &self.trigger.lit, self.own.pairs(), rest, more)? {
             Some(r) => Ok(r),
             None => self.is_built_matched(alloc, log, g, more),
@@ -215,7 +205,7 @@ impl StackEntry {
     }
 
     /// Whether the literal names the goal of the trigger.
-    pub fn is_named(&self, alloc: Global, log: &[Subst], g: &Literal) -> Result<bool, Starved>
+    pub fn is_named(&self, alloc: Global, log: &Log, g: &Literal) -> Result<bool, Starved>
         ensures { IfOk result (λ r. r ≡ stacks.names_goal g.now (spec.seen log.now self.now).trigger) }
     {
         if !can_name(g, &self.trigger) {
@@ -228,7 +218,7 @@ impl StackEntry {
     pub fn goal_match(
         &self,
         alloc: Global,
-        log: &[Subst],
+        log: &Log,
         g: &Literal,
     ) -> Result<Option<Subst>, Starved>
         ensures { IfOk result (λ r. r ≡ stacks.goal_match g.now (spec.seen log.now self.now).trigger) }
@@ -246,17 +236,12 @@ impl StackEntry {
     }
 
     /// The trigger, with what is bound put into it. One that passes the limits of a term is not built.
-    pub fn bounded_trigger(&self, alloc: Global, log: &[Subst]) -> Result<Trigger, TermFault>
+    pub fn bounded_trigger(&self, alloc: Global, log: &Log) -> Result<Trigger, TermFault>
         ensures ok { IfOk result (λ r. (r ≡ (spec.seen log.now self.now).trigger) × stacks.BoundedTrigger r) }
         ensures fault { IfErr result (λ e. Passes (stacks.is_bounded_trigger (spec.seen log.now self.now).trigger) e) }
     {
         self.own.pairs();
-        match apply_literal(
-            alloc,
-            &self.trigger.lit,
-            &self.own,
-            bound_since(log, self.since),
-        ) {
+        match apply_literal(alloc, &self.trigger.lit, &self.own, log.since(self.since)) {
             Ok(lit) => Ok(Trigger {
                 add: self.trigger.add,
                 kind: self.trigger.kind,

@@ -2,15 +2,17 @@
 
 ghost use Rattle.std.specs.Prelude.{◌≡◌, [], ◌∷◌, ◌++◌, None, Some, MatchOption, OnOk, OnErr, IfOk, IfErr, IfSome, drop, length, map, reverse, slice_get};
 ghost use Rattle.asl_unify.specs.Limits.{Passes};
+ghost use Rattle.asl_intend.specs.Bodies as bodies;
 ghost use Rattle.asl_intend.specs.Entries as spec;
 ghost use Rattle.asl_intend.specs.Means as means;
 ghost use Rattle.asl_intend.specs.Stacks as stacks;
 
 use crate::entry::{Means, StackEntry};
-use asl_term::sequence::{Seq, Starved};
+use asl_term::sequence::Starved;
 use asl_term::syntax::{Formula, Literal, Term, Trigger};
 use asl_term_queue::queue::Queue;
 use asl_unify::limits::TermFault;
+use asl_unify::log::Log;
 use asl_unify::subst::{Subst, copy_subst};
 use std::alloc::Global;
 use std::marker::Model;
@@ -18,7 +20,7 @@ use std::marker::Model;
 /// Means, the top first in contracts. The top is the last entry.
 pub struct Stack {
     /// What was bound, the oldest first.
-    log: Seq<Subst>,
+    log: Log,
     entries: Vec<StackEntry>,
 }
 
@@ -100,12 +102,7 @@ fn set_last_first(entries: &mut Vec<StackEntry>, f: Formula, since: u64) -> bool
 }
 
 /// Whether the literal names the goal of some entry.
-fn any_names(
-    alloc: Global,
-    entries: &[StackEntry],
-    log: &[Subst],
-    g: &Literal,
-) -> Result<bool, Starved>
+fn any_names(alloc: Global, entries: &[StackEntry], log: &Log, g: &Literal) -> Result<bool, Starved>
     ensures { IfOk result (λ r. r ≡ stacks.has_goal g.now (map (spec.seen log.now) entries.now)) }
 {
     for e in entries {
@@ -123,7 +120,7 @@ impl Stack {
         ensures { result ≡ [] }
     {
         Stack {
-            log: Seq::new(alloc),
+            log: Log::new(alloc),
             entries: Vec::new(alloc),
         }
     }
@@ -163,7 +160,7 @@ impl Stack {
             None => return false,
         }
         if self.entries.len() == 0 {
-            self.log.truncate(0);
+            self.log.clear();
         }
         true
     }
@@ -212,7 +209,7 @@ impl Stack {
     {
         match from_top(&self.entries, 0) {
             None => Ok(None),
-            Some(top) => top.first_formula(alloc, self.log.as_slice()),
+            Some(top) => top.first_formula(alloc, &self.log),
         }
     }
 
@@ -225,7 +222,7 @@ impl Stack {
         match from_top(&self.entries, k) {
             None => Ok(None),
             Some(e) => {
-                let r = e.full_trigger(alloc, self.log.as_slice())?;
+                let r = e.full_trigger(alloc, &self.log)?;
                 Ok(Some(r))
             }
         }
@@ -238,7 +235,7 @@ impl Stack {
     {
         match from_top(&self.entries, k) {
             None => Ok(None),
-            Some(e) => match e.bounded_trigger(alloc, self.log.as_slice()) {
+            Some(e) => match e.bounded_trigger(alloc, &self.log) {
                 Ok(t) => Ok(Some(t)),
                 Err(f) => Err(f),
             },
@@ -268,7 +265,7 @@ impl Stack {
     {
         match from_top(&self.entries, k) {
             None => Ok(false),
-            Some(e) => e.is_matched(alloc, self.log.as_slice(), g, more),
+            Some(e) => e.is_matched(alloc, &self.log, g, more),
         }
     }
 
@@ -278,7 +275,7 @@ impl Stack {
     {
         match from_top(&self.entries, k) {
             None => Ok(false),
-            Some(e) => e.is_named(alloc, self.log.as_slice(), g),
+            Some(e) => e.is_named(alloc, &self.log, g),
         }
     }
 
@@ -288,7 +285,7 @@ impl Stack {
     {
         match from_top(&self.entries, k) {
             None => Ok(None),
-            Some(e) => e.goal_match(alloc, self.log.as_slice(), g),
+            Some(e) => e.goal_match(alloc, &self.log, g),
         }
     }
 
@@ -296,6 +293,27 @@ impl Stack {
     pub fn has_goal(&self, alloc: Global, g: &Literal) -> Result<bool, Starved>
         ensures { IfOk result (λ r. r ≡ stacks.has_goal g.now self.now) }
     {
-        any_names(alloc, &self.entries, self.log.as_slice(), g)
+        any_names(alloc, &self.entries, &self.log, g)
+    }
+
+    /// How many formulas are left of the means at a place, that of the top being 0.
+    pub fn left(&self, k: u64) -> u64
+        ensures { result ≡ length (bodies.body_at self.now k) }
+    {
+        match from_top(&self.entries, k) {
+            None => 0,
+            Some(e) => e.left(&self.log),
+        }
+    }
+
+    /// The formula at a place of the means at a place. One that passes the limits is not built.
+    pub fn formula_at(&self, alloc: Global, k: u64, j: u64) -> Result<Option<Formula>, TermFault>
+        ensures ok { IfOk result (λ r. (r ≡ bodies.formula_at self.now k j) × stacks.Bounded r) }
+        ensures fault { IfErr result (λ e. Passes (stacks.is_bounded (bodies.formula_at self.now k j)) e) }
+    {
+        match from_top(&self.entries, k) {
+            None => Ok(None),
+            Some(e) => e.formula_at(alloc, &self.log, j),
+        }
     }
 }

@@ -11,6 +11,7 @@ ghost use Rattle.asl_unify.specs.Renamed.{with_vars};
 ghost use Rattle.asl_unify.specs.Turns.{value_in};
 ghost use Rattle.asl_unify.specs.Unifiers.{is_tidy};
 ghost use Rattle.asl_term.specs.Trees.{all};
+ghost use Rattle.asl_unify.specs.Logs.{later};
 ghost use Rattle.asl_intend.specs.Stacks.{any_match, with_annots};
 ghost use Rattle.asl_intend.specs.Unbuilt as spec;
 
@@ -18,9 +19,10 @@ use asl_term::compare::same_var;
 use asl_term::sequence::{Seq, Starved};
 use asl_term::syntax::{Literal, LiteralOf, Term, Terms, Var};
 use asl_unify::layers::same_frames;
+use asl_unify::log::Later;
 use asl_unify::matching::first_match;
 use asl_unify::rename::{Renaming, replace_vars};
-use asl_unify::subst::{Pair, Subst, no_subst};
+use asl_unify::subst::{Pair, no_subst};
 use std::alloc::Global;
 
 /// The variable that stands for one that no pair binds.
@@ -71,10 +73,10 @@ fn name_in(
     alloc: Global,
     first: u64,
     pairs: &[Pair],
-    rest: &[Subst],
+    rest: Later<'_>,
     v: &Var,
 ) -> Result<Var, Starved>
-    ensures { IfOk result (λ r. r ≡ spec.name_in first (pairs.now ∷ rest.now) v.now) }
+    ensures { IfOk result (λ r. r ≡ spec.name_in first (pairs.now ∷ later rest.entry) v.now) }
 {
     let mut number = first;
     let mut at = pairs;
@@ -111,11 +113,11 @@ impl Renaming for FreeNames {
 struct Names<'a> {
     first: u64,
     pairs: &'a [Pair],
-    rest: &'a [Subst],
+    rest: Later<'a>,
 }
 
 impl Renaming for Names<'_> {
-    ghost named = { λ n. spec.name_in n.first (n.pairs.now ∷ n.rest.now) };
+    ghost named = { λ n. spec.name_in n.first (n.pairs.now ∷ later n.rest) };
 
     fn var(&self, alloc: Global, v: &Var) -> Result<Var, Starved> {
         name_in(alloc, self.first, self.pairs, self.rest, v)
@@ -152,7 +154,7 @@ fn push_lefts(alloc: Global, first: u64, pairs: &[Pair], to: &mut Terms) -> Resu
 /// Puts the right sides of the questions of pairs last.
 fn push_rights(alloc: Global, names: Names<'_>, to: &mut Terms) -> Result<(), Starved>
     ensures { OnOk result (to.new ≡ to.old ++ spec.right_sides
-        (spec.name_in names.entry.first (names.entry.pairs.now ∷ names.entry.rest.now)) names.entry.pairs.now) }
+        (spec.name_in names.entry.first (names.entry.pairs.now ∷ later names.entry.rest)) names.entry.pairs.now) }
 {
     for p in names.pairs {
         to.push(replace_vars(alloc, &p.term, &names)?)?;
@@ -164,14 +166,14 @@ fn push_rights(alloc: Global, names: Names<'_>, to: &mut Terms) -> Result<(), St
 fn push_questions(
     alloc: Global,
     pairs: &[Pair],
-    rest: &[Subst],
+    rest: Later<'_>,
     lefts: &mut Terms,
     rights: &mut Terms,
 ) -> Result<(), Starved>
     requires { IsSubst pairs.now }
-    ensures lefts { OnOk result (lefts.new ≡ lefts.old ++ spec.lefts 0 (pairs.now ∷ rest.now)) }
-    ensures rights { OnOk result (rights.new ≡ rights.old ++ spec.rights 0 (pairs.now ∷ rest.now)) }
-    ensures sound { OnOk result (AllByRecursion IsSubst (pairs.now ∷ rest.now)) }
+    ensures lefts { OnOk result (lefts.new ≡ lefts.old ++ spec.lefts 0 (pairs.now ∷ later rest.entry)) }
+    ensures rights { OnOk result (rights.new ≡ rights.old ++ spec.rights 0 (pairs.now ∷ later rest.entry)) }
+    ensures sound { OnOk result (AllByRecursion IsSubst (pairs.now ∷ later rest.entry)) }
 {
     let mut number = 0;
     let mut at = pairs;
@@ -269,7 +271,7 @@ fn fill(
     g: &Literal,
     l: &Literal,
     pairs: &[Pair],
-    rest: &[Subst],
+    rest: Later<'_>,
     more: &[Term],
     p: &mut Literal,
     q: &mut Literal,
@@ -277,9 +279,9 @@ fn fill(
     requires sound { IsSubst pairs.now }
     requires pattern { p.old ≡ spec.blank }
     requires target { q.old ≡ spec.blank }
-    ensures pattern { OnOk result (p.new ≡ spec.pattern (pairs.now ∷ rest.now) g.now) }
-    ensures target { OnOk result (q.new ≡ spec.target (pairs.now ∷ rest.now) l.now more.now) }
-    ensures sound { OnOk result (AllByRecursion IsSubst (pairs.now ∷ rest.now)) }
+    ensures pattern { OnOk result (p.new ≡ spec.pattern (pairs.now ∷ later rest.entry) g.now) }
+    ensures target { OnOk result (q.new ≡ spec.target (pairs.now ∷ later rest.entry) l.now more.now) }
+    ensures sound { OnOk result (AllByRecursion IsSubst (pairs.now ∷ later rest.entry)) }
 {
     let free = FreeNames { number: 0 };
     push_named(alloc, g.args.as_slice(), &free, &mut p.args)?;
@@ -301,7 +303,7 @@ fn compared(
     g: &Literal,
     l: &Literal,
     pairs: &[Pair],
-    rest: &[Subst],
+    rest: Later<'_>,
     more: &[Term],
     p: &mut Literal,
     q: &mut Literal,
@@ -313,7 +315,7 @@ fn compared(
     requires tidy { spec.tidy_literal g.now ≡ true }
     requires more { all (map is_tidy more.now) ≡ true }
     ensures { IfOk result (λ r. IfSome r (λ b. b
-        ≡ any_match (matches g.now (with_annots more.now (put_literal (value_in pairs.now rest.now) l.now)) []))) }
+        ≡ any_match (matches g.now (with_annots more.now (put_literal (value_in pairs.now (later rest.entry)) l.now)) []))) }
 {
     fill(alloc, g, l, pairs, rest, more, p, q)?;
     decided(alloc, p, q)
@@ -326,12 +328,12 @@ pub fn matches_under(
     g: &Literal,
     l: &Literal,
     pairs: &[Pair],
-    rest: &[Subst],
+    rest: Later<'_>,
     more: &[Term],
 ) -> Result<Option<bool>, Starved>
     requires { IsSubst pairs.now }
     ensures { IfOk result (λ r. IfSome r (λ b. b
-        ≡ any_match (matches g.now (with_annots more.now (put_literal (value_in pairs.now rest.now) l.now)) []))) }
+        ≡ any_match (matches g.now (with_annots more.now (put_literal (value_in pairs.now (later rest.entry)) l.now)) []))) }
 {
     if !same_frames(g, l) {
         return Ok(Some(false));

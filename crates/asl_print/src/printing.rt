@@ -35,7 +35,8 @@ fn write_goal(l: &Literal, out: &mut Text) -> Result<(), Starved>
     out.append(b".\n")
 }
 
-fn write_label(label: &Option<Text>, out: &mut Text) -> Result<(), Starved>
+/// Appends a label, where there is one, and a blank.
+pub fn write_label(label: &Option<Text>, out: &mut Text) -> Result<(), Starved>
     ensures { OnOk result (out.new ≡ out.old ++ spec.label_text label.now) }
 {
     match label {
@@ -68,7 +69,8 @@ fn write_kind(kind: Kind, out: &mut Text) -> Result<(), Starved>
     }
 }
 
-fn write_trigger(t: &Trigger, out: &mut Text) -> Result<(), Starved>
+/// Appends a trigger.
+pub fn write_trigger(t: &Trigger, out: &mut Text) -> Result<(), Starved>
     ensures { OnOk result (out.new ≡ out.old ++ spec.trigger_text t.now) }
 {
     write_change(t.add, out)?;
@@ -76,7 +78,8 @@ fn write_trigger(t: &Trigger, out: &mut Text) -> Result<(), Starved>
     print_literal(&t.lit, out)
 }
 
-fn write_context(e: &Expr, out: &mut Text) -> Result<(), Starved>
+/// Appends a context, where it is not `true`.
+pub fn write_context(e: &Expr, out: &mut Text) -> Result<(), Starved>
     ensures { OnOk result (out.new ≡ out.old ++ spec.context_text e.now) }
 {
     match e {

@@ -64,7 +64,7 @@ kept f j m (suc n) s le =
     ap (λ o. cond (in_slot f j o) (suc n) (top f j (take m s) n)) (get_take s m n (omega (arith, le)))
     ∙ ap (λ r. cond (in_slot f j (slice_get s n)) (suc n) r) (kept f j m n s (omega (arith, le)))
 
-top_within : (f : Var → ℕ) (j : ℕ) (s : List Pair) (n : ℕ) → top f j s n ≤ n
+pub top_within : (f : Var → ℕ) (j : ℕ) (s : List Pair) (n : ℕ) → top f j s n ≤ n
 top_within f j s zero = omega arith
 top_within f j s (suc n) = go (in_slot f j (slice_get s n)) (top_within f j s n) where
   go : (b : Bool) → top f j s n ≤ n → cond b (suc n) (top f j s n) ≤ suc n
@@ -72,7 +72,7 @@ top_within f j s (suc n) = go (in_slot f j (slice_get s n)) (top_within f j s n)
   go false le = omega (arith, le)
 
 -- the pair before that place is in the slot
-top_in : (f : Var → ℕ) (j : ℕ) (s : List Pair) (n k : ℕ) (p : Pair) → top f j s n ≡ suc k → slice_get s k ≡ Some p → f p.var ≡ j
+pub top_in : (f : Var → ℕ) (j : ℕ) (s : List Pair) (n k : ℕ) (p : Pair) → top f j s n ≡ suc k → slice_get s k ≡ Some p → f p.var ≡ j
 top_in f j s zero k p e is = absurd cc
 top_in f j s (suc n) k p e is = go (λ less. top_in f j s n k p less is) (in_slot f j (slice_get s n)) refl e where
   go : (top f j s n ≡ suc k → f p.var ≡ j) → (b : Bool) → in_slot f j (slice_get s n) ≡ b → cond b (suc n) (top f j s n) ≡ suc k → f p.var ≡ j

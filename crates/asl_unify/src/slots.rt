@@ -28,7 +28,7 @@ fn mix(a: u64, b: u8) -> u64
 }
 
 /// The slot of a variable among so many.
-fn slot(x: &Var, count: usize) -> usize
+pub fn slot(x: &Var, count: usize) -> usize
     requires { 0 < count }
     ensures value { result ≡ spec.slot count x.now }
     ensures within { result < count }
@@ -42,7 +42,7 @@ fn slot(x: &Var, count: usize) -> usize
 
 /// So many slots with nothing in them.
 #[tactic(auto, using(crate::proofs::Slotted::push_zero, crate::proofs::Slotted::no_slots))]
-fn empty(alloc: Global, count: usize) -> Result<Slots, Starved>
+pub fn empty(alloc: Global, count: usize) -> Result<Slots, Starved>
     requires { 0 < count }
     ensures { IfOk result (λ r. ArePlaced [] r) }
 {

@@ -14,15 +14,16 @@ use asl_term::syntax::{Arith, Op, RelOp, Relation, Term};
 use asl_unify::build::walk;
 use asl_unify::comparing;
 use asl_unify::comparing::CompareFault;
+use asl_unify::log::Later;
 use asl_unify::subst::{Pairs, Subst};
 use std::alloc::Global;
 
 /// The number that the pairs make of a term which is one, or a variable.
-fn number(t: &Term, s: &Subst) -> Option<i64>
+fn number<'a>(t: &'a Term, s: &'a Subst) -> Option<i64>
     requires { IsSubst s.now }
     ensures { IfSome result (λ n. apply_in s.now [] t.now ≡ term.Num n) }
 {
-    match walk(t, s, &[]) {
+    match walk(t, s, Later { log: None, from: 0 }) {
         Term::Num(n) => Some(*n),
         _ => None,
     }
@@ -54,11 +55,11 @@ fn result_of(a: &Arith, s: &Subst) -> Option<i64>
 }
 
 /// The number that a term settles to, where that is told by a number, a variable, or one operation on two of these.
-fn settled_number(t: &Term, s: &Subst) -> Option<i64>
+fn settled_number<'a>(t: &'a Term, s: &'a Subst) -> Option<i64>
     requires { IsSubst s.now }
     ensures { IfSome result (λ n. BecomesNumber s.now t.now n) }
 {
-    match walk(t, s, &[]) {
+    match walk(t, s, Later { log: None, from: 0 }) {
         Term::Num(n) => Some(*n),
         Term::Op(a) => result_of(a, s),
         _ => None,

@@ -20,6 +20,14 @@ pub record Platform (V : Type 0) : Type 0 where
   pub minds : List V
   pub thoughts : List (Option Thought)
 
+-- what an agent has thought in a cycle that is not ended
+abbrev pub thought_or_none : Option (Option Thought) → Option Thought
+thought_or_none None = None
+thought_or_none (Some t) = t
+
+abbrev pub thought_at : List (Option Thought) → ℕ → Option Thought
+thought_at thoughts a = thought_or_none (slice_get thoughts (a - 1))
+
 -- ---- the turn of an idle agent
 
 abbrev pub with_board : {V : Type 0} → Platform V → State → Platform V

@@ -49,7 +49,8 @@ fn end_word(end: End) -> &'static [u8]
     }
 }
 
-fn phase_word(phase: Phase) -> &'static [u8]
+/// The word of an end; none before an agent has left.
+pub fn phase_word(phase: Phase) -> &'static [u8]
     ensures { result.now ≡ spec.phase_word phase }
 {
     match phase {
@@ -96,8 +97,9 @@ pub fn put_options(alloc: Global, out: &mut Text, o: &Options) -> Result<(), Sta
     out.append(b"\n")
 }
 
+/// Appends the line with which the section of an agent begins.
 #[tactic(auto, unfolding(crate::specs::Report::agent_line))]
-fn put_agent_line(out: &mut Text, name: &[u8]) -> Result<(), Starved>
+pub fn put_agent_line(out: &mut Text, name: &[u8]) -> Result<(), Starved>
     ensures { OnOk result (out.new ≡ out.old ++ spec.agent_line name.now) }
 {
     out.append(b"agent ")?;
@@ -124,7 +126,7 @@ fn put_end_line(
 }
 
 /// The name of the agent of this number.
-fn name_of(names: &Names, a: u32) -> &[u8]
+pub fn name_of(names: &Names, a: u32) -> &[u8]
     ensures { result.now ≡ board.name_or_none (name_at names.now a) }
 {
     match names.at(a) {
@@ -152,7 +154,8 @@ fn put_agent<A: Artifact>(
     put_end_line(alloc, out, name, b.phase(a), b.cycle(a))
 }
 
-fn lines_of<M: Mind>(mind: Option<&M>) -> &[u8]
+/// The lines that a mind has shown, where there is one.
+pub fn lines_of<M: Mind>(mind: Option<&M>) -> &[u8]
     ensures { result.now ≡ spec.lines_or_none M.kind.lines (option_copied mind.entry) }
 {
     match mind {
@@ -200,7 +203,8 @@ fn put_facts(out: &mut Text, all: &[Literal]) -> Result<(), Starved>
     Ok(())
 }
 
-fn put_world<A: Artifact>(alloc: Global, out: &mut Text, w: &World<A>) -> Result<(), Starved>
+/// Appends the facts of the world.
+pub fn put_world<A: Artifact>(alloc: Global, out: &mut Text, w: &World<A>) -> Result<(), Starved>
     ensures { OnOk result (out.new ≡ out.old ++ spec.world_text w.now) }
 {
     out.append(b"world\n")?;
@@ -257,8 +261,9 @@ fn put_box<A: Artifact>(out: &mut Text, b: &Board<A>, a: u32) -> Result<(), Star
     Ok(())
 }
 
+/// Appends the mail that nobody has read.
 #[tactic(auto, using(crate::proofs::Sections::boxes_next, crate::proofs::Sections::boxes_end))]
-fn put_mail<A: Artifact>(out: &mut Text, b: &Board<A>) -> Result<(), Starved>
+pub fn put_mail<A: Artifact>(out: &mut Text, b: &Board<A>) -> Result<(), Starved>
     requires { IsSound b.now.state }
     ensures { OnOk result (out.new ≡ out.old ++ spec.mail_text b.now.state) }
 {

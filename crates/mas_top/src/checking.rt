@@ -55,7 +55,7 @@ fn are_few(agents: u32, cycles: u64) -> bool
 
 /// Whether the options are within their limits, and so the cycles of all agents of the source.
 #[tactic(auto, using(crate::proofs::Verdicts::few, crate::proofs::Verdicts::many, crate::proofs::Verdicts::past))]
-fn is_allowed(o: &Options, source: &Source) -> bool
+pub fn is_allowed(o: &Options, source: &Source) -> bool
     ensures { Decided (spec.IsAllowed source.now o.now) result }
 {
     if is_within(o) {

@@ -32,7 +32,7 @@ use Rattle.asl_cycle.specs.inner.Still.{updated_quiet}
 
 -- ---- thoughts
 
-clash : {A : Type 0} {b : Bool} → b ≡ true → b ≡ false → A
+pub clash : {A : Type 0} {b : Bool} → b ≡ true → b ≡ false → A
 clash p q = cc
 
 -- a cycle begins with nothing
@@ -106,10 +106,10 @@ is_told m f = record { made = omega arith; new_lines = []; lines = sym (nothing_
 -- ---- a quiet cycle
 
 -- these parts are left, and there is nothing to do
-record Stays (p : Circumstance) (r : spec.Ran) : Type 0 where
-  parts : r.parts ≡ p
-  events : p.agenda.events ≡ []
-  running : p.agenda.running ≡ []
+pub record Stays (p : Circumstance) (r : spec.Ran) : Type 0 where
+  pub parts : r.parts ≡ p
+  pub events : p.agenda.events ≡ []
+  pub running : p.agenda.running ≡ []
 
 module _ (k : Surroundings) (peers : Peers) where
   int_stays : (p : Circumstance) (s : Sofar) (stacks : List (List Means))
@@ -144,13 +144,13 @@ module _ (k : Surroundings) (peers : Peers) where
   fed_stays p s m feedback.Failed (Some a) q =
       let w = feed_on k p feedback.Failed (Some a) in clash q (mail k peers w.parts (written s w) m (is_loud s.lines (line.Rule row.FeedFail) w.lines refl))
 
-  feed_stays : (p : Circumstance) (s : Sofar) (kept : Option Feedback) (m : Option Message) → is_quiet (spec.from_feed k peers p s kept m).thought ≡ true
+  pub feed_stays : (p : Circumstance) (s : Sofar) (kept : Option Feedback) (m : Option Message) → is_quiet (spec.from_feed k peers p s kept m).thought ≡ true
       → Stays p (spec.from_feed k peers p s kept m)
   feed_stays p s None m q = mail_stays p (written s (feed k p None)) m q
   feed_stays p s (Some f) m q = fed_stays p s m f p.agenda.acting q
 
   -- what was perceived changes nothing
-  percept_stays : (asks : ℕ) (p : Circumstance) (kept : Option Feedback) (m : Option Message) (beliefs : List (LiteralOf Term)) (events : List Trigger)
+  pub percept_stays : (asks : ℕ) (p : Circumstance) (kept : Option Feedback) (m : Option Message) (beliefs : List (LiteralOf Term)) (events : List Trigger)
       → is_quiet (spec.and_then (spec.nothing_yet asks) (percept_on p (record { beliefs = beliefs; events = events }))
       (λ q t _. spec.from_feed k peers q t kept m)).thought ≡ true
       → (events ≡ []) × Stays (believing p beliefs [])
@@ -180,7 +180,7 @@ module _ (k : Surroundings) (peers : Peers) where
   mail_quiet p s None none e r h = ev_quiet (taught k p.number None) peers p (written s (by row.Msg0 p [] true)) p.agenda.events e r h
   mail_quiet p s (Some m) none e r h = cc
 
-  percept_quiet : (asks : ℕ) (p : Circumstance) (m : Option Message) (beliefs : List (LiteralOf Term)) (events : List Trigger) → m ≡ None → events ≡ []
+  pub percept_quiet : (asks : ℕ) (p : Circumstance) (m : Option Message) (beliefs : List (LiteralOf Term)) (events : List Trigger) → m ≡ None → events ≡ []
       → (p.agenda.events ++ []) ≡ [] → p.agenda.running ≡ []
       → is_quiet (spec.and_then (spec.nothing_yet asks) (percept_on p (record { beliefs = beliefs; events = events }))
       (λ q t _. spec.from_feed k peers q t None m)).thought ≡ true

@@ -3,7 +3,8 @@ use Rattle.std.specs.List.{slice_set}
 use Rattle.std.specs.Option.{is_some}
 use Rattle.asl_index_tables.specs.Slots.{at_slot}
 use Rattle.asl_index.specs.Noted.{AreNoted}
-use Rattle.asl_index.specs.Store.{AreFiled, AreListed}
+use Rattle.asl_index.specs.Store.{AreFiled, AreListed, AreFirsts}
+use Rattle.asl_index.proofs.Passing.{firsts_cleared}
 use Rattle.asl_index.proofs.Perceiving.{noted_cleared}
 use Rattle.asl_index.proofs.store.Store.take.Goals as goal
 
@@ -18,8 +19,11 @@ invariant_of-self c =
       subst (λ z. AreFiled z c.unfile.new.frames) is c.unfile.ensures.filed,
       (
         subst (λ z. AreListed z c.unfile.new.keys) is c.unfile.ensures.listed,
-        subst (λ o. AreNoted (slice_set s k o) c.unless.result) (sym left)
-            (noted_cleared s f.noted c.take.result c.unless.result c.may_be_perceived-changed.result c.take.ensures.value c.self.invariant.1.1 c.unless.ensures
-            c.as_slice.result.now k c.as_slice.ensures some c.may_be_perceived-changed.ensures),
+        (
+          subst (λ o. AreNoted (slice_set s k o) c.unless.result) (sym left)
+              (noted_cleared s f.noted c.take.result c.unless.result c.may_be_perceived-changed.result c.take.ensures.value c.self.invariant.1.1.0 c.unless.ensures
+              c.as_slice.result.now k c.as_slice.ensures some c.may_be_perceived-changed.ensures),
+          subst (λ o. AreFirsts (slice_set s k o) f.firsts) (sym left) (firsts_cleared s f.firsts k c.self.invariant.1.1.1),
+        ),
       ),
     )

@@ -1,0 +1,22 @@
+# Completion for fish: `make install`, or this file in ~/.config/fish/completions.
+
+function __jasonlook_first
+    test (count (commandline -opc)) -eq 1
+end
+
+# whether this is the command
+function __jasonlook_in
+    set -l words (commandline -opc)
+    test (count $words) -gt 1; and test $words[2] = $argv[1]
+end
+
+complete -c jasonlook -f
+complete -c jasonlook -n __jasonlook_first -a where -d 'what is refused, with line and column'
+complete -c jasonlook -n __jasonlook_first -a messages -d 'who sent what to whom, and when it was taken'
+complete -c jasonlook -n __jasonlook_first -a mind -d 'what an agent has in mind after so many turns'
+complete -c jasonlook -n __jasonlook_first -l help -d 'the commands'
+complete -c jasonlook -n __jasonlook_first -l version -d 'the version'
+complete -c jasonlook -n '__jasonlook_in where' -a '(__fish_complete_suffix .mas2j .asl)'
+complete -c jasonlook -n '__jasonlook_in messages' -F
+complete -c jasonlook -n '__jasonlook_in messages' -l csv -d 'a table for a spreadsheet'
+complete -c jasonlook -n '__jasonlook_in mind' -F

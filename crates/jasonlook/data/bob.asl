@@ -1,0 +1,3 @@
+// grüße
+!hi.
++!hi <- .send(Bob, tell, hi); !grüße.

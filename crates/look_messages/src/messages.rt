@@ -1,0 +1,77 @@
+//! `messages`: from the bytes of a report to a table.
+
+ghost use Rattle.std.specs.Prelude.{◌≡◌, IfOk, false};
+ghost use Rattle.look_messages.specs.Runs.{TellsRun};
+
+use crate::fitting::fitted;
+use crate::lines::mail_lines;
+use crate::table::table_text;
+use asl_term::sequence::{Seq, Starved};
+use asl_term::syntax::Text;
+use look_answer::answer::{LookFault, Output};
+use look_reasons::excerpt::shown;
+use mas_mind::mind::Level;
+use mas_report::reading::{Told, read_report};
+use mas_top_status::status::Status;
+use std::alloc::Global;
+
+/// The line that says why a file of this name is no report with messages.
+fn unfit_line(alloc: Global, name: &[u8], why: &[u8]) -> Result<Text, Starved> {
+    let mut line = Seq::new(alloc);
+    line.append(shown(alloc, name)?.as_slice())?;
+    line.append(why)?;
+    Ok(line)
+}
+
+fn unfit(alloc: Global, name: &[u8], why: &[u8]) -> LookFault {
+    match unfit_line(alloc, name, why) {
+        Ok(line) => LookFault::Unfit(line),
+        Err(_) => LookFault::Ended(Status::Memory),
+    }
+}
+
+/// The messages of a report that tells this of its run.
+fn told_messages(
+    alloc: Global,
+    name: &[u8],
+    bytes: &[u8],
+    told: &Told,
+    csv: bool,
+) -> Result<Output, LookFault>
+    ensures { IfOk result (λ o. o.found ≡ false) }
+{
+    if matches!(told.options.level, Level::Say) {
+        return Err(unfit(alloc, name, b": a report of level say has no messages\n"));
+    }
+    let lines = mail_lines(alloc, bytes)?;
+    match fitted(alloc, &lines, told.turns.as_slice())? {
+        Some(rows) => Ok(Output {
+            text: table_text(alloc, &lines.names, rows.as_slice(), csv)?,
+            found: false,
+        }),
+        None => Err(unfit(
+            alloc,
+            name,
+            b": its messages do not fit: changed, or no report\n",
+        )),
+    }
+}
+
+/// The messages of a report, as a table or as a spreadsheet. Bytes that tell of no run have none.
+#[tactic(auto, using(crate::proofs::Runs::tells))]
+pub fn messages(alloc: Global, name: &[u8], bytes: &[u8], csv: bool) -> Result<Output, LookFault>
+    ensures found { IfOk result (λ o. o.found ≡ false) }
+    ensures report { IfOk result (λ o. TellsRun bytes.now) }
+{
+    match read_report(alloc, bytes)? {
+        None => Err(unfit(alloc, name, b": no report\n")),
+        Some(told) => {
+            let output = told_messages(alloc, name, bytes, &told, csv);
+            drop(told);
+            match output {
+                Ok(output) => Ok(output),
+                Err(fault) => Err(fault),
+            }
+        }
+    }
+}

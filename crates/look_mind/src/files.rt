@@ -1,0 +1,47 @@
+//! A look at the run of a project.
+
+ghost use Rattle.std.specs.Prelude.{◌≡◌, ◌≤◌, MatchResult};
+ghost use Rattle.mas_report.specs.Limits.{defaults};
+ghost use Rattle.mas_top_files.specs.Known.{known};
+ghost use Rattle.mas_top_files.specs.Sources.{AreRefused};
+ghost use Rattle.mas_top_opening.specs.Opening.{objects_of};
+ghost use Rattle.look_mind.specs.Looks as spec;
+
+use crate::look::{Look, look_at};
+use asl_term::syntax::Text;
+use mas_io::shelf::Shelf;
+use mas_report::options::default_options;
+use mas_top::playing::read_source;
+use mas_top_status::status::Status;
+use mas_world::artifact::Artifact;
+use std::alloc::Global;
+
+/// The look at an agent of the project of this word, where there are these artifacts and the bytes are the report of its run; or why a
+/// file of the project is refused.
+#[tactic(auto, using(mas_top_opening::proofs::Able::can_run, crate::proofs::Verdicts::looked))]
+pub fn look_in<S: Shelf, A: Artifact>(
+    alloc: Global,
+    artifacts: Vec<A>,
+    project: &Text,
+    bytes: &Text,
+    name: &Text,
+    turn: Option<u64>,
+    shelf: &mut S,
+) -> Result<Look, Status>
+    ensures same { S.holds shelf.new ≡ S.holds shelf.old }
+    ensures later { S.faults shelf.old ≤ S.faults shelf.new }
+    ensures answer { let held = S.holds shelf.old in
+        let objects = objects_of A.named A.table A.facts artifacts.items in
+        MatchResult result
+        (spec.IsLookIn objects held project.now bytes.now name.now turn)
+        (AreRefused (known objects) defaults.cycles held project.now (S.faults shelf.old) (S.faults shelf.new)) }
+{
+    let usual = default_options();
+    match read_source(alloc, usual.cycles, project, &artifacts, shelf) {
+        Ok(source) => Ok(look_at(alloc, source, artifacts, bytes, name, turn)?),
+        Err(status) => {
+            drop(artifacts);
+            Err(status)
+        }
+    }
+}

@@ -1,0 +1,138 @@
+//! Tokens with their places, and tokens that are tried in the place of others.
+
+use asl_lexer::lexing::tokens;
+use asl_lexer::scan::token_at;
+use asl_lexer::token::{LexFault, Sign, Tok, Word};
+use asl_lexer::words::word;
+use asl_term::sequence::Starved;
+use std::alloc::Global;
+
+/// A token: what it is to a grammar, its spelling, and where its bytes begin and end.
+#[derive(Clone, Copy)]
+pub struct Mark<'a> {
+    pub word: Word,
+    pub text: &'a [u8],
+    pub at: usize,
+    pub end: usize,
+    pub line: u64,
+    pub column: u64,
+}
+
+/// The bytes from one place to another; none where there are none.
+pub fn between(bytes: &[u8], from: usize, to: usize) -> &[u8] {
+    if from <= to && to <= bytes.len() {
+        &bytes[from..to]
+    } else {
+        &[]
+    }
+}
+
+fn mark_of<'a>(bytes: &'a [u8], t: &Tok) -> Mark<'a> {
+    let at = (t.at as usize).min(bytes.len());
+    let len = match token_at(&bytes[at..]) {
+        Some((_, len)) => len,
+        None => 0,
+    };
+    let end = at.saturating_add(len).min(bytes.len());
+    Mark {
+        word: word(t),
+        text: between(bytes, at, end),
+        at,
+        end,
+        line: t.line,
+        column: t.column,
+    }
+}
+
+/// The tokens of a piece of these bytes.
+pub fn marks_of<'a>(
+    alloc: Global,
+    bytes: &'a [u8],
+    toks: &[Tok],
+) -> Result<Vec<Mark<'a>>, Starved> {
+    let mut all = Vec::new(alloc);
+    for t in toks {
+        all.push(mark_of(bytes, t))?;
+    }
+    Ok(all)
+}
+
+/// A token of this text, tried at the place of another.
+pub fn tried(alloc: Global, text: &'static [u8], at: Mark<'_>) -> Result<Mark<'static>, Starved> {
+    let word = match tokens(alloc, text) {
+        Ok(toks) => match toks.as_slice() {
+            [t, ..] => word(t),
+            [] => Word::Other,
+        },
+        Err(LexFault::Memory) => return Err(Starved),
+        Err(_) => Word::Other,
+    };
+    Ok(Mark {
+        word,
+        text,
+        at: at.at,
+        end: at.at,
+        line: at.line,
+        column: at.column,
+    })
+}
+
+/// A piece in which `removed` tokens from a place on give way to others.
+pub fn spliced<'a>(
+    alloc: Global,
+    marks: &[Mark<'a>],
+    at: usize,
+    removed: usize,
+    put: &[Mark<'a>],
+) -> Result<Vec<Mark<'a>>, Starved> {
+    let mut all = Vec::new(alloc);
+    let from = at.min(marks.len());
+    let to = from.saturating_add(removed).min(marks.len());
+    for m in &marks[..from] {
+        all.push(*m)?;
+    }
+    for m in put {
+        all.push(*m)?;
+    }
+    for m in &marks[to..] {
+        all.push(*m)?;
+    }
+    Ok(all)
+}
+
+/// Whether it is spelled as an atom is; the reserved words are.
+pub fn is_atom(word: Word) -> bool {
+    matches!(
+        word,
+        Word::Atom | Word::Not | Word::Div | Word::Mod | Word::True | Word::False
+    )
+}
+
+/// Whether it is this sign.
+pub fn is_sign(word: Word, sign: Sign) -> bool {
+    match word {
+        Word::Sign(s) => s == sign,
+        _ => false,
+    }
+}
+
+pub fn is_any_sign(word: Word) -> bool {
+    matches!(word, Word::Sign(_))
+}
+
+/// Whether it is the sign of a relation.
+pub fn is_relation(word: Word) -> bool {
+    match word {
+        Word::Sign(s) => matches!(
+            s,
+            Sign::Less
+                | Sign::LessEq
+                | Sign::More
+                | Sign::MoreEq
+                | Sign::Same
+                | Sign::Differ
+                | Sign::Unify
+        ),
+        _ => false,
+    }
+}

@@ -1,0 +1,335 @@
+//! A reading of a piece that stops at the first token with which no reading goes on. What is still wanted stands on a stack; each step takes the
+//! topmost want, and puts others in its place or goes over a token.
+
+use crate::mark::{Mark, is_atom, is_sign};
+use crate::{clause, expression, world};
+use asl_lexer::token::{Sign, Word};
+use asl_term::sequence::Starved;
+use std::alloc::Global;
+
+/// In which place an expression stands.
+#[derive(Clone, Copy)]
+pub enum Mode {
+    Term,
+    Formula,
+    /// A formula in brackets: it may still become a side of a relation.
+    InnerFormula,
+    Item,
+    InnerItem,
+    /// A part of a guard.
+    Guard,
+    InnerGuard,
+}
+
+/// What an expression was.
+#[derive(Clone, Copy)]
+pub enum Left {
+    Literal,
+    /// A literal with `~` or annotations.
+    Marked,
+    True,
+    False,
+    Term,
+    Relation,
+    Inner,
+    /// A formula with `not`, `&` or `|`.
+    Logic,
+}
+
+/// What a literal is in its clause.
+#[derive(Clone, Copy)]
+pub enum Part {
+    Argument,
+    Context,
+    Act,
+    Goal,
+    Belief,
+    Trigger,
+    /// The literal of an item with `!`, `!!`, `?`, `+`, `-` or `-+`.
+    Posted,
+    Tested,
+    Changed,
+    Fact,
+}
+
+/// At what a reading stopped.
+#[derive(Clone, Copy)]
+pub enum Halt {
+    NoInner,
+    NotPure,
+    /// The number of arguments of the internal action at this place.
+    Count(usize),
+    Argument,
+    Annotation,
+    List,
+    Tail,
+    ListEnd,
+    Relation,
+    Ground,
+    Term,
+    Guard,
+    Item,
+    Formula,
+    Bracket,
+    Literal(Part),
+    NoArithmetic,
+    HeadEnd,
+    BeliefEnd,
+    FormulaEnd,
+    Label,
+    Trigger,
+    TriggerEnd,
+    ContextEnd,
+    ItemEnd,
+    Action(Left),
+    Twice,
+    NegativeAct,
+    By,
+    Who,
+    Arrow,
+    Drop,
+    Effect,
+    EffectEnd,
+    FactEnd,
+}
+
+/// What a clause is.
+#[derive(Clone, Copy)]
+pub enum Sort {
+    Belief,
+    Rule,
+    Goal,
+    Plan,
+    Fact,
+    Hide,
+    Use,
+    Act,
+}
+
+/// What is still wanted.
+#[derive(Clone, Copy)]
+pub enum Want {
+    /// The piece ends here.
+    End(Halt),
+    Close(Sign, Halt),
+    Set(Left),
+    Or(Mode),
+    MoreOr(Mode),
+    OrDone(Mode),
+    And(Mode),
+    MoreAnd(Mode),
+    AndDone(Mode),
+    Not(Mode),
+    GuardNot,
+    Related(Mode),
+    MoreRelated(Mode),
+    Sum(Mode),
+    MoreSum,
+    SumDone,
+    Product(Mode),
+    MoreProduct,
+    ProductDone,
+    Prime(Mode),
+    /// Argument of the internal action at this place, and how many stand before it.
+    Given(usize, usize),
+    MoreGiven(usize, usize),
+    Literal(Part),
+    Annotations(bool),
+    Terms(Sign, Halt),
+    MoreTerms(Sign, Halt),
+    List,
+    MoreList,
+    WithArithmetic,
+    BeliefRest,
+    TriggerRest,
+    Body(Halt),
+    Item,
+    ItemDone,
+    MoreItems,
+    ActBy,
+    ActArrow,
+    Effect,
+    MoreEffects,
+}
+
+/// How far a reading has come.
+#[derive(Drop)]
+pub struct Reading<'a> {
+    pub alloc: Global,
+    pub marks: &'a [Mark<'a>],
+    pub at: usize,
+    pub left: Left,
+    /// A piece of a world, and the names that it uses already.
+    pub world: bool,
+    pub used: &'a [Mark<'a>],
+    /// Whether arithmetic and variables may not stand here.
+    pub plain: bool,
+    pub ground: bool,
+    pub wants: Vec<Want>,
+    /// The places of open brackets.
+    pub opened: Vec<usize>,
+    pub sort: Sort,
+    /// Where the item begins that is read.
+    pub item: Option<usize>,
+    /// Where the effects begin.
+    pub arrow: usize,
+    pub halt: Option<Halt>,
+}
+
+impl<'a> Reading<'a> {
+    pub fn word_at(&self, place: usize) -> Option<Word> {
+        match self.marks.get(place) {
+            Some(m) => Some(m.word),
+            None => None,
+        }
+    }
+
+    pub fn word(&self) -> Option<Word> {
+        self.word_at(self.at)
+    }
+
+    pub fn is_sign(&self, sign: Sign) -> bool {
+        match self.word() {
+            Some(word) => is_sign(word, sign),
+            None => false,
+        }
+    }
+
+    pub fn is_atom(&self) -> bool {
+        match self.word() {
+            Some(word) => is_atom(word),
+            None => false,
+        }
+    }
+
+    /// Whether the token is spelled so.
+    pub fn is_text(&self, text: &[u8]) -> bool {
+        match self.marks.get(self.at) {
+            Some(m) => m.text == text,
+            None => false,
+        }
+    }
+
+    pub fn go(&mut self) {
+        self.at = self.at.saturating_add(1);
+    }
+
+    pub fn want(&mut self, want: Want) -> Result<(), Starved> {
+        self.wants.push(want)?;
+        Ok(())
+    }
+
+    pub fn stop(&mut self, halt: Halt) {
+        self.halt = Some(halt);
+    }
+
+    pub fn open(&mut self) -> Result<(), Starved> {
+        self.opened.push(self.at)?;
+        self.go();
+        Ok(())
+    }
+
+    pub fn close(&mut self, sign: Sign, halt: Halt) {
+        if self.is_sign(sign) {
+            self.go();
+            let _ = self.opened.pop();
+        } else {
+            self.stop(halt);
+        }
+    }
+
+    fn end(&mut self, halt: Halt) {
+        match self.word() {
+            Some(Word::End) => self.go(),
+            _ => return self.stop(halt),
+        }
+        if self.at != self.marks.len() {
+            self.stop(halt);
+        }
+    }
+
+    /// Whether the piece is read whole.
+    pub fn is_whole(&self) -> bool {
+        self.halt.is_none() && self.wants.is_empty()
+    }
+}
+
+fn step(r: &mut Reading<'_>, want: Want) -> Result<(), Starved> {
+    match want {
+        Want::End(halt) => {
+            r.end(halt);
+            Ok(())
+        }
+        Want::Close(sign, halt) => {
+            r.close(sign, halt);
+            Ok(())
+        }
+        Want::Set(left) => {
+            r.left = left;
+            Ok(())
+        }
+        Want::WithArithmetic => {
+            r.plain = false;
+            Ok(())
+        }
+        Want::BeliefRest
+        | Want::TriggerRest
+        | Want::Body(_)
+        | Want::Item
+        | Want::ItemDone
+        | Want::MoreItems => clause::step(r, want),
+        Want::ActBy | Want::ActArrow | Want::Effect | Want::MoreEffects => world::step(r, want),
+        _ => expression::step(r, want),
+    }
+}
+
+fn start<'a>(
+    alloc: Global,
+    marks: &'a [Mark<'a>],
+    world: bool,
+    used: &'a [Mark<'a>],
+) -> Reading<'a> {
+    Reading {
+        alloc,
+        marks,
+        at: 0,
+        left: Left::Term,
+        world,
+        used,
+        plain: false,
+        ground: false,
+        wants: Vec::new(alloc),
+        opened: Vec::new(alloc),
+        sort: Sort::Belief,
+        item: None,
+        arrow: 0,
+        halt: None,
+    }
+}
+
+/// Reads a piece, of a world that uses these names or of an agent's source, up to where no reading goes on.
+pub fn read<'a>(
+    alloc: Global,
+    marks: &'a [Mark<'a>],
+    world: bool,
+    used: &'a [Mark<'a>],
+) -> Result<Reading<'a>, Starved> {
+    let mut r = start(alloc, marks, world, used);
+    if world {
+        world::begin(&mut r)?;
+    } else {
+        clause::begin(&mut r)?;
+    }
+    // Between two tokens there are fewer steps than this.
+    let most = marks.len().saturating_add(2).saturating_mul(64);
+    for _ in 0..most {
+        if r.halt.is_some() {
+            return Ok(r);
+        }
+        let Some(want) = r.wants.pop() else {
+            return Ok(r);
+        };
+        step(&mut r, want)?;
+    }
+    Ok(r)
+}

@@ -1,0 +1,3 @@
+pub mod Plans
+pub mod Stacks
+pub mod Agendas

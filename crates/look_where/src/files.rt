@@ -1,0 +1,450 @@
+//! What is told of the files of a project.
+
+ghost use Rattle.std.specs.Prelude.{◌≡◌, ◌≤◌, ◌∷◌, ◌++◌, true, false, IfOk, IfErr, OnOk, MatchResult, option_copied};
+ghost use Rattle.std.specs.Option.{option_to_list};
+ghost use Rattle.std.specs.List.{list_any};
+ghost use Rattle.mas_io.specs.declared.shelf.Fetched.TheVariants.{Bytes};
+ghost use Rattle.mas_top_files.specs.Files.{Has, IsUnfetched, most_bytes};
+ghost use Rattle.mas_top_files.specs.Projects as words;
+ghost use Rattle.mas_top_status.specs.declared.status.Status.TheVariants as status;
+ghost use Rattle.look_where.specs.Files as spec;
+
+use crate::projects::{Lead, project_read, project_told};
+use crate::worlds::world_told;
+use asl_term::compare::same_text;
+use asl_term::copying::{copy_text, text_of};
+use asl_term::names::Names;
+use asl_term::sequence::{Seq, Starved};
+use asl_term::syntax::Text;
+use look_pieces::agents::agent_told;
+use look_pieces::findings::Findings;
+use look_reasons::bytes::mended_of;
+use look_reasons::excerpt::shown;
+use look_reasons::reason::{Reason, reason_at};
+use mas_io::shelf::Shelf;
+use mas_project::syntax::ProjectText;
+use mas_top_files::files::bytes_of;
+use mas_top_files::folder::folder;
+use mas_top_files::project::project_of;
+use mas_top_status::status::Status;
+use std::alloc::Global;
+
+/// The most bytes of a file.
+const MOST_BYTES: u64 = 1_048_576;
+
+#[derive(Clone, Copy)]
+pub enum FileKind {
+    Project,
+    World,
+    Agent,
+}
+
+/// What is told of a file: its name, how that is shown, and the findings.
+#[derive(Drop)]
+pub struct FileTold {
+    pub kind: FileKind,
+    pub name: Text,
+    pub shown: Text,
+    pub findings: Findings,
+}
+
+pub type FilesTold = Seq<FileTold>;
+
+/// A file that a project names, of its world or of an agent.
+#[derive(Drop)]
+pub struct Wanted {
+    pub name: Text,
+    pub world: bool,
+}
+
+/// What is told of the bytes of an agent's source or of a world.
+fn bytes_told(alloc: Global, known: &Names, world: bool, bytes: &[u8]) -> Result<Findings, Starved>
+    ensures { IfOk result (spec.TellsBytes known.now (spec.kind_of world) bytes.now) }
+{
+    if world {
+        world_told(alloc, known, bytes)
+    } else {
+        agent_told(alloc, bytes)
+    }
+}
+
+fn kind_of(world: bool) -> FileKind
+    ensures { result ≡ spec.kind_of world }
+{
+    if world {
+        FileKind::World
+    } else {
+        FileKind::Agent
+    }
+}
+
+fn named(
+    alloc: Global,
+    kind: FileKind,
+    name: &Text,
+    findings: Findings,
+) -> Result<FileTold, Starved>
+    ensures { IfOk result (λ t. (t.kind ≡ kind) × (t.name ≡ name.now) × (t.findings ≡ findings)) }
+{
+    Ok(FileTold {
+        kind,
+        name: copy_text(alloc, name)?,
+        shown: shown(alloc, name.as_slice())?,
+        findings,
+    })
+}
+
+/// What is told of the file of this name, of a world or of an agent, or why it is not read.
+#[tactic(auto, using(crate::proofs::Telling::named_told))]
+fn file_told<S: Shelf>(
+    alloc: Global,
+    known: &Names,
+    world: bool,
+    name: &Text,
+    shelf: &mut S,
+) -> Result<FileTold, Status>
+    ensures same { S.holds shelf.new ≡ S.holds shelf.old }
+    ensures later { S.faults shelf.old ≤ S.faults shelf.new }
+    ensures answer { let held = S.holds shelf.old in
+        MatchResult result
+        (spec.TellsNamed known.now held (spec.kind_of world) name.now)
+        (IsUnfetched most_bytes name.now held (S.faults shelf.old) (S.faults shelf.new)) }
+{
+    match bytes_of(alloc, name, MOST_BYTES, shelf) {
+        Err(status) => Err(status),
+        Ok(bytes) => {
+            let findings = bytes_told(alloc, known, world, bytes.as_slice())?;
+            drop(bytes);
+            match named(alloc, kind_of(world), name, findings) {
+                Ok(told) => Ok(told),
+                Err(_) => Err(Status::Memory),
+            }
+        }
+    }
+}
+
+pub fn is_lack(status: &Status) -> bool
+    ensures { result ≡ spec.is_lack status.now }
+{
+    matches!(status, Status::Memory)
+}
+
+fn lacking_words(why: &Status) -> &'static [u8] {
+    match why {
+        Status::Missing(_) => b"no such file: ",
+        Status::Limit { .. } => b"more than 1048576 bytes: ",
+        _ => b"cannot be read: ",
+    }
+}
+
+/// Why a file is not there.
+fn lacking(alloc: Global, lead: &Lead, name: &Text, why: &Status) -> Result<Reason, Starved> {
+    let name = shown(alloc, name.as_slice())?;
+    let words = [lacking_words(why), name.as_slice()];
+    reason_at(alloc, (lead.at, lead.end), b"missing-file", &words, b"")
+}
+
+fn file_in(alloc: Global, directory: &[u8], file: &Text) -> Result<Text, Starved> {
+    let mut name = text_of(alloc, directory)?;
+    name.append(file.as_slice())?;
+    Ok(name)
+}
+
+/// Puts a reason why a wanted file is not there, at the first token that leads to it.
+fn put_lacking(
+    alloc: Global,
+    directory: &[u8],
+    leads: &[Lead],
+    w: &Wanted,
+    why: &Status,
+    reasons: &mut Vec<Reason>,
+) -> Result<(), Starved> {
+    for lead in leads {
+        let name = file_in(alloc, directory, &lead.file)?;
+        if lead.world == w.world && same_text(&name, &w.name) {
+            reasons.push(lacking(alloc, lead, &name, why)?)?;
+            return Ok(());
+        }
+    }
+    Ok(())
+}
+
+fn want(alloc: Global, world: bool, name: &Text) -> Result<Wanted, Starved>
+    ensures { IfOk result (λ w. w ≡ spec.wanted world name.now) }
+{
+    Ok(Wanted {
+        name: copy_text(alloc, name)?,
+        world,
+    })
+}
+
+/// Whether the file of this name is wanted already, of an agent.
+fn is_wanted(all: &[Wanted], name: &Text) -> bool
+    ensures { result ≡ list_any (spec.is_of_agent name.now) all.now }
+{
+    let mut rest = all;
+    'all: while let Some((w, after)) = rest.split_first() {
+        if !w.world && same_text(name, &w.name) {
+            return true;
+        }
+        rest = after;
+    }
+    false
+}
+
+fn put_agent(alloc: Global, all: &mut Seq<Wanted>, name: &Text) -> Result<(), Starved>
+    ensures { OnOk result (all.new ≡ spec.with_agent all.old name.now) }
+{
+    if is_wanted(all.as_slice(), name) {
+        return Ok(());
+    }
+    all.push(want(alloc, false, name)?)
+}
+
+/// The file of a world.
+fn world_wanted(alloc: Global, world: Option<&Text>) -> Result<Seq<Wanted>, Starved>
+    ensures { IfOk result (λ ws. ws ≡ spec.worlds_wanted (option_copied world.entry)) }
+{
+    let mut all = Seq::new(alloc);
+    if let Some(name) = world {
+        all.push(want(alloc, true, name)?)?;
+    }
+    Ok(all)
+}
+
+/// The files of a project that is read.
+fn wanted_of(alloc: Global, p: &ProjectText) -> Result<Seq<Wanted>, Starved>
+    ensures { IfOk result (λ ws. ws ≡ spec.wanted_of p.now) }
+{
+    let mut all = world_wanted(alloc, p.world.as_ref())?;
+    let mut rest = p.agents.as_slice();
+    'lines: while let Some((line, after)) = rest.split_first() {
+        put_agent(alloc, &mut all, &line.file)?;
+        rest = after;
+    }
+    Ok(all)
+}
+
+/// The files to which a project leads that is not read.
+fn wanted_by(alloc: Global, directory: &[u8], leads: &[Lead]) -> Result<Seq<Wanted>, Starved> {
+    let mut all = Seq::new(alloc);
+    for lead in leads {
+        let name = file_in(alloc, directory, &lead.file)?;
+        if lead.world {
+            all.push(want(alloc, true, &name)?)?;
+        } else {
+            put_agent(alloc, &mut all, &name)?;
+        }
+    }
+    Ok(all)
+}
+
+/// What is told of a wanted file. Where it is not there a reason is put.
+#[tactic(auto, using(crate::proofs::Telling::lacking))]
+fn wanted_told<S: Shelf>(
+    alloc: Global,
+    known: &Names,
+    w: &Wanted,
+    directory: &[u8],
+    leads: &[Lead],
+    reasons: &mut Vec<Reason>,
+    shelf: &mut S,
+) -> Result<Option<FileTold>, Status>
+    ensures same { S.holds shelf.new ≡ S.holds shelf.old }
+    ensures later { S.faults shelf.old ≤ S.faults shelf.new }
+    ensures answer { IfOk result (spec.TellsOne known.now (S.holds shelf.old) (S.faults shelf.old) (S.faults shelf.new) w.now) }
+    ensures starved { IfErr result (λ s. s ≡ status.Memory) }
+{
+    match file_told(alloc, known, w.world, &w.name, shelf) {
+        Ok(told) => Ok(Some(told)),
+        Err(why) => {
+            if is_lack(&why) {
+                return Err(Status::Memory);
+            }
+            put_lacking(alloc, directory, leads, w, &why, reasons)?;
+            Ok(None)
+        }
+    }
+}
+
+fn put_told(files: &mut FilesTold, told: Option<FileTold>) -> Result<(), Starved>
+    ensures { OnOk result (files.new ≡ files.old ++ option_to_list told) }
+{
+    match told {
+        Some(told) => files.push(told),
+        None => Ok(()),
+    }
+}
+
+/// What is told of the wanted files, those that are there. Of the others reasons are put.
+#[tactic(auto, using(crate::proofs::Telling::begins, crate::proofs::Telling::more, crate::proofs::Telling::ends))]
+fn all_told<S: Shelf>(
+    alloc: Global,
+    known: &Names,
+    wanted: &Seq<Wanted>,
+    directory: &[u8],
+    leads: &[Lead],
+    reasons: &mut Vec<Reason>,
+    shelf: &mut S,
+) -> Result<FilesTold, Status>
+    ensures same { S.holds shelf.new ≡ S.holds shelf.old }
+    ensures later { S.faults shelf.old ≤ S.faults shelf.new }
+    ensures answer { IfOk result (spec.AreTold known.now (S.holds shelf.old) (S.faults shelf.old) (S.faults shelf.new) wanted.now) }
+    ensures starved { IfErr result (λ s. s ≡ status.Memory) }
+{
+    let mut files: FilesTold = Seq::new(alloc);
+    let mut rest = wanted.as_slice();
+    'wanted: while let Some((w, after)) = rest.split_first() {
+        let told = match wanted_told(alloc, known, w, directory, leads, reasons, shelf) {
+            Ok(told) => told,
+            Err(_) => return Err(Status::Memory),
+        };
+        put_told(&mut files, told)?;
+        rest = after;
+    }
+    Ok(files)
+}
+
+/// The files of the project of this name: all of them where it is read, else those to which it leads.
+fn others_told<S: Shelf>(
+    alloc: Global,
+    known: &Names,
+    word: &Text,
+    leads: &[Lead],
+    reasons: &mut Vec<Reason>,
+    shelf: &mut S,
+) -> Result<FilesTold, Status>
+    ensures same { S.holds shelf.new ≡ S.holds shelf.old }
+    ensures later { S.faults shelf.old ≤ S.faults shelf.new }
+    ensures answer { IfOk result (spec.AreOthers known.now (S.holds shelf.old) word.now (S.faults shelf.old) (S.faults shelf.new)) }
+    ensures starved { IfErr result (λ s. s ≡ status.Memory) }
+{
+    let directory = folder(word.as_slice());
+    match project_of(alloc, word, shelf) {
+        Ok(p) => {
+            let wanted = wanted_of(alloc, &p)?;
+            drop(p);
+            match all_told(alloc, known, &wanted, directory, leads, reasons, shelf) {
+                Ok(files) => Ok(files),
+                Err(_) => Err(Status::Memory),
+            }
+        }
+        Err(why) => {
+            if is_lack(&why) {
+                return Err(Status::Memory);
+            }
+            let wanted = wanted_by(alloc, directory, leads)?;
+            match all_told(alloc, known, &wanted, directory, leads, reasons, shelf) {
+                Ok(files) => Ok(files),
+                Err(_) => Err(Status::Memory),
+            }
+        }
+    }
+}
+
+/// A file before others.
+fn with_first(alloc: Global, first: FileTold, others: FilesTold) -> Result<FilesTold, Starved>
+    ensures { IfOk result (λ all. all ≡ first ∷ others) }
+{
+    let mut all = Seq::new(alloc);
+    all.push(first)?;
+    all.append_all(others)?;
+    Ok(all)
+}
+
+/// What is told of the project whose file has these bytes, and of its files.
+#[tactic(auto, using(crate::proofs::Telling::project_files))]
+fn project_files<S: Shelf>(
+    alloc: Global,
+    known: &Names,
+    word: &Text,
+    bytes: &[u8],
+    shelf: &mut S,
+) -> Result<FilesTold, Status>
+    requires held { Has most_bytes (S.holds shelf.old) word.now (Bytes bytes.now) }
+    requires word { words.is_agent_file word.now ≡ false }
+    ensures same { S.holds shelf.new ≡ S.holds shelf.old }
+    ensures later { S.faults shelf.old ≤ S.faults shelf.new }
+    ensures answer { IfOk result (spec.TellFiles known.now (S.holds shelf.old) word.now (S.faults shelf.old) (S.faults shelf.new)) }
+    ensures starved { IfErr result (λ s. s ≡ status.Memory) }
+{
+    let mended = mended_of(alloc, bytes)?;
+    let read = project_read(alloc, &mended)?;
+    let mut reasons = read.reasons;
+    let files = match others_told(
+        alloc,
+        known,
+        word,
+        read.leads.as_slice(),
+        &mut reasons,
+        shelf,
+    ) {
+        Ok(files) => files,
+        Err(_) => return Err(Status::Memory),
+    };
+    let findings = project_told(alloc, bytes, &mended, reasons)?;
+    let first = named(alloc, FileKind::Project, word, findings)?;
+    match with_first(alloc, first, files) {
+        Ok(all) => Ok(all),
+        Err(_) => Err(Status::Memory),
+    }
+}
+
+/// What is told of the source of an agent, of this name.
+#[tactic(auto, using(crate::proofs::Telling::one_file))]
+fn source_told<S: Shelf>(
+    alloc: Global,
+    known: &Names,
+    word: &Text,
+    shelf: &mut S,
+) -> Result<FilesTold, Status>
+    requires { words.is_agent_file word.now ≡ true }
+    ensures same { S.holds shelf.new ≡ S.holds shelf.old }
+    ensures later { S.faults shelf.old ≤ S.faults shelf.new }
+    ensures answer { let held = S.holds shelf.old in
+        MatchResult result
+        (spec.TellFiles known.now held word.now (S.faults shelf.old) (S.faults shelf.new))
+        (IsUnfetched most_bytes word.now held (S.faults shelf.old) (S.faults shelf.new)) }
+{
+    match file_told(alloc, known, false, word, shelf) {
+        Err(status) => Err(status),
+        Ok(told) => match with_first(alloc, told, Seq::new(alloc)) {
+            Ok(all) => Ok(all),
+            Err(_) => Err(Status::Memory),
+        },
+    }
+}
+
+/// Whether a word names the source of an agent.
+fn is_agent_file(word: &Text) -> bool
+    ensures { result ≡ words.is_agent_file word.now }
+{
+    word.as_slice().ends_with(b".asl")
+}
+
+/// What is told of the files of a project, or of the source that is one, where there are artifacts of these names.
+#[tactic(auto, using(crate::proofs::Telling::files_from))]
+pub fn files_told<S: Shelf>(
+    alloc: Global,
+    known: &Names,
+    word: &Text,
+    shelf: &mut S,
+) -> Result<FilesTold, Status>
+    ensures same { S.holds shelf.new ≡ S.holds shelf.old }
+    ensures later { S.faults shelf.old ≤ S.faults shelf.new }
+    ensures answer { let held = S.holds shelf.old in
+        MatchResult result
+        (spec.TellFiles known.now held word.now (S.faults shelf.old) (S.faults shelf.new))
+        (IsUnfetched most_bytes word.now held (S.faults shelf.old) (S.faults shelf.new)) }
+{
+    if is_agent_file(word) {
+        return source_told(alloc, known, word, shelf);
+    }
+    match bytes_of(alloc, word, MOST_BYTES, shelf) {
+        Err(status) => Err(status),
+        Ok(bytes) => match project_files(alloc, known, word, bytes.as_slice(), shelf) {
+            Ok(files) => Ok(files),
+            Err(_) => Err(Status::Memory),
+        },
+    }
+}

@@ -1,0 +1,200 @@
+//! The text of `where`.
+
+ghost use Rattle.std.specs.Prelude.{◌≡◌, ◌≤◌, ◌++◌, codes, OnOk, MatchResult, IfOk};
+ghost use Rattle.std.specs.List.{flat_map, list_any};
+ghost use Rattle.look_where.specs.Showing as spec;
+
+use crate::files::{FileTold, FilesTold, files_told, is_lack};
+use asl_term::names::Names;
+use asl_term::printing::write_number;
+use asl_term::sequence::{Seq, Starved};
+use asl_term::syntax::Text;
+use look_answer::answer::Output;
+use look_pieces::findings::Finding;
+use look_reasons::excerpt::shown;
+use mas_io::shelf::Shelf;
+use mas_top_files::sources::sources;
+use mas_top_status::status::{Status, fault_line};
+use std::alloc::Global;
+
+/// Puts a finding in a file that is shown so.
+fn put_finding(alloc: Global, file: &Text, f: &Finding, out: &mut Text) -> Result<(), Starved>
+    ensures { OnOk result (out.new ≡ out.old ++ spec.finding_text file.now f.now) }
+{
+    out.append(file.as_slice())?;
+    out.append(b":")?;
+    write_number(alloc, f.line, out)?;
+    out.append(b":")?;
+    write_number(alloc, f.column, out)?;
+    out.append(b": error: ")?;
+    out.append(f.about.as_slice())
+}
+
+fn put_findings(alloc: Global, t: &FileTold, out: &mut Text) -> Result<(), Starved>
+    ensures { OnOk result (out.new ≡ out.old ++ spec.file_text t.now) }
+{
+    let mut rest = t.findings.as_slice();
+    'findings: while let Some((f, after)) = rest.split_first() {
+        put_finding(alloc, &t.shown, f, out)?;
+        rest = after;
+    }
+    Ok(())
+}
+
+fn put_files(alloc: Global, files: &[FileTold], out: &mut Text) -> Result<(), Starved>
+    ensures { OnOk result (out.new ≡ out.old ++ flat_map spec.file_text files.now) }
+{
+    let mut rest = files;
+    'files: while let Some((t, after)) = rest.split_first() {
+        put_findings(alloc, t, out)?;
+        rest = after;
+    }
+    Ok(())
+}
+
+/// Whether some file has a finding.
+fn is_found(files: &FilesTold) -> bool
+    ensures { result ≡ list_any spec.is_told files.now }
+{
+    let mut rest = files.as_slice();
+    'files: while let Some((t, after)) = rest.split_first() {
+        if t.findings.len() > 0 {
+            return true;
+        }
+        rest = after;
+    }
+    false
+}
+
+/// `1 file`, `2 files`
+fn put_counted(alloc: Global, n: u64, what: &[u8], out: &mut Text) -> Result<(), Starved> {
+    write_number(alloc, n, out)?;
+    out.append(what)?;
+    if n != 1 {
+        out.push(b's')?;
+    }
+    Ok(())
+}
+
+/// How many files there are, how many of them are refused, and at how many places.
+fn summary(alloc: Global, files: &[FileTold]) -> Result<Text, Starved> {
+    let mut refused: u64 = 0;
+    let mut places: u64 = 0;
+    for t in files {
+        if t.findings.len() > 0 {
+            refused = refused.saturating_add(1);
+        }
+        places = places.saturating_add(t.findings.len());
+    }
+    let mut out = Seq::new(alloc);
+    put_counted(alloc, files.len() as u64, b" file", &mut out)?;
+    out.append(b", ")?;
+    write_number(alloc, refused, &mut out)?;
+    out.append(b" refused, ")?;
+    put_counted(alloc, places, b" place", &mut out)?;
+    out.push(b'\n')?;
+    Ok(out)
+}
+
+/// Whether `jasonrun` refuses the project, and the line with which it does.
+#[derive(Drop)]
+pub struct Refusal {
+    pub refused: bool,
+    pub line: Text,
+}
+
+/// The line of a status, as it is shown.
+fn status_line(alloc: Global, status: &Status) -> Result<Text, Starved> {
+    let line = fault_line(alloc, status)?;
+    let mut out = Seq::new(alloc);
+    out.append(b"jasonrun: ")?;
+    match line.as_slice() {
+        [text @ .., b'\n'] => out.append(shown(alloc, text)?.as_slice())?,
+        text => out.append(shown(alloc, text)?.as_slice())?,
+    }
+    out.push(b'\n')?;
+    Ok(out)
+}
+
+/// Whether `jasonrun` refuses the project. Each agent may make one cycle, so that the limit of cycles is none of the causes.
+#[tactic(auto, using(crate::proofs::Shown::read_so, crate::proofs::Shown::refused_so))]
+fn refusal_of<S: Shelf>(
+    alloc: Global,
+    known: &Names,
+    word: &Text,
+    shelf: &mut S,
+) -> Result<Refusal, Starved>
+    ensures same { S.holds shelf.new ≡ S.holds shelf.old }
+    ensures later { S.faults shelf.old ≤ S.faults shelf.new }
+    ensures answer { let tells = spec.TellsRefused known.now (S.holds shelf.old) word.now (S.faults shelf.old) (S.faults shelf.new) in
+        IfOk result (λ r. tells r.refused) }
+{
+    match sources(alloc, known, 1, word, shelf) {
+        Ok(source) => {
+            drop(source);
+            Ok(Refusal {
+                refused: false,
+                line: Seq::new(alloc),
+            })
+        }
+        Err(status) => {
+            if is_lack(&status) {
+                return Err(Starved);
+            }
+            let line = status_line(alloc, &status);
+            drop(status);
+            Ok(Refusal {
+                refused: true,
+                line: line?,
+            })
+        }
+    }
+}
+
+/// The text of what is told of files, and what stands behind it.
+#[tactic(auto, using(crate::proofs::Shown::is_text))]
+fn text_of_files(alloc: Global, files: &FilesTold, line: &Text) -> Result<Text, Starved>
+    ensures { IfOk result (spec.IsText files.now) }
+{
+    let mut out = Seq::new(alloc);
+    put_files(alloc, files.as_slice(), &mut out)?;
+    let last = summary(alloc, files.as_slice())?;
+    let mut behind = Seq::new(alloc);
+    behind.append(line.as_slice())?;
+    behind.append(last.as_slice())?;
+    drop(last);
+    out.append(behind.as_slice())?;
+    Ok(out)
+}
+
+/// What is refused in the files of a project, each place with a reason, where there are artifacts of these names.
+#[tactic(auto, using(crate::proofs::Shown::is_where))]
+pub fn refused_places<S: Shelf>(
+    alloc: Global,
+    known: &Names,
+    word: &Text,
+    shelf: &mut S,
+) -> Result<Output, Status>
+    ensures same { S.holds shelf.new ≡ S.holds shelf.old }
+    ensures later { S.faults shelf.old ≤ S.faults shelf.new }
+    ensures answer { let held = S.holds shelf.old in
+        MatchResult result
+        (λ o. spec.IsWhere known.now held word.now (S.faults shelf.old) (S.faults shelf.new) o.found o.text)
+        (spec.IsUnread word.now held (S.faults shelf.old) (S.faults shelf.new)) }
+{
+    let files = match files_told(alloc, known, word, shelf) {
+        Ok(files) => files,
+        Err(status) => return Err(status),
+    };
+    let Refusal { refused, line } = match refusal_of(alloc, known, word, shelf) {
+        Ok(refusal) => refusal,
+        Err(_) => return Err(Status::Memory),
+    };
+    let text = match text_of_files(alloc, &files, &line) {
+        Ok(text) => text,
+        Err(_) => return Err(Status::Memory),
+    };
+    let found = is_found(&files) || refused;
+    drop(files);
+    Ok(Output { text, found })
+}

@@ -1,0 +1,108 @@
+-- What is known while outcomes are listed.
+use Rattle.std.proofs.Common.{ℕ, ◌≡◌, ◌≢◌, ◌+◌, ◌<◌, ◌⊎◌, inl, inr, arith, Bool, true, false, nat_eq, ◌&&◌, List, [], ◌∷◌, ◌++◌, length, slice_get, Option, Some, IfSome, refl, ap, sym, ◌∙◌, subst}
+use Rattle.std.proofs.lemmas.Bool.{eqb-true, eqb-false, and_parts}
+use Rattle.std.proofs.lemmas.Option.{same_Some, none-some, slice_get_within}
+use Rattle.mas_mind.specs.Minds.{Kind}
+use Rattle.mas_core.specs.Platform.{Platform}
+use Rattle.mas_free.specs.declared.view.View.{View}
+use Rattle.mas_free.specs.Outcome.{outcome}
+use Rattle.mas_free.specs.Free.{Free, at_end}
+use Rattle.mas_free.specs.Covers.{Start, free_opening, IsStart, IsMember, IsClosed, HasRest, ClosedCovers}
+use Rattle.mas_free.proofs.Likes.{like_same}
+use Rattle.mas_explore.specs.declared.listing.Shown.{Shown}
+use Rattle.mas_explore.specs.declared.listing.Listing.{Listing}
+use Rattle.mas_explore.specs.Searches.{IsOutcomeAt, AllSearched, HasSearched}
+use Rattle.mas_explore.specs.Listings.{IsShown, AreShown, IsListed, IsWhole, extent_of, Reaches, OutcomeListed, HasListed, HasListedTo, HasListedAll}
+use Rattle.mas_explore.proofs.Members.{member_left, member_last, member_split}
+
+pub if_some : {X : Type 0} (P : X → Type 0) (o : Option X) (x : X) → o ≡ Some x → IfSome o P → P x
+if_some {X} P o x e h = let Q = λ (y : Option X). IfSome y P in subst Q e h
+
+-- ---- one state
+
+module _ {V : Type 0} (k : Kind V) (v : View) (s : Start V) (met : List (Free V)) (state : ℕ) (list : List Shown) (sound : AreShown k v s list) where
+  pub was_listed : (text : List ℕ) → IsOutcomeAt k v met state text → IsListed list text → HasListed k v s met state list list true
+  was_listed text o l = record {
+    stay = λ e m. m;
+    sound = sound;
+    here = λ t f e. (let P = λ (x : List ℕ). IsListed list x in subst P (o f e) l);
+  }
+
+  pub not_listed : HasListed k v s met state list list false
+  not_listed = record { stay = λ e m. m; sound = sound; here = λ t. cc }
+
+  shown-by : (e x : Shown) → IsShown k v s x → IsMember e list ⊎ (x ≡ e) → IsShown k v s e
+  shown-by e x h (inl m) = sound e m
+  shown-by e x h (inr w) = let P = λ (y : Shown). IsShown k v s y in subst P w h
+
+  pub now_listed : (text : List ℕ) (x : Shown) (new : List Shown) → IsOutcomeAt k v met state text → IsShown k v s x → x.text ≡ text → new ≡ list ++ x ∷ [] → HasListed k v s met state list new true
+  now_listed text x new o h e w =
+      let P = λ (y : List Shown). HasListed k v s met state list y true in
+      let here : HasListed k v s met state list (list ++ x ∷ []) true = record {
+        stay = λ e m. member_left e list (x ∷ []) m;
+        sound = λ e m. shown-by e x h (member_split x e list m);
+        here = λ t f g. record { entry = x; among = member_last x list; text_is = e ∙ o f g };
+      } in
+      subst P (sym w) here
+
+-- ---- all of them
+
+pub listed_none : {V : Type 0} (k : Kind V) (v : View) (s : Start V) (met : List (Free V)) (states : List ℕ) → HasListedTo k v s met states 0 [] true
+listed_none k v s met states = record {
+  sound = λ e m. absurd (none-some e m.at);
+  each = λ t i state l. absurd (omega arith);
+}
+
+-- what is listed stays so
+still-listed : (old new : List Shown) (text : List ℕ) → ((e : Shown) → IsMember e old → IsMember e new) → IsListed old text → IsListed new text
+still-listed old new text stay l = record { entry = l.entry; among = stay l.entry l.among; text_is = l.text_is }
+
+module _ {V : Type 0} (k : Kind V) (v : View) (s : Start V) (met : List (Free V)) (states : List ℕ) (n state : ℕ) (old new : List Shown) (whole listed : Bool)
+    (to : HasListedTo k v s met states n old whole) (at : slice_get states n ≡ Some state) (one : HasListed k v s met state old new listed) where
+  each-on : (whole && listed) ≡ true → (i x : ℕ) (b : Bool) → nat_eq i n ≡ b → i < n + 1 → slice_get states i ≡ Some x → OutcomeListed k v met x new
+  each-on t i x true q l e =
+      let both = and_parts whole listed t in
+      let same : i ≡ n = eqb-true i n q in
+      let P = λ (y : ℕ). slice_get states y ≡ Some x in
+      let here : state ≡ x = same_Some state x (sym at ∙ subst P same e) in
+      let Q = λ (y : ℕ). OutcomeListed k v met y new in
+      subst Q here (one.here both.1)
+  each-on t i x false q l e =
+      let both = and_parts whole listed t in
+      let other : i ≢ n = eqb-false i n q in
+      λ f g. still-listed old new (outcome k v (at_end f)) one.stay (to.each both.0 i x (omega arith) e f g)
+
+  pub listed_on : (after : Bool) → after ≡ (whole && listed) → HasListedTo k v s met states (n + 1) new after
+  listed_on after w = record { sound = one.sound; each = λ t i x l e. each-on (sym w ∙ t) i x (nat_eq i n) refl l e }
+
+pub listed_all : {V : Type 0} (k : Kind V) (v : View) (s : Start V) (met : List (Free V)) (states : List ℕ) (n : ℕ) (list : List Shown) (listed : Bool) → HasListedTo k v s met states n list listed →
+    n ≡ length states → HasListedAll k v s met states list listed
+listed_all k v s met states n list listed to e = record {
+  sound = to.sound;
+  each = λ t state m. to.each t m.place state (let w = slice_get_within states m.place state m.at in omega arith) m.at;
+}
+
+-- ---- the whole
+
+module _ {V : Type 0} (k : Kind V) (v : View) (s : Start V) (met : List (Free V)) (states : List ℕ) (list : List Shown) where
+  closed : AllSearched k v met states → slice_get met 0 ≡ Some (free_opening s) → IsClosed k v (free_opening s) met
+  closed h e = record { first = record { like = free_opening s; among = record { place = 0; at = e }; is = like_same k v (free_opening s) }; next = λ g x a m i w. h.leads g x a m i w }
+
+  at-rest : (q : Platform V) → HasRest k v met q → AllSearched k v met states → ((state : ℕ) → IsMember state states → OutcomeListed k v met state list) → IsListed list (outcome k v q)
+  at-rest q r h each =
+      let m = h.rests_are r.among.place r.rest r.among.at r.rests in
+      let P = λ (x : List ℕ). IsListed list x in
+      subst P r.same (each r.among.place m r.rest r.among.at)
+
+  whole : ClosedCovers k → IsStart k s → AllSearched k v met states → slice_get met 0 ≡ Some (free_opening s) → ((state : ℕ) → IsMember state states → OutcomeListed k v met state list) →
+      IsWhole k v s list
+  whole covers start h e each cycles lead schedule q ran = at-rest q (covers v s met cycles lead schedule q start (closed h e) ran) h each
+
+  pub reaches : (old : List (Free V)) (most : ℕ) (followed listed : Bool) (f : Listing) → ClosedCovers k → IsStart k s → old ≡ free_opening s ∷ [] → HasSearched k v old met states most followed →
+      HasListedAll k v s met states list listed → f.list ≡ list → f.states ≡ length met → Reaches k v s most f (extent_of followed listed)
+  reaches old most false listed f covers start first h l e c = let w = h.extent in omega arith
+  reaches old most true false f covers start first h l e c = tt
+  reaches old most true true f covers start first h l e c =
+      let P = λ (x : List Shown). IsWhole k v s x in
+      let opens : slice_get met 0 ≡ Some (free_opening s) = h.keeps.stay 0 (free_opening s) (ap (λ (x : List (Free V)). slice_get x 0) first) in
+      subst P (sym e) (whole covers start h.extent opens (l.each refl))
