@@ -42,7 +42,7 @@ $(JASONLOOK): crates.txt $(shell find crates/*/src crates/*/specs crates/*/proof
 	touch -r $@.begun $@
 	rm $@.begun
 
-$(CHART): $(shell find crates/chart/src crates/chart/specs crates/chart/proofs)
+$(CHART): $(shell find crates/chart/src crates/chart_page/src crates/chart_page/specs crates/chart_page/proofs)
 	mkdir -p $(@D)
 	touch $@.begun
 	cd crates/chart && rt run <stdin >/dev/null

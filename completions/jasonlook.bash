@@ -4,11 +4,11 @@ _jasonlook() {
     local word=${COMP_WORDS[COMP_CWORD]}
     COMPREPLY=()
     if ((COMP_CWORD == 1)); then
-        COMPREPLY=($(compgen -W "where messages mind --help --version" -- "$word"))
+        COMPREPLY=($(compgen -W "where hints messages mind page --help --version" -- "$word"))
         return
     fi
     case ${COMP_WORDS[1]} in
-        where)
+        where|hints)
             compopt -o filenames 2>/dev/null
             mapfile -t COMPREPLY < <(compgen -d -- "$word"; compgen -f -X '!*.mas2j' -- "$word"; compgen -f -X '!*.asl' -- "$word")
             ;;
@@ -20,7 +20,7 @@ _jasonlook() {
                 mapfile -t COMPREPLY < <(compgen -f -- "$word")
             fi
             ;;
-        mind)
+        mind|page)
             compopt -o filenames 2>/dev/null
             mapfile -t COMPREPLY < <(compgen -f -- "$word")
             ;;

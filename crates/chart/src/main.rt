@@ -1,34 +1,13 @@
 //! A program that draws the report of a run: it reads the report from standard input and writes a picture, an SVG, or a page to standard output.
 //!
-//! May stand on: nothing but std
+//! May stand on: chart
 //!
 //! Must not: open a file, start a thread, run an agent, stand on a crate of the platform.
 #![tactic(auto)]
 
-mod answer;
-mod choice;
-mod columns;
-mod drawing;
-mod escape;
-mod faults;
-mod form;
-mod lanes;
-mod layout;
-mod lines;
-mod made;
-mod messages;
-mod numbers;
-mod order;
-mod page;
-mod page_parts;
-mod picture;
-mod report;
-mod shown;
-mod signs;
-
-use crate::answer::answer;
-use crate::choice::{Choice, asked_of, names_of};
-use crate::faults::Fault;
+use chart_page::answer::answer;
+use chart_page::choice::{Choice, asked_of, names_of};
+use chart_page::faults::{Fault, code};
 use std::process::ExitCode;
 use std::{env, io};
 
@@ -73,5 +52,5 @@ fn main(rt: HostRuntime) -> ExitCode {
         Fault::Write => eprintln!(rt; "write fault"),
         Fault::Memory => eprintln!(rt; "memory"),
     };
-    ExitCode::from(faults::code(fault))
+    ExitCode::from(code(fault))
 }

@@ -14,7 +14,8 @@ use look_text::agendas::put_agenda;
 use look_text::plans::{put_plans, put_rules};
 use std::alloc::Global;
 
-fn put_beliefs(alloc: Global, out: &mut Text, m: &Agent) -> Result<(), Starved>
+/// Appends the part of the beliefs.
+pub fn put_beliefs(alloc: Global, out: &mut Text, m: &Agent) -> Result<(), Starved>
     ensures { OnOk result (out.new ≡ out.old ++ part (codes "beliefs") literal_line m.now.parts.beliefs) }
 {
     let beliefs = m.copy_beliefs(alloc)?;

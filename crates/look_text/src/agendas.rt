@@ -65,7 +65,7 @@ fn put_each_event(alloc: Global, out: &mut Text, all: &[Event]) -> Result<(), St
 }
 
 /// Appends the part of the events, the oldest first.
-fn put_events(alloc: Global, out: &mut Text, events: &Events) -> Result<(), Starved>
+pub fn put_events(alloc: Global, out: &mut Text, events: &Events) -> Result<(), Starved>
     ensures { OnOk result (out.new ≡ out.old ++ part (codes "events") spec.event_text events.now) }
 {
     let (front, back) = events.parts();
@@ -108,7 +108,7 @@ fn put_each_running(
 }
 
 /// Appends the part of the stacks that run, the next to run first.
-fn put_running(alloc: Global, out: &mut Text, all: &Running) -> Result<(), Starved>
+pub fn put_running(alloc: Global, out: &mut Text, all: &Running) -> Result<(), Starved>
     ensures { OnOk result (out.new ≡ out.old ++ spec.intentions_text all.now) }
 {
     let (front, back) = all.parts();
@@ -145,7 +145,7 @@ fn put_held(
 }
 
 /// Appends the part of the stack that waits for its action.
-fn put_acting(
+pub fn put_acting(
     alloc: Global,
     out: &mut Text,
     kept: Option<Feedback>,
@@ -176,7 +176,7 @@ fn put_ask(alloc: Global, out: &mut Text, q: &Ask) -> Result<(), Starved>
 }
 
 /// Appends the part of the stacks that wait for an answer.
-fn put_asks(alloc: Global, out: &mut Text, all: &[Ask]) -> Result<(), Starved>
+pub fn put_asks(alloc: Global, out: &mut Text, all: &[Ask]) -> Result<(), Starved>
     ensures { OnOk result (out.new ≡ out.old ++ part (codes "asks") spec.ask_text all.now) }
 {
     put_head(alloc, out, b"asks", all.len() as u64)?;

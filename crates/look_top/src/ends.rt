@@ -39,9 +39,11 @@ pub fn end_code(end: &LookEnd) -> u8
 /// What the words may be.
 pub const USAGE: &[u8] =
     b"usage: jasonlook where PROJECT           what is refused, with line and column
+       jasonlook hints PROJECT            what is read and looks wrong
        jasonlook messages REPORT [--csv]  who sent what to whom, and when it was taken
        jasonlook mind PROJECT REPORT AGENT TURN
                                           what an agent has in mind after the first TURN turns, or at the end
+       jasonlook page PROJECT REPORT      the run as an HTML page, with what changed in the agents' minds
        jasonlook --help | --version
 PROJECT is a .mas2j or an .asl file; REPORT is a file that jasonrun wrote, or - for standard input; TURN is a number or end.
 ";

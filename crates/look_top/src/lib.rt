@@ -1,6 +1,6 @@
 //! The top call of `jasonlook`, from its words and the files to the output and how it ended.
 //!
-//! May stand on: asl_term, mas_world, mas_io, mas_top, look, the kit's `clap`
+//! May stand on: asl_term, mas_world, mas_io, mas_top, look, chart, the kit's `clap`
 //!
 //! Must not: touch a real file or standard output, know how a command finds what it tells.
 #![tactic(auto)]
@@ -8,5 +8,6 @@
 pub mod ends;
 pub mod looking;
 pub mod minding;
+pub mod paging;
 pub mod top;
 pub mod words;

@@ -10,6 +10,7 @@ use asl_term::names::Names;
 use asl_term::sequence::Starved;
 use asl_term::syntax::Text;
 use look_answer::answer::{LookFault, Output};
+use look_hints::printing::hints;
 use look_messages::messages::messages;
 use look_where::printing::refused_places;
 use mas_io::shelf::Shelf;
@@ -42,6 +43,20 @@ pub fn print_where<S: Shelf, K: Sink>(
             Ok(()) => LookEnd::Written { found: o.found },
             Err(_) => LookEnd::Cut,
         },
+    }
+}
+
+/// Writes the hints of the project of this word, where there are artifacts of these names.
+pub fn print_hints<S: Shelf, K: Sink>(
+    alloc: Global,
+    known: &Names,
+    word: &Text,
+    shelf: &mut S,
+    sink: &mut K,
+) -> LookEnd {
+    match hints(alloc, known, word, shelf) {
+        Err(status) => LookEnd::Refused(LookFault::Ended(status)),
+        Ok(o) => print_output(Ok(o), sink),
     }
 }
 

@@ -17,7 +17,7 @@ use mas_world::artifact::Artifact;
 use std::alloc::Global;
 
 /// The line that says that a file is not the report of the project.
-fn foreign_line(alloc: Global, report: &[u8]) -> Result<Text, Starved> {
+pub fn foreign_line(alloc: Global, report: &[u8]) -> Result<Text, Starved> {
     let mut line = shown(alloc, report)?;
     line.append(b": not the report of this project\n")?;
     Ok(line)

@@ -1,8 +1,9 @@
 //! The top call.
 
 use crate::ends::{LookEnd, USAGE};
-use crate::looking::{print_messages, print_plain, print_where};
+use crate::looking::{print_hints, print_messages, print_plain, print_where};
 use crate::minding::print_mind;
+use crate::paging::print_page;
 use crate::words::{LookAsked, asked_of};
 use asl_term::copying::text_of;
 use asl_term::names::Names;
@@ -29,6 +30,7 @@ fn look_asked<S: Shelf, K: Sink, A: Artifact>(
 ) -> LookEnd {
     match asked {
         LookAsked::Mind(words) => print_mind(alloc, &words, input, shelf, sink, artifacts),
+        LookAsked::Page(words) => print_page(alloc, &words, input, shelf, sink, artifacts),
         LookAsked::Help => {
             drop(artifacts);
             print_plain(alloc, USAGE, sink)
@@ -41,6 +43,13 @@ fn look_asked<S: Shelf, K: Sink, A: Artifact>(
             drop(artifacts);
             match text_of(alloc, project) {
                 Ok(word) => print_where(alloc, known, &word, shelf, sink),
+                Err(_) => LookEnd::Refused(LookFault::Ended(Status::Memory)),
+            }
+        }
+        LookAsked::Hints { project } => {
+            drop(artifacts);
+            match text_of(alloc, project) {
+                Ok(word) => print_hints(alloc, known, &word, shelf, sink),
                 Err(_) => LookEnd::Refused(LookFault::Ended(Status::Memory)),
             }
         }

@@ -11,8 +11,10 @@ pub enum LookAsked<'a> {
     Help,
     Version,
     Where { project: &'a [u8] },
+    Hints { project: &'a [u8] },
     Messages { report: &'a [u8], csv: bool },
     Mind(MindWords<'a>),
+    Page(PageWords<'a>),
 }
 
 /// The words of `mind`: the project, its report, the name of an agent, and after how many turns; without a number after all.
@@ -22,6 +24,13 @@ pub struct MindWords<'a> {
     pub report: &'a [u8],
     pub agent: &'a [u8],
     pub turn: Option<u64>,
+}
+
+/// The words of `page`: the project and its report.
+#[derive(Clone, Copy)]
+pub struct PageWords<'a> {
+    pub project: &'a [u8],
+    pub report: &'a [u8],
 }
 
 /// A command that takes one name.
@@ -55,14 +64,31 @@ fn matches_of<'a>(
     }
 }
 
-fn where_asked<'a>(alloc: Global, words: &'a [String]) -> Result<Option<LookAsked<'a>>, Starved> {
-    let Some(matches) = matches_of(command(alloc, "where", "project")?, words)? else {
+/// The project that a command with this word takes.
+fn project_in<'a>(
+    alloc: Global,
+    word: &'a str,
+    words: &'a [String],
+) -> Result<Option<&'a [u8]>, Starved> {
+    let Some(matches) = matches_of(command(alloc, word, "project")?, words)? else {
         return Ok(None);
     };
     match matches.get_str("project") {
-        Some(project) => Ok(Some(LookAsked::Where {
-            project: project.as_bytes(),
-        })),
+        Some(project) => Ok(Some(project.as_bytes())),
+        None => Ok(None),
+    }
+}
+
+fn where_asked<'a>(alloc: Global, words: &'a [String]) -> Result<Option<LookAsked<'a>>, Starved> {
+    match project_in(alloc, "where", words)? {
+        Some(project) => Ok(Some(LookAsked::Where { project })),
+        None => Ok(None),
+    }
+}
+
+fn hints_asked<'a>(alloc: Global, words: &'a [String]) -> Result<Option<LookAsked<'a>>, Starved> {
+    match project_in(alloc, "hints", words)? {
+        Some(project) => Ok(Some(LookAsked::Hints { project })),
         None => Ok(None),
     }
 }
@@ -127,6 +153,24 @@ fn mind_asked<'a>(alloc: Global, words: &'a [String]) -> Result<Option<LookAsked
     }
 }
 
+/// The words of `page`; None where one is missing.
+fn page_words<'a>(matches: &ArgMatches<'a>) -> Option<PageWords<'a>> {
+    let project = matches.get_str("project")?.as_bytes();
+    let report = matches.get_str("report")?.as_bytes();
+    Some(PageWords { project, report })
+}
+
+fn page_asked<'a>(alloc: Global, words: &'a [String]) -> Result<Option<LookAsked<'a>>, Starved> {
+    let app = command(alloc, "page", "project")?.arg(Arg::new(alloc, "report").required(true))?;
+    let Some(matches) = matches_of(app, words)? else {
+        return Ok(None);
+    };
+    match page_words(&matches) {
+        Some(words) => Ok(Some(LookAsked::Page(words))),
+        None => Ok(None),
+    }
+}
+
 /// What the words ask for; None where they are not read. The words leave out the program's own name.
 pub fn asked_of<'a>(alloc: Global, words: &'a [String]) -> Result<Option<LookAsked<'a>>, Starved> {
     let [word, rest @ ..] = words else {
@@ -136,8 +180,10 @@ pub fn asked_of<'a>(alloc: Global, words: &'a [String]) -> Result<Option<LookAsk
         b"--help" | b"-h" => Ok(Some(LookAsked::Help)),
         b"--version" | b"-V" => Ok(Some(LookAsked::Version)),
         b"where" => where_asked(alloc, rest),
+        b"hints" => hints_asked(alloc, rest),
         b"messages" => messages_asked(alloc, rest),
         b"mind" => mind_asked(alloc, rest),
+        b"page" => page_asked(alloc, rest),
         _ => Ok(None),
     }
 }

@@ -13,6 +13,8 @@ ghost use Rattle.mas_board_turns.specs.Steps as step;
 ghost use Rattle.mas_baton.specs.Seats as spec;
 ghost use Rattle.mas_baton.specs.Gathering as gathering;
 
+use crate::parcel::Parcel;
+use crate::patience::Patience;
 use crate::rule::{BatonCloses, BatonGives, BatonOpens, BatonRule, BatonTakes};
 use crate::seat::{Seat, Seats};
 use asl_term::sequence::{Seq, Starved};
@@ -29,7 +31,7 @@ use std::sync::Wait;
 use std::thread;
 use std::thread::Threads;
 
-pub type BatonQueue<A> = RuledArrayQueue<Board<A>, SideView, BatonRule>;
+pub type BatonQueue<A> = RuledArrayQueue<Parcel<Board<A>>, SideView, BatonRule>;
 
 /// The place of the board between two exchanges.
 #[derive(Drop)]
@@ -51,6 +53,7 @@ pub fn open_baton<R: Threads + Wait + Sync, A: Artifact>(
     let mut seats = Seq::new(alloc);
     let (line, pass) = BatonQueue::ruled(alloc, 1)?;
     let baton = Baton { line };
+    let board = Parcel::new(alloc, board)?;
     let mut pass = baton.begin(rt, pass, board);
     for k in 0..agents {
         let one = baton.line.another::<SplitsSide>(&mut pass);
@@ -67,9 +70,9 @@ impl<A: Artifact> Baton<A> {
     fn begin<R: Wait>(
         &self,
         rt: &R,
-        mut pass: Pass<Board<A>, SideView>,
-        mut board: Board<A>,
-    ) -> Pass<Board<A>, SideView>
+        mut pass: Pass<Parcel<Board<A>>, SideView>,
+        mut board: Parcel<Board<A>>,
+    ) -> Pass<Parcel<Board<A>>, SideView>
         requires pass { IsPassOf self.now.line pass }
         requires empty { (view pass).started ≡ false }
         ensures pass { IsPassOf self.now.line result }
@@ -86,22 +89,23 @@ impl<A: Artifact> Baton<A> {
     }
 
     /// Takes the board.
-    fn take<R: Wait>(&self, rt: &R, seat: &mut Seat<A>) -> Board<A>
+    fn take<R: Wait>(&self, rt: &R, seat: &mut Seat<A>) -> Parcel<Board<A>>
         requires { spec.IsSeatOf self.now seat.old }
         ensures seat { spec.HasSeat self.now true seat.new }
         ensures met { spec.Met seat.old seat.new result }
     {
+        let mut patience = Patience::new();
         for _ in rt.forever() {
             if let Some(board) = self.line.try_pop_as::<BatonTakes>(&mut seat.pass) {
                 return board;
             }
-            thread::yield_now();
+            patience.wait(rt);
         }
         unreachable!()
     }
 
     /// Gives the board back, with the turn that was made.
-    fn give<K: Making, R: Wait>(&self, rt: &R, seat: &mut Seat<A>, mut board: Board<A>)
+    fn give<K: Making, R: Wait>(&self, rt: &R, seat: &mut Seat<A>, mut board: Parcel<Board<A>>)
         requires hand { spec.HasSeat self.now true seat.old }
         requires made { step.Made K.made (spec.met_by seat.old) seat.old.number board }
         ensures seat { spec.IsSeatOf self.now seat.new }
@@ -125,7 +129,7 @@ impl<A: Artifact> Baton<A> {
         &self,
         rt: &R,
         seat: &mut Seat<A>,
-        board: Board<A>,
+        board: Parcel<Board<A>>,
         answer: &Result<Sensed, Starved>,
     )
         requires hand { spec.HasSeat self.now true seat.old }
@@ -143,7 +147,7 @@ impl<A: Artifact> Baton<A> {
         &self,
         rt: &R,
         seat: &mut Seat<A>,
-        board: Board<A>,
+        board: Parcel<Board<A>>,
         outs: &Snapshot<Outs>,
         answer: &Result<Option<Feedback>, Starved>,
     )
@@ -173,7 +177,7 @@ impl<A: Artifact> Baton<A> {
         ensures refused { OnErr result (spec.NothingExchanged seat.old seat.new) }
     {
         let mut board = self.take(rt, seat);
-        let answer = board.sense(alloc, seat.number);
+        let answer = board.value_mut().sense(alloc, seat.number);
         self.give_sense::<Brand, R>(rt, seat, board, &answer);
         answer
     }
@@ -198,7 +202,7 @@ impl<A: Artifact> Baton<A> {
     {
         let mut board = self.take(rt, seat);
         let shown = Snapshot::of(&*outs);
-        let answer = board.emit(alloc, seat.number, outs);
+        let answer = board.value_mut().emit(alloc, seat.number, outs);
         self.give_emit::<Brand, R>(rt, seat, board, &shown, &answer);
         answer
     }
@@ -211,7 +215,7 @@ impl<A: Artifact> Baton<A> {
         ensures left { spec.LeaveExchanged seat.old seat.new }
     {
         let mut board = self.take(rt, seat);
-        board.leave(seat.number);
+        board.value_mut().leave(seat.number);
         self.give::<Departs, R>(rt, seat, board)
     }
 
@@ -222,16 +226,16 @@ impl<A: Artifact> Baton<A> {
         ensures halted { spec.HaltExchanged seat.old seat.new }
     {
         let mut board = self.take(rt, seat);
-        board.halt();
+        board.value_mut().halt();
         self.give::<Nothing, R>(rt, seat, board)
     }
 
     /// Takes the views of these seats into the pass.
     fn gather(
         &self,
-        mut pass: Pass<Board<A>, SideView>,
+        mut pass: Pass<Parcel<Board<A>>, SideView>,
         mut seats: Seats<A>,
-    ) -> Pass<Board<A>, SideView>
+    ) -> Pass<Parcel<Board<A>>, SideView>
         requires pass { IsPassOf self.now.line pass }
         requires gathers { gathering.Gathers (view pass) }
         requires seats { Each (spec.IsSeatOf self.now) seats }
@@ -259,7 +263,7 @@ impl<A: Artifact> Baton<A> {
         let Seat { number: _, pass } = first;
         let mut pass = self.gather(pass, seats);
         match self.line.pop_as::<BatonCloses, R>(rt, &mut pass) {
-            Some(board) => board,
+            Some(board) => board.into_inner(),
             None => unreachable!(),
         }
     }

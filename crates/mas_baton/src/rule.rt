@@ -1,5 +1,6 @@
 //! The rule that ties what each seat knows to the board.
 
+use crate::parcel::Parcel;
 use crossbeam_queue::protocol::{Lesson, Outcome, Protocol};
 use mas_board::board::Board;
 use mas_board_turns::view::{Making, SideView};
@@ -9,7 +10,7 @@ use std::marker::PhantomData;
 /// The rule of the queue in which the board lies.
 pub struct BatonRule;
 
-impl<A: Artifact> Protocol<Board<A>, SideView> for BatonRule {
+impl<A: Artifact> Protocol<Parcel<Board<A>>, SideView> for BatonRule {
     ghost use Rattle.mas_board_turns.specs.Steps.{blank};
     ghost use Rattle.mas_board_turns.specs.Rule.{Holds};
     ghost use Rattle.mas_baton.specs.Rule.{showing};
@@ -22,7 +23,7 @@ impl<A: Artifact> Protocol<Board<A>, SideView> for BatonRule {
 /// The board comes.
 pub struct BatonOpens;
 
-impl<A: Artifact> Outcome<Board<A>, SideView> for BatonOpens {
+impl<A: Artifact> Outcome<Parcel<Board<A>>, SideView> for BatonOpens {
     ghost use Rattle.std.specs.Prelude.{◌≡◌};
     ghost use Rattle.mas_board_turns.specs.Views.{bare};
     ghost use Rattle.mas_board_turns.specs.Steps.{opened};
@@ -33,7 +34,7 @@ impl<A: Artifact> Outcome<Board<A>, SideView> for BatonOpens {
 /// A seat takes the board.
 pub struct BatonTakes;
 
-impl<A: Artifact> Outcome<Board<A>, SideView> for BatonTakes {
+impl<A: Artifact> Outcome<Parcel<Board<A>>, SideView> for BatonTakes {
     ghost use Rattle.mas_board_turns.specs.Rule.{Taken};
     ghost use Rattle.mas_baton.specs.Rule.{showing};
 
@@ -45,7 +46,7 @@ pub struct BatonGives<K: Making> {
     of: PhantomData<K>,
 }
 
-impl<K: Making, A: Artifact> Outcome<Board<A>, SideView> for BatonGives<K> {
+impl<K: Making, A: Artifact> Outcome<Parcel<Board<A>>, SideView> for BatonGives<K> {
     ghost use Rattle.std.specs.Prelude.{◌≡◌};
     ghost use Rattle.mas_board_turns.specs.Steps.{gave};
 
@@ -55,14 +56,14 @@ impl<K: Making, A: Artifact> Outcome<Board<A>, SideView> for BatonGives<K> {
 /// Whoever has every agent takes the board for good.
 pub struct BatonCloses;
 
-impl<A: Artifact> Outcome<Board<A>, SideView> for BatonCloses {
+impl<A: Artifact> Outcome<Parcel<Board<A>>, SideView> for BatonCloses {
     ghost use Rattle.mas_board_turns.specs.Rule.{Told};
     ghost use Rattle.mas_baton.specs.Rule.{showing};
 
     ghost then = { λ v x w. Told showing v x };
 }
 
-impl<A: Artifact> Lesson<Board<A>, SideView> for BatonCloses {
+impl<A: Artifact> Lesson<Parcel<Board<A>>, SideView> for BatonCloses {
     ghost use Rattle.std.specs.Prelude.{◌≡◌, length};
 
     ghost fact = { λ v items. length items ≡ 1 };

@@ -1,5 +1,6 @@
 //! The right of one agent to make its turns.
 
+use crate::parcel::Parcel;
 use asl_term::sequence::Seq;
 use crossbeam_queue::Pass;
 use mas_board::board::Board;
@@ -10,7 +11,7 @@ use mas_world::artifact::Artifact;
 #[derive(Drop)]
 pub struct Seat<A: Artifact> {
     pub number: u32,
-    pub pass: Pass<Board<A>, SideView>,
+    pub pass: Pass<Parcel<Board<A>>, SideView>,
 }
 
 pub type Seats<A> = Seq<Seat<A>>;

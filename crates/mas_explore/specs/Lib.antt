@@ -1,2 +1,3 @@
+pub mod Origins
 pub mod Searches
 pub mod Listings

@@ -1,6 +1,6 @@
 //! All outcomes.
 
-ghost use Rattle.std.specs.Prelude.{◌≡◌, ◌∷◌, ◌&&◌, [], true, All, IfOk, IfSome, length, ◌<◌};
+ghost use Rattle.std.specs.Prelude.{◌≡◌, ◌∷◌, ◌&&◌, [], true, All, IfOk, IfSome, length, ◌<◌, ◌≤◌};
 ghost use Rattle.mas_free.specs.Covers.{IsStart, free_opening};
 ghost use Rattle.mas_explore.specs.Listings as spec;
 
@@ -115,7 +115,7 @@ fn extent_of(followed: bool, listed: bool) -> Extent
 }
 
 /// The outcomes of the runs from this start, under whatever limits, of which no agent has to leave for its limit of cycles: all of them, or as many as are
-/// found where at most so many states are followed. The space holds the first state alone.
+/// found where at most so many states are followed, which is a million or less. The space holds the first state alone.
 pub fn explore<M: Steady, S: Space<M>, R: Runs<M>>(
     alloc: Global,
     space: &mut S,
@@ -123,6 +123,7 @@ pub fn explore<M: Steady, S: Space<M>, R: Runs<M>>(
     view: View,
     most: u64,
 ) -> Result<Listing, Starved>
+    requires short { most ≤ 1000000 }
     requires start { IsStart M.kind (R.start runs.now) }
     requires first { S.met space.old ≡ free_opening (R.start runs.now) ∷ [] }
     ensures sound { IfOk result (λ f. spec.AreShown M.kind view (R.start runs.now) f.list) }

@@ -7,6 +7,7 @@
 
 pub mod explore;
 pub mod listing;
+pub mod origin;
 pub mod runs;
 pub mod search;
 pub mod space;

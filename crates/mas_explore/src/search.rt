@@ -1,6 +1,6 @@
 //! All states that can be reached.
 
-ghost use Rattle.std.specs.Prelude.{◌≡◌, ◌<◌, ◌||◌, [], length, IfOk, OnOk};
+ghost use Rattle.std.specs.Prelude.{◌≡◌, ◌<◌, ◌≤◌, ◌||◌, [], length, IfOk, OnOk};
 ghost use Rattle.mas_explore.specs.Searches as spec;
 
 use crate::space::Space;
@@ -30,7 +30,8 @@ fn follow_state<M: Steady, S: Space<M>>(
     view: View,
     state: u64,
 ) -> Result<bool, Starved>
-    requires { state < length (S.met space.old) }
+    requires there { state < length (S.met space.old) }
+    requires short { state < 1000000 }
     ensures { IfOk result (spec.HasFollowedAll M.kind view (S.met space.old) (S.met space.new) state) }
 {
     let agents = space.agents();
@@ -42,7 +43,8 @@ fn follow_state<M: Steady, S: Space<M>>(
     Ok(moved)
 }
 
-/// Follows the states in their order, at most so many: whether these are all that were met. The numbers of those from which there is no move are put last.
+/// Follows the states in their order, at most so many, which is a million or less: whether these are all that were met. The numbers of those from which
+/// there is no move are put last.
 pub fn follow_all<M: Steady, S: Space<M>>(
     alloc: Global,
     space: &mut S,
@@ -50,7 +52,8 @@ pub fn follow_all<M: Steady, S: Space<M>>(
     most: u64,
     rests: &mut Seq<u64>,
 ) -> Result<bool, Starved>
-    requires { rests.old ≡ [] }
+    requires short { most ≤ 1000000 }
+    requires none { rests.old ≡ [] }
     ensures { IfOk result (spec.HasSearched M.kind view (S.met space.old) (S.met space.new) rests.new most) }
 {
     for i in 0..most {

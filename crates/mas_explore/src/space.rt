@@ -30,9 +30,10 @@ pub trait Space<M: Steady> {
         ensures { result ≡ length (met self.now) };
 
     /// Follows the move of an agent from a state, where it has one: what it leads to, or a state that is like it in this view, is one of those that were
-    /// met, now or before. Tells whether it has one.
+    /// met, now or before. Tells whether it has one. No more than a million states are followed, so that no mind has made more cycles than a mind can make.
     fn follow(&mut self, alloc: Global, state: u64, a: u32, view: View) -> Result<bool, Starved>
         requires there { state < length (met self.old) }
+        requires short { state < 1000000 }
         requires agent { IsAgent (length (start self.old).names) a }
         ensures start { start self.new ≡ start self.old }
         ensures followed { IfOk result (spec.HasFollowed M.kind view (met self.old) (met self.new) state a) };

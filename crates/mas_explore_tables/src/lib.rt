@@ -1,8 +1,12 @@
-//! Tables in which values are known again by their content, and have numbers.
+//! Tables in which values are known again by their content, and have numbers. Answers that are remembered. Values that are held by what befell them.
 //!
-//! May stand on: asl_term
+//! May stand on: asl_term, mas_mind
 //!
-//! Must not: know what its values are, start a thread, wait, read or write a file.
+//! Must not: call a mind, start a thread, wait, read or write a file.
 #![tactic(auto)]
 
+pub mod answers;
+pub mod history;
+pub mod known;
+pub mod mixing;
 pub mod table;

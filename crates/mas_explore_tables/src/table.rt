@@ -1,6 +1,6 @@
 //! Tables of values that are known again.
 
-ghost use Rattle.std.specs.Prelude.{◌≡◌, ◌<◌, ◌≤◌, ◌^◌, [], true, length, slice_get, Some, IfOk, IfSome, OnOk};
+ghost use Rattle.std.specs.Prelude.{◌≡◌, ◌<◌, ◌≤◌, ◌^◌, [], true, length, slice_get, Some, IfOk, IfSome, OnOk, OnErr};
 ghost use Rattle.std.specs.Option.{option_copied};
 ghost use Rattle.mas_explore_tables.specs.Tables as spec;
 
@@ -171,10 +171,11 @@ impl<T: Known> Table<T> {
         Ok(())
     }
 
-    /// The number of this value, which is put last where it is not known.
+    /// The place of this value, which is put last where it is not known.
     #[tactic(auto, using(crate::proofs::Entering::entered, crate::proofs::Entering::known))]
-    pub fn enter(&mut self, alloc: Global, x: T) -> Result<u64, Starved>
-        ensures { IfOk result (spec.HasEntered self.old self.new x) }
+    fn place_of(&mut self, alloc: Global, x: T) -> Result<u64, Starved>
+        ensures entered { IfOk result (spec.HasEntered self.old self.new x) }
+        ensures refused { OnErr result (spec.IsGrown self.old self.new x) }
     {
         if let Some(n) = self.look(&x) {
             return Ok(n);
@@ -184,5 +185,15 @@ impl<T: Known> Table<T> {
         self.items.push(x)?;
         self.note(alloc, mix)?;
         Ok(n)
+    }
+
+    /// The number of this value, which is put last where it is not known. No memory holds as many values as there may be numbers.
+    pub fn enter(&mut self, alloc: Global, x: T) -> Result<u64, Starved>
+        ensures entered { IfOk result (spec.HasEntered self.old self.new x) }
+        ensures few { IfOk result (λ n. n < 2 ^ 62) }
+        ensures refused { OnErr result (spec.IsGrown self.old self.new x) }
+    {
+        let n = self.place_of(alloc, x)?;
+        if n < 1 << 62 { Ok(n) } else { Err(Starved) }
     }
 }

@@ -4,7 +4,8 @@ use denote.Param.SendFields.{as_row_send, declared_send}
 use denote.RattleType.{RattleType}
 use Rattle.mas_world.specs.declared.artifact.Artifact.{Ghosts}
 use Rattle.mas_baton.proofs.Sends.{seat_send}
+use Rattle.mas_baton.proofs.parcel.Parcel.TheSendSync.{the_send as parcel_send}
 use Rattle.mas_pool_task.specs.contracts.going.Going as going
 
 pub going_send : (M A : RattleType) (g : Ghosts A.Denot) → IsSend M → IsSend A → IsSend (going.the_row M A g)
-going_send M A g m s = let t = seat_send A g s in search (sendable, declared_send, as_row_send) depth 14
+going_send M A g m s = let t = seat_send A g s in search (sendable, declared_send, as_row_send, parcel_send) depth 16 fits 4000

@@ -9,6 +9,7 @@ ghost use Rattle.mas_pool_task.specs.Goings as spec;
 use crate::gate::Gate;
 use asl_term::sequence::Seq;
 use mas_baton::baton::Baton;
+use mas_baton::parcel::Parcel;
 use mas_baton::seat::Seat;
 use mas_board::seats::Sensed;
 use mas_mind::mind::{Input, Outs, Thought};
@@ -25,7 +26,7 @@ pub struct Going<M: Mind, A: Artifact> {
     pub number: u32,
     pub cycle: u64,
     pub seat: Seat<A>,
-    pub mind: M,
+    pub mind: Parcel<M>,
 }
 
 pub type Goings<M, A> = Seq<Going<M, A>>;
@@ -59,7 +60,7 @@ fn emit<R: Threads + Wait + Sync, M: Mind, A: Artifact>(
     match baton.exchange_emit(rt, alloc, &mut going.seat, &mut outs) {
         Ok(None) => true,
         Ok(Some(feedback)) => {
-            going.mind.took(feedback);
+            going.mind.value_mut().took(feedback);
             true
         }
         Err(_) => {
@@ -85,7 +86,7 @@ fn answer<R: Threads + Wait + Sync, M: Mind, A: Artifact, G: Gate>(
 {
     going.cycle += 1;
     gate.thinking(going.number, going.cycle);
-    let thought = going.mind.think(alloc, input);
+    let thought = going.mind.value_mut().think(alloc, input);
     gate.done(going.number, going.cycle);
     match thought {
         Ok(Thought::Outs(outs)) => emit(rt, alloc, baton, going, outs),

@@ -1,4 +1,7 @@
-use Rattle.std.proofs.Common.{◌<◌, length, ap, add-one, arith}
+use Rattle.std.proofs.Common.{◌<◌, length, ap, ◌∙◌, add-one, arith}
+use Rattle.mas_board.specs.Boards.{Noted}
+use Rattle.mas_board_turns.specs.Views.{bare}
+use Rattle.mas_board_turns.specs.Steps.{opened}
 use Rattle.mas_board_turns.proofs.Joins.{forks}
 use Rattle.mas_baton.proofs.Openings.{opening_first, opening_next}
 use Rattle.mas_baton.proofs.baton.open_baton.Goals as goal
@@ -6,7 +9,7 @@ use Rattle.mas_baton.proofs.baton.open_baton.Goals as goal
 pub loop-k-init : goal.loop-k-init
 loop-k-init g c =
     let p = c.begin-pass.ensures in
-    let h = opening_first {A = g.row.A.Denot} (record { line = c.in_ok-line.line }) c.args.board c.begin-pass.result p.pass p.opened c.holds.ensures.opens c.requires.unplayed in
+    let h = opening_first {A = g.row.A.Denot} (record { line = c.in_ok-line.line }) c.args.board c.begin-pass.result p.pass (p.opened ∙ ap (λ (x : Noted). opened (bare x)) c.in_ok-board.ensures) c.holds.ensures.opens c.requires.unplayed in
     rw c.new-seats.ensures h
 
 pub another-one-requires-clause-rule : goal.another-one-requires-clause-rule

@@ -1,5 +1,0 @@
-pub mod Refused
-pub mod Form
-pub mod Escape
-pub mod Shown
-pub mod Texts

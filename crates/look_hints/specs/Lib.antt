@@ -1,0 +1,2 @@
+pub mod Planless
+pub mod Showing

@@ -1,0 +1,128 @@
+//! A hint: a place in a file, a stable word for what it is, a reason and notes.
+
+use asl_lexer::token::Place;
+use asl_term::sequence::{Seq, Starved};
+use asl_term::syntax::Text;
+use look_reasons::mark::Mark;
+use look_reasons::mending::joined;
+use std::alloc::Global;
+
+/// What a hint is about, in the order of the words.
+#[derive(Clone, Copy, Debug, PartialEq, Eq, Drop)]
+pub enum Code {
+    Covered,
+    Endless,
+    Jason,
+    Never,
+    NoAct,
+    NoAgent,
+    NoAnswer,
+    NoPlan,
+    NoVerb,
+    NotCalled,
+    Once,
+    OpenBelief,
+    Unused,
+}
+
+/// The word of a code.
+pub fn code_word(code: Code) -> &'static [u8] {
+    match code {
+        Code::Covered => b"covered",
+        Code::Endless => b"endless",
+        Code::Jason => b"jason",
+        Code::Never => b"never",
+        Code::NoAct => b"no-act",
+        Code::NoAgent => b"no-agent",
+        Code::NoAnswer => b"no-answer",
+        Code::NoPlan => b"no-plan",
+        Code::NoVerb => b"no-verb",
+        Code::NotCalled => b"not-called",
+        Code::Once => b"once",
+        Code::OpenBelief => b"open-belief",
+        Code::Unused => b"unused",
+    }
+}
+
+/// The bytes that a hint marks: where they begin, and the byte behind them.
+#[derive(Clone, Copy)]
+pub struct Span {
+    pub place: Place,
+    pub end: u64,
+}
+
+#[derive(Drop)]
+pub struct Hint {
+    pub place: Place,
+    pub end: u64,
+    pub code: Code,
+    pub text: Text,
+    pub notes: Seq<Text>,
+}
+
+pub type Hints = Seq<Hint>;
+
+/// The bytes of a token.
+pub fn span_of(m: &Mark<'_>) -> Span {
+    Span {
+        place: Place {
+            at: m.at as u64,
+            line: m.line,
+            column: m.column,
+        },
+        end: m.end as u64,
+    }
+}
+
+/// The bytes of the token at a place; of the last one where there is none.
+pub fn span_at(marks: &[Mark<'_>], at: usize) -> Span {
+    match marks.get(at) {
+        Some(m) => span_of(m),
+        None => match marks.last() {
+            Some(m) => span_of(m),
+            None => Span {
+                place: Place {
+                    at: 0,
+                    line: 1,
+                    column: 1,
+                },
+                end: 0,
+            },
+        },
+    }
+}
+
+/// The bytes from the token at a place to the end of one behind it.
+pub fn span_to(marks: &[Mark<'_>], at: usize, last: usize) -> Span {
+    Span {
+        place: span_at(marks, at).place,
+        end: span_at(marks, last).end,
+    }
+}
+
+/// A hint whose reason is these parts, without notes.
+pub fn hint_at(alloc: Global, span: Span, code: Code, parts: &[&[u8]]) -> Result<Hint, Starved> {
+    Ok(Hint {
+        place: span.place,
+        end: span.end,
+        code,
+        text: joined(alloc, parts)?,
+        notes: Seq::new(alloc),
+    })
+}
+
+/// The hint with a note more.
+pub fn noted(alloc: Global, h: Hint, parts: &[&[u8]]) -> Result<Hint, Starved> {
+    let mut h = h;
+    h.notes.push(joined(alloc, parts)?)?;
+    Ok(h)
+}
+
+/// The hint with this note, where there is one.
+pub fn noted_if(h: Hint, note: Option<Text>) -> Result<Hint, Starved> {
+    let mut h = h;
+    if let Some(note) = note {
+        h.notes.push(note)?;
+    }
+    Ok(h)
+}

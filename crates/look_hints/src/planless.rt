@@ -1,0 +1,129 @@
+//! Goals for which a source has no plan.
+
+ghost use Rattle.std.specs.Prelude.{◌≡◌, ◌++◌, map, IfOk, OnOk};
+ghost use Rattle.look_names.specs.Goals.{unplanned};
+ghost use Rattle.look_hints.specs.Planless as spec;
+
+use crate::hint::{Code, Hint, Hints, Span, hint_at, noted, noted_if, span_at};
+use crate::naming::{file_text, same_in};
+use crate::project::Member;
+use asl_term::sequence::{Seq, Starved};
+use asl_term::syntax::{Kind, Literal};
+use look_names::clause::{ReadClause, has_plan};
+use look_names::goals::{PlacedGoal, unplanned};
+use look_names::name::literal_name;
+use look_reasons::mark::Mark;
+use std::alloc::Global;
+
+/// The bytes of a goal that begins at a place: its `~` and its functor.
+fn goal_span(marks: &[Mark<'_>], p: &PlacedGoal) -> Span {
+    let mut end = p.place.at;
+    for (k, m) in marks.iter().enumerate() {
+        if m.at as u64 == p.place.at {
+            let last = if p.goal.neg { k.saturating_add(1) } else { k };
+            end = span_at(marks, last).end;
+        }
+    }
+    Span {
+        place: p.place,
+        end,
+    }
+}
+
+/// The hint with what else there is for the goal.
+fn with_notes(alloc: Global, m: &Member, g: &Literal, h: Hint) -> Result<Hint, Starved> {
+    let clauses = m.source.clauses.as_slice();
+    let name = literal_name(alloc, g)?;
+    let mut h = noted_if(h, same_in(alloc, m.deeds.planned.as_slice(), g)?)?;
+    if has_plan(clauses, false, Kind::Achieve, g) {
+        h = noted(
+            alloc,
+            h,
+            &[b"its failure plan -!", name.as_slice(), b" is taken"],
+        )?;
+    }
+    if has_plan(clauses, true, Kind::Belief, g) {
+        h = noted(
+            alloc,
+            h,
+            &[b"there is a plan for the belief +", name.as_slice()],
+        )?;
+    }
+    Ok(h)
+}
+
+/// The reason of a hint, and its notes.
+fn worded(alloc: Global, m: &Member, marks: &[Mark<'_>], p: &PlacedGoal) -> Result<Hint, Starved> {
+    let name = literal_name(alloc, &p.goal)?;
+    let file = file_text(alloc, &m.source.file)?;
+    let h = hint_at(
+        alloc,
+        goal_span(marks, p),
+        Code::NoPlan,
+        &[b"no plan +!", name.as_slice(), b" in ", file.as_slice()],
+    )?;
+    with_notes(alloc, m, &p.goal, h)
+}
+
+/// The hint at the place of a goal.
+fn planless_hint(
+    alloc: Global,
+    m: &Member,
+    marks: &[Mark<'_>],
+    p: &PlacedGoal,
+) -> Result<Hint, Starved>
+    ensures { IfOk result (λ h. spec.spot h ≡ spec.spot_of p.now) }
+{
+    let Hint {
+        place: _,
+        end,
+        code: _,
+        text,
+        notes,
+    } = worded(alloc, m, marks, p)?;
+    Ok(Hint {
+        place: p.place,
+        end,
+        code: Code::NoPlan,
+        text,
+        notes,
+    })
+}
+
+/// The hints at the places of goals.
+#[tactic(auto, using(crate::proofs::Spots::more, crate::proofs::Spots::all))]
+fn hints_at(
+    alloc: Global,
+    m: &Member,
+    marks: &[Mark<'_>],
+    goals: &[PlacedGoal],
+) -> Result<Hints, Starved>
+    ensures { IfOk result (λ hs. map spec.spot hs ≡ map spec.spot_of goals.now) }
+{
+    let mut all = Seq::new(alloc);
+    let mut rest = goals;
+    'goals: while let Some((p, after)) = rest.split_first() {
+        all.push(planless_hint(alloc, m, marks, p)?)?;
+        rest = after;
+    }
+    Ok(all)
+}
+
+/// The hints at the goals of a clause for which its source has no plan. There is none where some message may tell a plan.
+pub fn planless(
+    alloc: Global,
+    tells_plans: bool,
+    m: &Member,
+    c: &ReadClause,
+    marks: &[Mark<'_>],
+) -> Result<Hints, Starved>
+    ensures { IfOk result (λ hs. map spec.spot hs ≡ spec.planless tells_plans m.now.source.clauses c.now) }
+{
+    if tells_plans {
+        return Ok(Seq::new(alloc));
+    }
+    let goals = unplanned(alloc, m.source.clauses.as_slice(), c)?;
+    let hints = hints_at(alloc, m, marks, goals.as_slice());
+    drop(goals);
+    hints
+}

@@ -1,0 +1,172 @@
+//! The text of `hints`.
+
+ghost use Rattle.std.specs.Prelude.{◌≡◌, ◌≤◌, ◌++◌, OnOk, IfOk};
+ghost use Rattle.std.specs.List.{flat_map, list_any};
+ghost use Rattle.look_hints.specs.Showing as spec;
+
+use crate::finding::{HintsTold, member_told, world_told};
+use crate::project::ReadProject;
+use crate::sources::read_project;
+use crate::world::ReadWorld;
+use asl_term::names::Names;
+use asl_term::printing::write_number;
+use asl_term::sequence::{Seq, Starved};
+use asl_term::syntax::Text;
+use look_answer::answer::Output;
+use look_pieces::findings::Finding;
+use look_where::files::{FileTold, files_told};
+use mas_io::shelf::Shelf;
+use mas_top_status::status::Status;
+use std::alloc::Global;
+
+/// Puts a hint in a file that is shown so.
+fn put_hint(alloc: Global, file: &Text, f: &Finding, out: &mut Text) -> Result<(), Starved>
+    ensures { OnOk result (out.new ≡ out.old ++ spec.hint_text file.now f.now) }
+{
+    out.append(file.as_slice())?;
+    out.append(b":")?;
+    write_number(alloc, f.line, out)?;
+    out.append(b":")?;
+    write_number(alloc, f.column, out)?;
+    out.append(b": hint: ")?;
+    out.append(f.about.as_slice())
+}
+
+fn put_hints(alloc: Global, t: &HintsTold, out: &mut Text) -> Result<(), Starved>
+    ensures { OnOk result (out.new ≡ out.old ++ spec.file_text t.now) }
+{
+    let mut rest = t.findings.as_slice();
+    'findings: while let Some((f, after)) = rest.split_first() {
+        put_hint(alloc, &t.shown, f, out)?;
+        rest = after;
+    }
+    Ok(())
+}
+
+fn put_files(alloc: Global, files: &[HintsTold], out: &mut Text) -> Result<(), Starved>
+    ensures { OnOk result (out.new ≡ out.old ++ flat_map spec.file_text files.now) }
+{
+    let mut rest = files;
+    'files: while let Some((t, after)) = rest.split_first() {
+        put_hints(alloc, t, out)?;
+        rest = after;
+    }
+    Ok(())
+}
+
+/// Whether some file has a hint.
+fn is_found(files: &[HintsTold]) -> bool
+    ensures { result ≡ list_any spec.is_told files.now }
+{
+    files.iter().any(|t| t.findings.len() > 0)
+}
+
+/// `1 hint`, `2 hints`
+fn put_counted(alloc: Global, n: u64, what: &[u8], out: &mut Text) -> Result<(), Starved> {
+    write_number(alloc, n, out)?;
+    out.append(what)?;
+    if n != 1 {
+        out.push(b's')?;
+    }
+    Ok(())
+}
+
+/// How many places are refused.
+fn refused_in(files: &[FileTold]) -> u64 {
+    let mut all: u64 = 0;
+    for t in files {
+        all = all.saturating_add(t.findings.len());
+    }
+    all
+}
+
+/// The line on what is refused, and how many hints there are.
+fn last_lines(alloc: Global, refused: u64, files: &[HintsTold]) -> Result<Text, Starved> {
+    let mut out = Seq::new(alloc);
+    if refused > 0 {
+        out.append(b"note: ")?;
+        put_counted(alloc, refused, b" place", &mut out)?;
+        out.append(b" refused and left out here: see `where`\n")?;
+    }
+    let mut hints: u64 = 0;
+    for t in files {
+        hints = hints.saturating_add(t.findings.len());
+    }
+    put_counted(alloc, hints, b" hint", &mut out)?;
+    out.push(b'\n')?;
+    Ok(out)
+}
+
+/// What is written of these hints, where so many places are refused.
+#[tactic(auto, using(crate::proofs::Shown::is_text))]
+fn output_of(alloc: Global, refused: u64, files: &[HintsTold]) -> Result<Output, Starved>
+    ensures { IfOk result (λ o. spec.IsHints files.now o.found o.text) }
+{
+    let mut text = Seq::new(alloc);
+    put_files(alloc, files, &mut text)?;
+    let last = last_lines(alloc, refused, files)?;
+    text.append(last.as_slice())?;
+    drop(last);
+    Ok(Output {
+        text,
+        found: is_found(files),
+    })
+}
+
+#[tactic(auto, using(crate::proofs::Shown::one_more))]
+fn put_world(
+    alloc: Global,
+    world: Option<&ReadWorld>,
+    all: &mut Seq<HintsTold>,
+) -> Result<(), Starved>
+    ensures { OnOk result (spec.count_hints all.old ≤ spec.count_hints all.new) }
+{
+    match world {
+        Some(w) => all.push(world_told(alloc, w)?),
+        None => Ok(()),
+    }
+}
+
+/// The hints of each source of a project.
+#[tactic(auto, using(crate::proofs::Shown::counted, crate::proofs::Shown::all_counted))]
+fn members_told(alloc: Global, p: &ReadProject) -> Result<Seq<HintsTold>, Starved>
+    ensures { IfOk result (λ ts. spec.count_planless p.now.tells_plans p.now.members ≤ spec.count_hints ts) }
+{
+    let mut all = Seq::new(alloc);
+    let mut place: usize = 0;
+    let mut rest = p.members.as_slice();
+    'members: while let Some((member, after)) = rest.split_first() {
+        all.push(member_told(alloc, p, place, member)?)?;
+        place = place.saturating_add(1);
+        rest = after;
+    }
+    Ok(all)
+}
+
+/// What is written of the hints of a project, where so many places are refused.
+#[tactic(auto, using(crate::proofs::Shown::is_written))]
+pub fn project_hints(alloc: Global, refused: u64, p: &ReadProject) -> Result<Output, Starved>
+    ensures { IfOk result (λ o. spec.AreWritten p.now.tells_plans p.now.members o.found o.text) }
+{
+    let mut told = members_told(alloc, p)?;
+    put_world(alloc, p.world.as_ref(), &mut told)?;
+    let output = output_of(alloc, refused, told.as_slice());
+    drop(told);
+    output
+}
+
+/// What looks wrong in the files of a project that are read, where there are artifacts of these names.
+pub fn hints<S: Shelf>(
+    alloc: Global,
+    known: &Names,
+    word: &Text,
+    shelf: &mut S,
+) -> Result<Output, Status> {
+    let files = files_told(alloc, known, word, shelf)?;
+    let refused = refused_in(files.as_slice());
+    let p = read_project(alloc, known, word, files.as_slice(), shelf)?;
+    drop(files);
+    let output = project_hints(alloc, refused, &p);
+    drop(p);
+    Ok(output?)
+}

@@ -1,0 +1,103 @@
+//! A project as it is read: its sources with what they do, and its world.
+
+use crate::deeds::{Deeds, comes, deeds_of};
+use crate::reading::ReadSource;
+use crate::sends::{all_sent, tells_plans};
+use crate::world::ReadWorld;
+use asl_term::copying::copy_text;
+use asl_term::sequence::{Seq, Starved};
+use asl_term::syntax::{Literal, Text};
+use look_names::clause::ReadClause;
+use look_names::name::has_name;
+use look_reasons::mark::Mark;
+use std::alloc::Global;
+
+/// A source and what it does.
+#[derive(Drop)]
+pub struct Member {
+    pub source: ReadSource,
+    pub deeds: Deeds,
+}
+
+/// The sources, the world, where there is one, the names of all agents, and whether some message may tell a plan.
+#[derive(Drop)]
+pub struct ReadProject {
+    pub members: Seq<Member>,
+    pub world: Option<ReadWorld>,
+    pub agents: Seq<Text>,
+    pub tells_plans: bool,
+}
+
+/// A clause of a source of a project, with its tokens.
+#[derive(Clone, Copy)]
+pub struct Here<'a> {
+    pub alloc: Global,
+    pub project: &'a ReadProject,
+    pub member: &'a Member,
+    /// Its place among the members, from 0.
+    pub place: usize,
+    pub clause: &'a ReadClause,
+    pub marks: &'a [Mark<'a>],
+}
+
+fn names_of(alloc: Global, sources: &[ReadSource]) -> Result<Seq<Text>, Starved> {
+    let mut all = Seq::new(alloc);
+    for s in sources {
+        for name in s.agents.as_slice() {
+            all.push(copy_text(alloc, name)?)?;
+        }
+    }
+    Ok(all)
+}
+
+fn all_deeds(alloc: Global, sources: &[ReadSource]) -> Result<(Seq<Deeds>, bool), Starved> {
+    let sent = all_sent(alloc, sources)?;
+    let mut all = Seq::new(alloc);
+    for s in sources {
+        all.push(deeds_of(alloc, s, sent.as_slice())?)?;
+    }
+    let tells = tells_plans(sent.as_slice());
+    drop(sent);
+    Ok((all, tells))
+}
+
+/// The project of these sources and this world.
+pub fn project_of(
+    alloc: Global,
+    sources: Seq<ReadSource>,
+    world: Option<ReadWorld>,
+) -> Result<ReadProject, Starved> {
+    let agents = names_of(alloc, sources.as_slice())?;
+    let (mut deeds, tells_plans) = all_deeds(alloc, sources.as_slice())?;
+    let mut members = Seq::new(alloc);
+    deeds.reverse();
+    for source in sources.into_vec() {
+        if let Some(deeds) = deeds.pop() {
+            members.push(Member { source, deeds })?;
+        }
+    }
+    Ok(ReadProject {
+        members,
+        world,
+        agents,
+        tells_plans,
+    })
+}
+
+/// Whether agents may see facts of the name of a literal.
+pub fn is_seen(p: &ReadProject, l: &Literal) -> bool {
+    match &p.world {
+        Some(w) => w.any_fact || has_name(w.facts.as_slice(), l),
+        None => false,
+    }
+}
+
+/// Whether the agents of a source may know something of the name of a literal: it is written, added, replaced or told, the head of a rule, or seen.
+pub fn is_known(p: &ReadProject, d: &Deeds, l: &Literal) -> bool {
+    comes(d, l) || has_name(d.rules.as_slice(), l) || is_seen(p, l)
+}
+
+/// Whether a belief of the name of a literal may come or go, which the heads of rules do not.
+pub fn is_changing(p: &ReadProject, d: &Deeds, l: &Literal) -> bool {
+    comes(d, l) || is_seen(p, l)
+}

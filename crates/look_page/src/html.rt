@@ -1,0 +1,27 @@
+//! The page of a report with what changed in the minds of its agents.
+
+use crate::lines::{mind_lines, untold};
+use crate::looking::MindChanges;
+use asl_term::sequence::Seq;
+use asl_term::syntax::Text;
+use chart_page::choice::Choice;
+use chart_page::faults::Fault;
+use chart_page::made::made;
+use chart_page::minds::Minds;
+use std::alloc::Global;
+
+/// The page of a report of all its agents and turns, with these changes.
+pub fn page_of(alloc: Global, bytes: &[u8], told: &MindChanges) -> Result<Text, Fault> {
+    let lines = mind_lines(alloc, told)?;
+    let minds = Minds {
+        lines: lines.as_slice(),
+        untold: untold(told),
+    };
+    let choice = Choice {
+        is_page: true,
+        is_all: false,
+        names: &[],
+        turns: None,
+    };
+    Ok(Seq::from_vec(made(alloc, choice, &minds, bytes)?))
+}

@@ -1,0 +1,4 @@
+pub mod Naming
+pub mod Sections
+pub mod Starts
+pub mod Along

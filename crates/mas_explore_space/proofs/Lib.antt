@@ -1,0 +1,9 @@
+pub mod Helds
+pub mod Puts
+pub mod Rows
+pub mod Moves
+pub mod Carries
+pub mod Posts
+pub mod Sees
+pub mod Cycles
+pub mod Doings
