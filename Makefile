@@ -1,5 +1,5 @@
-# make              proves and builds jasonrun, jasonlook and chart, in crates/*/out (the first time takes hours: docs/PERFORMANCE.md)
-# make install      puts the three programs, the manual pages, the completions and the files of editors into PREFIX
+# make              proves and builds jasonrun, jasonlook, explore and chart, in crates/*/out (the first time takes hours: docs/PERFORMANCE.md)
+# make install      puts the four programs, the manual pages, the completions and the files of editors into PREFIX
 # make uninstall    removes them
 # make dist         packs them, for x86-64 Linux, into dist/; SHA256SUMS there has the checksum
 
@@ -11,6 +11,7 @@ DESTDIR =
 
 JASONRUN = crates/jasonrun/out/jasonrun
 JASONLOOK = crates/jasonlook/out/jasonlook
+EXPLORE = crates/explore/out/explore
 CHART = crates/chart/out/chart
 
 to = $(DESTDIR)$(PREFIX)
@@ -24,7 +25,7 @@ own = $(to)/share/jasonrun
 name := jasonrun-$(shell cat VERSION)-$(shell git describe --always --dirty --exclude '*' 2>/dev/null || echo unknown)-x86_64-linux
 time := $(shell git log -1 --format=%ct 2>/dev/null || stat -c %Y VERSION)
 
-all: $(JASONRUN) $(JASONLOOK) $(CHART)
+all: $(JASONRUN) $(JASONLOOK) $(EXPLORE) $(CHART)
 
 # `rt run` proves what is not proved, builds it and runs it. Where the text of the program is the same it builds nothing, so the file gets its time here:
 # that at which the proof began.
@@ -42,6 +43,13 @@ $(JASONLOOK): crates.txt $(shell find crates/*/src crates/*/specs crates/*/proof
 	touch -r $@.begun $@
 	rm $@.begun
 
+$(EXPLORE): crates.txt $(shell find crates/*/src crates/*/specs crates/*/proofs)
+	mkdir -p $(@D)
+	touch $@.begun
+	cd crates/explore && rt run -- --version >/dev/null
+	touch -r $@.begun $@
+	rm $@.begun
+
 $(CHART): $(shell find crates/chart/src crates/chart_page/src crates/chart_page/specs crates/chart_page/proofs)
 	mkdir -p $(@D)
 	touch $@.begun
@@ -51,7 +59,7 @@ $(CHART): $(shell find crates/chart/src crates/chart_page/src crates/chart_page/
 
 install: all
 	install -d "$(bin)" "$(man)" "$(bash)" "$(zsh)" "$(fish)" "$(own)"
-	install -m 755 $(JASONRUN) $(JASONLOOK) $(CHART) "$(bin)"
+	install -m 755 $(JASONRUN) $(JASONLOOK) $(EXPLORE) $(CHART) "$(bin)"
 	install -m 644 docs/jasonrun.1 docs/jasonlook.1 "$(man)"
 	install -m 644 completions/jasonrun.bash "$(bash)/jasonrun"
 	install -m 644 completions/jasonlook.bash "$(bash)/jasonlook"
@@ -60,7 +68,7 @@ install: all
 	cp -r editors LICENSE-MIT LICENSE-APACHE "$(own)"
 
 uninstall:
-	rm -f "$(bin)/jasonrun" "$(bin)/jasonlook" "$(bin)/chart" "$(man)/jasonrun.1" "$(man)/jasonlook.1"
+	rm -f "$(bin)/jasonrun" "$(bin)/jasonlook" "$(bin)/explore" "$(bin)/chart" "$(man)/jasonrun.1" "$(man)/jasonlook.1"
 	rm -f "$(bash)/jasonrun" "$(zsh)/_jasonrun" "$(fish)/jasonrun.fish" "$(bash)/jasonlook" "$(zsh)/_jasonlook" "$(fish)/jasonlook.fish"
 	rm -rf "$(own)"
 

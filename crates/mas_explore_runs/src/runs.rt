@@ -73,6 +73,7 @@ pub fn outcome_along<M: Steady, A: Artifact, O: Origin<M, A>>(
 }
 
 /// The runs from an origin.
+#[derive(Drop)]
 pub struct OriginRuns<'a, M: Steady, A: Artifact, O: Origin<M, A>> {
     origin: &'a O,
     minds: PhantomData<M>,

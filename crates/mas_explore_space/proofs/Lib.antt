@@ -4,6 +4,10 @@ pub mod Rows
 pub mod Moves
 pub mod Carries
 pub mod Posts
+pub mod Steps
+pub mod Bytes
 pub mod Sees
+pub mod Openings
 pub mod Cycles
 pub mod Doings
+pub mod Sections

@@ -1,2 +1,5 @@
 pub mod Held
 pub mod Rows
+pub mod Met
+pub mod Texts
+pub mod Spaces

@@ -8,4 +8,5 @@
 
 pub mod ends;
 pub mod starting;
+pub mod top;
 pub mod words;

@@ -1,5 +1,8 @@
 //! What the words ask for.
 
+ghost use Rattle.std.specs.Prelude.{◌≡◌};
+ghost use Rattle.mas_explore_top.specs.Explored as spec;
+
 use asl_term::sequence::Starved;
 use clap::error::ErrorKind;
 use clap::{Arg, ArgMatches, Command};
@@ -20,7 +23,9 @@ pub enum Depth {
 }
 
 /// How much an outcome tells of the lines of an agent.
-pub fn view_of(depth: Depth) -> View {
+pub fn view_of(depth: Depth) -> View
+    ensures { result ≡ spec.view_of depth }
+{
     match depth {
         Depth::Ends => View::Ends,
         Depth::Say | Depth::Acts => View::Lines,
@@ -28,7 +33,9 @@ pub fn view_of(depth: Depth) -> View {
 }
 
 /// The level at which agents are opened.
-pub fn level_of(depth: Depth) -> Level {
+pub fn level_of(depth: Depth) -> Level
+    ensures { result ≡ spec.level_of depth }
+{
     match depth {
         Depth::Ends | Depth::Say => Level::Say,
         Depth::Acts => Level::Acts,

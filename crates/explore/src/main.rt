@@ -1,0 +1,65 @@
+//! The program `explore`: `main` makes the real shelf and sink and the kinds of artifacts, calls `explore_words`, writes the line of the fault and ends
+//! with the status.
+//!
+//! May stand on: asl_term, mas_world, mas_artifact, mas_io, mas_explore_files, mas_explore_top
+//!
+//! Must not: take the words apart, decide what is told.
+#![tactic(auto)]
+
+use asl_term::sequence::Starved;
+use mas_artifact::kinds::ArtifactKind;
+use mas_artifact::opening::all_kinds;
+use mas_explore_files::kinds::Kinds;
+use mas_explore_top::ends::{ExploreEnd, end_code, end_line};
+use mas_explore_top::top::explore_words;
+use mas_io::real::{FileShelf, OutSink};
+use std::alloc::Global;
+use std::process::ExitCode;
+use std::{env, io};
+
+/// The artifacts of the program.
+#[derive(Clone, Copy, Drop)]
+struct AllKinds;
+
+impl Kinds<ArtifactKind> for AllKinds {
+    ghost use Rattle.mas_artifact.specs.Opening.{first_kinds};
+
+    ghost objects = { λ k. first_kinds };
+
+    fn make(&self, alloc: Global) -> Result<Vec<ArtifactKind>, Starved> {
+        all_kinds(alloc)
+    }
+}
+
+/// The words of the command line without the program's own name.
+fn words_of(rt: &HostRuntime) -> io::Result<Vec<String>> {
+    let mut words = Vec::new(rt.alloc());
+    for word in env::args(rt)?.skip(1) {
+        words.push(word)?;
+    }
+    Ok(words)
+}
+
+fn run(rt: &HostRuntime, words: &[String]) -> ExploreEnd {
+    let mut shelf = FileShelf::new(rt);
+    let mut sink = OutSink::new(rt);
+    explore_words(rt.alloc(), words, AllKinds, &mut shelf, &mut sink)
+}
+
+/// Writes the line of an end to standard error, where there is memory for it.
+fn tell(rt: &HostRuntime, end: &ExploreEnd) {
+    if let Ok(line) = end_line(rt.alloc(), end) {
+        if let Ok(text) = std::str::from_utf8(line.as_slice()) {
+            let _ = eprint!(rt; "{text}");
+        }
+    }
+}
+
+fn main(rt: HostRuntime) -> ExitCode {
+    let end = match words_of(&rt) {
+        Ok(words) => run(&rt, words.as_slice()),
+        Err(_) => ExploreEnd::Usage,
+    };
+    tell(&rt, &end);
+    ExitCode::from(end_code(&end))
+}
