@@ -1,5 +1,5 @@
 # make              proves and builds jasonrun, jasonlook, explore and chart, in crates/*/out (the first time takes hours: docs/PERFORMANCE.md)
-# make install      puts the four programs, the manual pages, the completions and the files of editors into PREFIX
+# make install      puts the four programs, the manual pages, the completions, the documents, the examples and the files of editors into PREFIX
 # make uninstall    removes them
 # make dist         packs them, for x86-64 Linux, into dist/; SHA256SUMS there has the checksum
 
@@ -58,18 +58,24 @@ $(CHART): $(shell find crates/chart/src crates/chart_page/src crates/chart_page/
 	rm $@.begun
 
 install: all
-	install -d "$(bin)" "$(man)" "$(bash)" "$(zsh)" "$(fish)" "$(own)"
+	install -d "$(bin)" "$(man)" "$(bash)" "$(zsh)" "$(fish)" "$(own)/docs"
 	install -m 755 $(JASONRUN) $(JASONLOOK) $(EXPLORE) $(CHART) "$(bin)"
-	install -m 644 docs/jasonrun.1 docs/jasonlook.1 "$(man)"
+	install -m 644 docs/jasonrun.1 docs/jasonlook.1 docs/explore.1 "$(man)"
 	install -m 644 completions/jasonrun.bash "$(bash)/jasonrun"
 	install -m 644 completions/jasonlook.bash "$(bash)/jasonlook"
-	install -m 644 completions/_jasonrun completions/_jasonlook "$(zsh)"
-	install -m 644 completions/jasonrun.fish completions/jasonlook.fish "$(fish)"
-	cp -r editors LICENSE-MIT LICENSE-APACHE "$(own)"
+	install -m 644 completions/explore.bash "$(bash)/explore"
+	install -m 644 completions/_jasonrun completions/_jasonlook completions/_explore "$(zsh)"
+	install -m 644 completions/jasonrun.fish completions/jasonlook.fish completions/explore.fish "$(fish)"
+	cp -r README.md CHANGELOG.md LICENSE-MIT LICENSE-APACHE editors "$(own)"
+	find examples -type f ! -path '*/out/*' -exec cp --parents -t "$(own)" {} +
+	cp -r docs/*.md docs/pictures "$(own)/docs"
+	chmod -R u=rwX,go=rX "$(own)"
 
 uninstall:
-	rm -f "$(bin)/jasonrun" "$(bin)/jasonlook" "$(bin)/explore" "$(bin)/chart" "$(man)/jasonrun.1" "$(man)/jasonlook.1"
+	rm -f "$(bin)/jasonrun" "$(bin)/jasonlook" "$(bin)/explore" "$(bin)/chart"
+	rm -f "$(man)/jasonrun.1" "$(man)/jasonlook.1" "$(man)/explore.1"
 	rm -f "$(bash)/jasonrun" "$(zsh)/_jasonrun" "$(fish)/jasonrun.fish" "$(bash)/jasonlook" "$(zsh)/_jasonlook" "$(fish)/jasonlook.fish"
+	rm -f "$(bash)/explore" "$(zsh)/_explore" "$(fish)/explore.fish"
 	rm -rf "$(own)"
 
 # The programs are stripped, so their checksums are others than those of crates/*/out.
@@ -77,7 +83,7 @@ dist: all
 	rm -rf dist
 	$(MAKE) --no-print-directory install DESTDIR=dist PREFIX=/$(name)
 	strip dist/$(name)/bin/*
-	cd dist && tar -c --sort=name --owner=0 --group=0 --numeric-owner --mtime=@$(time) $(name) | gzip -n >$(name).tar.gz
+	cd dist && tar -c --sort=name --owner=0 --group=0 --numeric-owner --mode=u=rwX,go=rX --mtime=@$(time) $(name) | gzip -n >$(name).tar.gz
 	rm -r dist/$(name)
 	cd dist && sha256sum $(name).tar.gz >SHA256SUMS
 

@@ -18,8 +18,8 @@ complete -c jasonlook -n __jasonlook_first -a mind -d 'what an agent has in mind
 complete -c jasonlook -n __jasonlook_first -a page -d 'the run as a page, with what changed in minds'
 complete -c jasonlook -n __jasonlook_first -l help -d 'the commands'
 complete -c jasonlook -n __jasonlook_first -l version -d 'the version'
-complete -c jasonlook -n '__jasonlook_in where' -a '(__fish_complete_suffix .mas2j .asl)'
-complete -c jasonlook -n '__jasonlook_in hints' -a '(__fish_complete_suffix .mas2j .asl)'
+complete -c jasonlook -n '__jasonlook_in where' -a '(__fish_complete_suffix .mas2j; __fish_complete_suffix .asl)'
+complete -c jasonlook -n '__jasonlook_in hints' -a '(__fish_complete_suffix .mas2j; __fish_complete_suffix .asl)'
 complete -c jasonlook -n '__jasonlook_in messages' -F
 complete -c jasonlook -n '__jasonlook_in messages' -l csv -d 'a table for a spreadsheet'
 complete -c jasonlook -n '__jasonlook_in mind' -F

@@ -65,6 +65,8 @@ def lines_of(folder):
 
 def run(folder, *numbers):
     """The report of a run goes to NAME/RUN.report; NAME/RUN.done, written last, has its status and what `check` said."""
+    if not shutil.which(PROGRAM):
+        sys.exit(f"campaign.py: there is no program {PROGRAM}: put jasonrun into the path, or its name into the variable JASONRUN")
     lines = lines_of(folder)
     for number in numbers:
         name, k, options = lines[int(number) - 1]

@@ -1,0 +1,10 @@
+# Completion for fish: `make install`, or this file in ~/.config/fish/completions.
+
+complete -c explore -f
+complete -c explore -a '(__fish_complete_suffix .mas2j; __fish_complete_suffix .asl)'
+complete -c explore -l level -x -a 'ends say acts' -d 'what an outcome shows of each agent (say)'
+complete -c explore -l states -x -d 'states that are followed, 1 to 1000000 (1000000)'
+complete -c explore -l never -x -d 'whether no outcome has this line'
+complete -c explore -l always -x -d 'whether each outcome has this line'
+complete -c explore -l help -d 'the options'
+complete -c explore -l version -d 'the version'
