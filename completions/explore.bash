@@ -8,10 +8,10 @@ _explore() {
     COMPREPLY=()
     case $before in
         --level) COMPREPLY=($(compgen -W "ends say acts" -- "$word")) && return ;;
-        --states | --never | --always) return ;;
+        --depth | --tries | --states | --never | --always) return ;;
     esac
     if [[ $word == -* ]]; then
-        COMPREPLY=($(compgen -W "--level --states --never --always --help --version" -- "$word"))
+        COMPREPLY=($(compgen -W "--level --depth --tries --states --never --always --progress --help --version" -- "$word"))
         return
     fi
     compopt -o filenames 2>/dev/null

@@ -166,6 +166,48 @@ impl Agent {
     {
         self.kept
     }
+
+    /// Whether it awaits to be told what became of its action.
+    pub fn awaits(&self) -> bool
+        ensures { result ≡ self.now.awaits }
+    {
+        self.awaits
+    }
+
+    /// The next fresh number.
+    pub fn number(&self) -> u64
+        ensures { result ≡ self.now.parts.number }
+    {
+        self.parts.number
+    }
+
+    /// The number of its next ask.
+    pub fn asks(&self) -> u64
+        ensures { result ≡ self.now.asks }
+    {
+        self.asks
+    }
+
+    /// How much its lines show.
+    pub fn level(&self) -> Level
+        ensures { result ≡ self.now.level }
+    {
+        self.level
+    }
+
+    /// What one search may use.
+    pub fn budgets(&self) -> Budgets
+        ensures { result ≡ self.now.budgets }
+    {
+        self.around.budgets
+    }
+
+    /// The names of all agents, and its own number among them.
+    pub fn peers(&self) -> &Peers
+        ensures { result.now ≡ self.now.peers }
+    {
+        &self.peers
+    }
 }
 
 /// Whether a thought has an action, so that feedback is due.

@@ -1,5 +1,5 @@
-//! The program `explore`: `main` makes the real shelf and sink and the kinds of artifacts, calls `explore_words`, writes the line of the fault and ends
-//! with the status.
+//! The program `explore`: `main` makes the real shelf and sink, the kinds of artifacts and a watch over the search, calls `explore_words`, writes the line of
+//! the fault and ends with the status.
 //!
 //! May stand on: asl_term, mas_world, mas_artifact, mas_io, mas_explore_files, mas_explore_top
 //!
@@ -12,9 +12,12 @@ use mas_artifact::opening::all_kinds;
 use mas_explore_files::kinds::Kinds;
 use mas_explore_top::ends::{ExploreEnd, end_code, end_line};
 use mas_explore_top::top::explore_words;
+use mas_explore_top::watching::{Progress, Watch};
 use mas_io::real::{FileShelf, OutSink};
 use std::alloc::Global;
 use std::process::ExitCode;
+use std::rt::Clock;
+use std::time::Instant;
 use std::{env, io};
 
 /// The artifacts of the program.
@@ -31,6 +34,44 @@ impl Kinds<ArtifactKind> for AllKinds {
     }
 }
 
+/// Tells each second on standard error how far a search has come. Where there is no clock it tells nothing.
+#[derive(Drop)]
+struct Ticks<'a, R> {
+    rt: &'a R,
+    start: Option<Instant>,
+    seconds: u64,
+}
+
+impl<'a, R: Clock> Ticks<'a, R> {
+    /// Whether a second has begun of which nothing was told.
+    fn is_due(&mut self) -> bool {
+        let Some(start) = self.start else {
+            return false;
+        };
+        let Ok(since) = start.elapsed(self.rt) else {
+            return false;
+        };
+        let due = self.seconds < since.as_secs();
+        self.seconds = since.as_secs();
+        due
+    }
+}
+
+impl<'a, R: Clock + Eprint> Watch for Ticks<'a, R> {
+    fn tell(&mut self, progress: Progress) {
+        if self.is_due() {
+            let Progress {
+                met,
+                followed,
+                rests,
+            } = progress;
+            let _ = eprint!(self.rt;
+                "explore: {met} states, {followed} followed, {rests} at rest\n"
+            );
+        }
+    }
+}
+
 /// The words of the command line without the program's own name.
 fn words_of(rt: &HostRuntime) -> io::Result<Vec<String>> {
     let mut words = Vec::new(rt.alloc());
@@ -43,7 +84,12 @@ fn words_of(rt: &HostRuntime) -> io::Result<Vec<String>> {
 fn run(rt: &HostRuntime, words: &[String]) -> ExploreEnd {
     let mut shelf = FileShelf::new(rt);
     let mut sink = OutSink::new(rt);
-    explore_words(rt.alloc(), words, AllKinds, &mut shelf, &mut sink)
+    let ticks = Ticks {
+        rt,
+        start: Instant::now(rt).ok(),
+        seconds: 0,
+    };
+    explore_words(rt.alloc(), words, AllKinds, ticks, &mut shelf, &mut sink)
 }
 
 /// Writes the line of an end to standard error, where there is memory for it.

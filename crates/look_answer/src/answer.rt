@@ -8,19 +8,34 @@ use asl_term::syntax::Text;
 use mas_top_status::status::{Status, code};
 
 /// What a command writes to standard output, and whether it found something.
-#[derive(Drop)]
 pub struct Output {
     pub text: Text,
     pub found: bool,
 }
 
+/// By hand, so that who lets one go proves nothing of its parts.
+impl Drop for Output {
+    fn drop(self) {
+        let Output { text: _, found: _ } = self;
+    }
+}
+
 /// Why a command has no output.
-#[derive(Drop)]
 pub enum LookFault {
     /// As a call of `jasonrun` ends so, with its line.
     Ended(Status),
     /// What it was given does not fit. The line says why, with its line feed.
     Unfit(Text),
+}
+
+/// By hand, so that who lets one go proves nothing of its parts.
+impl Drop for LookFault {
+    fn drop(self) {
+        match self {
+            LookFault::Ended(_) => {}
+            LookFault::Unfit(_) => {}
+        }
+    }
 }
 
 impl From<Starved> for LookFault {

@@ -14,10 +14,16 @@ use chart_page::minds::ChangeSign;
 use std::alloc::Global;
 
 /// A line of a change.
-#[derive(Drop)]
 pub struct ChangedLine {
     pub sign: ChangeSign,
     pub text: Text,
+}
+
+/// By hand, so that who lets one go proves nothing of its parts.
+impl Drop for ChangedLine {
+    fn drop(self) {
+        let ChangedLine { sign: _, text: _ } = self;
+    }
 }
 
 fn put_line(

@@ -14,7 +14,6 @@ use std::alloc::Global;
 /// The names of a source: of beliefs that are written, added or replaced, of rules, of goals and questions that are posted; of beliefs and goals that
 /// messages may bring, and whether they may bring any; of goals for which there are plans, of beliefs in triggers; of what is looked at, by contexts,
 /// rules and questions, or taken away or replaced; whether it abolishes beliefs.
-#[derive(Drop)]
 pub struct Deeds {
     pub made: NameSet,
     pub rules: NameSet,
@@ -29,6 +28,27 @@ pub struct Deeds {
     pub watched: NameSet,
     pub changed: NameSet,
     pub abolishes: bool,
+}
+
+/// By hand, so that who lets one go proves nothing of its parts.
+impl Drop for Deeds {
+    fn drop(self) {
+        let Deeds {
+            made: _,
+            rules: _,
+            goals: _,
+            questions: _,
+            told: _,
+            told_any: _,
+            asked: _,
+            asked_any: _,
+            planned: _,
+            heard: _,
+            watched: _,
+            changed: _,
+            abolishes: _,
+        } = self;
+    }
 }
 
 fn nothing(alloc: Global) -> Deeds {

@@ -1,10 +1,10 @@
 //! The hints of a source and of a world, as they are shown.
 
-ghost use Rattle.std.specs.Prelude.{◌≡◌, ◌≤◌, ◌++◌, length, map, IfOk, OnOk};
+ghost use Rattle.std.specs.Prelude.{◌≡◌, length, map, IfOk};
 ghost use Rattle.look_hints.specs.Planless as spec;
 
 use crate::covered::{put_endless, put_untaken};
-use crate::hint::{Code, Hint, Hints, code_word};
+use crate::hint::{Code, Hint, Hints};
 use crate::jason::put_forms;
 use crate::planless::planless;
 use crate::project::{Here, Member, ReadProject};
@@ -19,14 +19,22 @@ use look_names::clause::ReadClause;
 use look_pieces::findings::{Finding, Findings, about};
 use look_reasons::excerpt::shown;
 use look_reasons::mark::marks_of;
-use look_reasons::reason::Reason;
 use std::alloc::Global;
 
 /// The hints of a file, and how its name is shown.
-#[derive(Drop)]
 pub struct HintsTold {
     pub shown: Text,
     pub findings: Findings,
+}
+
+/// By hand, so that who lets one go proves nothing of its parts.
+impl Drop for HintsTold {
+    fn drop(self) {
+        let HintsTold {
+            shown: _,
+            findings: _,
+        } = self;
+    }
 }
 
 /// Puts the hints at a clause, the one of this number of its source, from 0, but for those at its goals.
@@ -85,20 +93,8 @@ fn order_of(h: &Hint) -> u64 {
 }
 
 fn finding_of(alloc: Global, bytes: &[u8], h: Hint) -> Result<Finding, Starved> {
-    let Hint {
-        place,
-        end,
-        code,
-        text,
-        notes,
-    } = h;
-    let r = Reason {
-        at: place.at as usize,
-        end: end as usize,
-        code: code_word(code),
-        text,
-        notes,
-    };
+    let place = h.place;
+    let r = h.into_reason();
     let about = about(alloc, bytes, place.line, place.column, &r);
     drop(r);
     Ok(Finding {

@@ -5,10 +5,11 @@ use asl_term::sequence::{Seq, Starved};
 use asl_term::syntax::Text;
 use look_reasons::mark::Mark;
 use look_reasons::mending::joined;
+use look_reasons::reason::Reason;
 use std::alloc::Global;
 
 /// What a hint is about, in the order of the words.
-#[derive(Clone, Copy, Debug, PartialEq, Eq, Drop)]
+#[derive(Clone, Copy)]
 pub enum Code {
     Covered,
     Endless,
@@ -26,7 +27,7 @@ pub enum Code {
 }
 
 /// The word of a code.
-pub fn code_word(code: Code) -> &'static [u8] {
+fn code_word(code: Code) -> &'static [u8] {
     match code {
         Code::Covered => b"covered",
         Code::Endless => b"endless",
@@ -51,13 +52,45 @@ pub struct Span {
     pub end: u64,
 }
 
-#[derive(Drop)]
 pub struct Hint {
     pub place: Place,
     pub end: u64,
     pub code: Code,
     pub text: Text,
     pub notes: Seq<Text>,
+}
+
+/// By hand, so that who lets one go proves nothing of its parts.
+impl Drop for Hint {
+    fn drop(self) {
+        let Hint {
+            place: _,
+            end: _,
+            code: _,
+            text: _,
+            notes: _,
+        } = self;
+    }
+}
+
+impl Hint {
+    /// The reason at its place.
+    pub fn into_reason(self) -> Reason {
+        let Hint {
+            place,
+            end,
+            code,
+            text,
+            notes,
+        } = self;
+        Reason {
+            at: place.at as usize,
+            end: end as usize,
+            code: code_word(code),
+            text,
+            notes,
+        }
+    }
 }
 
 pub type Hints = Seq<Hint>;

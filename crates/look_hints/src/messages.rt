@@ -16,12 +16,12 @@ use look_names::name::{has_name, literal_name};
 
 /// A message of a plan, and where its receiver, its verb and its content begin.
 #[derive(Clone, Copy)]
-pub struct Written<'a> {
-    pub sent: Sent<'a>,
-    pub name: usize,
-    pub to: usize,
-    pub verb: usize,
-    pub content: usize,
+struct Written<'a> {
+    sent: Sent<'a>,
+    name: usize,
+    to: usize,
+    verb: usize,
+    content: usize,
 }
 
 /// The most names of agents that a note has.
@@ -33,7 +33,7 @@ const VERBS: &[u8] =
 const TOLD_VERBS: &[u8] = b"there are: tell untell achieve unachieve tellHow untellHow";
 
 /// The message that a call sends, with its places.
-pub fn written_by<'a>(here: Here<'_>, c: &Called<'a>) -> Result<Option<Written<'a>>, Starved> {
+fn written_by<'a>(here: Here<'_>, c: &Called<'a>) -> Result<Option<Written<'a>>, Starved> {
     let Some(sent) = sent_by(c.call) else {
         return Ok(None);
     };

@@ -1,6 +1,6 @@
 //! Goals for which a source has no plan.
 
-ghost use Rattle.std.specs.Prelude.{◌≡◌, ◌++◌, map, IfOk, OnOk};
+ghost use Rattle.std.specs.Prelude.{◌≡◌, map, IfOk};
 ghost use Rattle.look_names.specs.Goals.{unplanned};
 ghost use Rattle.look_hints.specs.Planless as spec;
 
@@ -74,20 +74,10 @@ fn planless_hint(
 ) -> Result<Hint, Starved>
     ensures { IfOk result (λ h. spec.spot h ≡ spec.spot_of p.now) }
 {
-    let Hint {
-        place: _,
-        end,
-        code: _,
-        text,
-        notes,
-    } = worded(alloc, m, marks, p)?;
-    Ok(Hint {
-        place: p.place,
-        end,
-        code: Code::NoPlan,
-        text,
-        notes,
-    })
+    let mut h = worded(alloc, m, marks, p)?;
+    h.place = p.place;
+    h.code = Code::NoPlan;
+    Ok(h)
 }
 
 /// The hints at the places of goals.

@@ -15,6 +15,7 @@ use asl_term::syntax::Text;
 use look_answer::answer::Output;
 use look_pieces::findings::Finding;
 use look_where::files::{FileTold, files_told};
+use look_where::printing::put_counted;
 use mas_io::shelf::Shelf;
 use mas_top_status::status::Status;
 use std::alloc::Global;
@@ -59,16 +60,6 @@ fn is_found(files: &[HintsTold]) -> bool
     ensures { result ≡ list_any spec.is_told files.now }
 {
     files.iter().any(|t| t.findings.len() > 0)
-}
-
-/// `1 hint`, `2 hints`
-fn put_counted(alloc: Global, n: u64, what: &[u8], out: &mut Text) -> Result<(), Starved> {
-    write_number(alloc, n, out)?;
-    out.append(what)?;
-    if n != 1 {
-        out.push(b's')?;
-    }
-    Ok(())
 }
 
 /// How many places are refused.

@@ -13,19 +13,39 @@ use look_reasons::mark::Mark;
 use std::alloc::Global;
 
 /// A source and what it does.
-#[derive(Drop)]
 pub struct Member {
     pub source: ReadSource,
     pub deeds: Deeds,
 }
 
+/// By hand, so that who lets one go proves nothing of its parts.
+impl Drop for Member {
+    fn drop(self) {
+        let Member {
+            source: _,
+            deeds: _,
+        } = self;
+    }
+}
+
 /// The sources, the world, where there is one, the names of all agents, and whether some message may tell a plan.
-#[derive(Drop)]
 pub struct ReadProject {
     pub members: Seq<Member>,
     pub world: Option<ReadWorld>,
     pub agents: Seq<Text>,
     pub tells_plans: bool,
+}
+
+/// By hand, so that who lets one go proves nothing of its parts.
+impl Drop for ReadProject {
+    fn drop(self) {
+        let ReadProject {
+            members: _,
+            world: _,
+            agents: _,
+            tells_plans: _,
+        } = self;
+    }
 }
 
 /// A clause of a source of a project, with its tokens.
@@ -85,7 +105,7 @@ pub fn project_of(
 }
 
 /// Whether agents may see facts of the name of a literal.
-pub fn is_seen(p: &ReadProject, l: &Literal) -> bool {
+fn is_seen(p: &ReadProject, l: &Literal) -> bool {
     match &p.world {
         Some(w) => w.any_fact || has_name(w.facts.as_slice(), l),
         None => false,

@@ -15,13 +15,25 @@ use look_reasons::bytes::{Mended, mended_of};
 use std::alloc::Global;
 
 /// A source: the names of its agents, that of its file, its bytes, what they are taken for, and the clauses.
-#[derive(Drop)]
 pub struct ReadSource {
     pub agents: Seq<Text>,
     pub file: Text,
     pub bytes: Text,
     pub text: Text,
     pub clauses: ReadClauses,
+}
+
+/// By hand, so that who lets one go proves nothing of its parts.
+impl Drop for ReadSource {
+    fn drop(self) {
+        let ReadSource {
+            agents: _,
+            file: _,
+            bytes: _,
+            text: _,
+            clauses: _,
+        } = self;
+    }
 }
 
 /// What the tokens of a piece say, where they are read.
@@ -64,9 +76,22 @@ pub fn clean_pieces(alloc: Global, m: &Mended) -> Result<Seq<ToksOf>, Starved> {
 }
 
 /// The tokens of a piece.
-#[derive(Drop)]
 pub struct ToksOf {
     pub toks: Seq<Tok>,
+}
+
+/// By hand, so that who lets one go proves nothing of its parts.
+impl Drop for ToksOf {
+    fn drop(self) {
+        let ToksOf { toks: _ } = self;
+    }
+}
+
+impl ToksOf {
+    fn into_toks(self) -> Seq<Tok> {
+        let ToksOf { toks } = self;
+        toks
+    }
 }
 
 /// The clauses of mended bytes.
@@ -74,8 +99,10 @@ fn clauses_of(alloc: Global, m: &Mended) -> Result<ReadClauses, Starved> {
     let mut all = Seq::new(alloc);
     for piece in clean_pieces(alloc, m)?.into_vec() {
         if let Some(said) = said(alloc, piece.toks.as_slice())? {
-            let ToksOf { toks } = piece;
-            all.push(ReadClause { toks, said })?;
+            all.push(ReadClause {
+                toks: piece.into_toks(),
+                said,
+            })?;
         }
     }
     Ok(all)
@@ -90,12 +117,11 @@ pub fn source_of(
 ) -> Result<ReadSource, Starved> {
     let m = mended_of(alloc, bytes.as_slice())?;
     let clauses = clauses_of(alloc, &m)?;
-    let Mended { text, .. } = m;
     Ok(ReadSource {
         agents,
         file,
         bytes,
-        text,
+        text: m.into_text(),
         clauses,
     })
 }

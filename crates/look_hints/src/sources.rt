@@ -13,7 +13,7 @@ use asl_term::sequence::{Seq, Starved};
 use asl_term::syntax::Text;
 use look_reasons::bytes::mended_of;
 use look_reasons::mark::marks_of;
-use look_where::files::{FileKind, FileTold};
+use look_where::files::{FileKind, FileTold, MOST_BYTES};
 use look_where::leads::{entry_in, stop_of};
 use mas_io::shelf::Shelf;
 use mas_project::piece::NextPiece;
@@ -25,14 +25,17 @@ use mas_top_files::project as whole;
 use mas_top_status::status::Status;
 use std::alloc::Global;
 
-/// The most bytes of a file.
-const MOST_BYTES: u64 = 1_048_576;
-
 /// Agents of one source.
-#[derive(Drop)]
 struct Entry {
     file: Text,
     agents: Seq<Text>,
+}
+
+/// By hand, so that who lets one go proves nothing of its parts.
+impl Drop for Entry {
+    fn drop(self) {
+        let Entry { file: _, agents: _ } = self;
+    }
 }
 
 type Entries = Seq<Entry>;
@@ -160,10 +163,26 @@ fn agents_of(alloc: Global, all: &Entries, file: &Text) -> Result<Seq<Text>, Sta
 }
 
 /// What is read so far.
-#[derive(Drop)]
 struct Draft {
     sources: Seq<ReadSource>,
     world: Option<ReadWorld>,
+}
+
+/// By hand, so that who lets one go proves nothing of its parts.
+impl Drop for Draft {
+    fn drop(self) {
+        let Draft {
+            sources: _,
+            world: _,
+        } = self;
+    }
+}
+
+impl Draft {
+    fn into_project(self, alloc: Global) -> Result<ReadProject, Starved> {
+        let Draft { sources, world } = self;
+        project_of(alloc, sources, world)
+    }
 }
 
 /// Reads one file more.
@@ -206,6 +225,5 @@ pub fn read_project<S: Shelf>(
     for t in files {
         put_file(alloc, known, &entries, t, &mut draft, shelf)?;
     }
-    let Draft { sources, world } = draft;
-    Ok(project_of(alloc, sources, world)?)
+    Ok(draft.into_project(alloc)?)
 }

@@ -13,7 +13,7 @@ use look_reasons::mending::joined;
 use std::alloc::Global;
 
 /// What a literal is for.
-#[derive(Clone, Copy, Debug, PartialEq, Eq, Drop)]
+#[derive(Clone, Copy)]
 pub enum Part {
     /// It holds in a context, a rule or an argument that is a formula.
     Held,
@@ -38,10 +38,19 @@ pub struct Called<'a> {
     pub at: usize,
 }
 
-#[derive(Drop)]
 pub struct Uses<'a> {
     pub literals: Vec<Use<'a>>,
     pub calls: Vec<Called<'a>>,
+}
+
+/// By hand, so that who lets one go proves nothing of its parts.
+impl<'a> Drop for Uses<'a> {
+    fn drop(self) {
+        let Uses {
+            literals: _,
+            calls: _,
+        } = self;
+    }
 }
 
 /// What is still to be gone through: a formula, or the place at which it goes on.

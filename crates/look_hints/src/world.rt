@@ -14,13 +14,13 @@ use env_file::fault::WorldFault;
 use env_file::statement::Statement;
 use env_file::taking::make;
 use look_names::name::{Name, NameSet, put_name};
-use look_reasons::bytes::{Mended, mended_of};
+use look_reasons::bytes::mended_of;
 use mas_world::acts::WorldText;
 use std::alloc::Global;
+use std::mem::replace;
 
 /// What is known of a world: the names of the facts that agents may see, whether they may see any, the names of its acts, whether
 /// there may be others, and its bytes with the tokens of its acts.
-#[derive(Drop)]
 pub struct ReadWorld {
     pub facts: NameSet,
     pub any_fact: bool,
@@ -30,6 +30,22 @@ pub struct ReadWorld {
     pub bytes: Text,
     pub text: Text,
     pub written: Seq<ToksOf>,
+}
+
+/// By hand, so that who lets one go proves nothing of its parts.
+impl Drop for ReadWorld {
+    fn drop(self) {
+        let ReadWorld {
+            facts: _,
+            any_fact: _,
+            acts: _,
+            any_act: _,
+            file: _,
+            bytes: _,
+            text: _,
+            written: _,
+        } = self;
+    }
 }
 
 fn no_world(alloc: Global) -> Result<WorldText, Starved> {
@@ -121,15 +137,15 @@ fn put_artifact(alloc: Global, w: &mut ReadWorld, name: &Text) -> Result<(), Sta
     Ok(())
 }
 
-/// The names but for those with a functor that no agent sees.
-fn seen(alloc: Global, facts: NameSet, hidden: &Names) -> Result<NameSet, Starved> {
-    let mut all = Seq::new(alloc);
+/// Takes away the names of facts with a functor that no agent sees.
+fn hide(alloc: Global, w: &mut ReadWorld, hidden: &Names) -> Result<(), Starved> {
+    let facts = replace(&mut w.facts, Seq::new(alloc));
     for n in facts.into_vec() {
         if find(hidden, &n.functor).is_none() {
-            all.push(n)?;
+            w.facts.push(n)?;
         }
     }
-    Ok(all)
+    Ok(())
 }
 
 /// The world of a file with these bytes, where there are artifacts of these names.
@@ -147,7 +163,6 @@ pub fn world_of(
             written.push(piece)?;
         }
     }
-    let Mended { text, .. } = m;
     let mut w = ReadWorld {
         facts: Seq::new(alloc),
         any_fact: false,
@@ -155,7 +170,7 @@ pub fn world_of(
         any_act: false,
         file,
         bytes,
-        text,
+        text: m.into_text(),
         written,
     };
     put_facts(alloc, &mut w, &made)?;
@@ -164,6 +179,6 @@ pub fn world_of(
             put_artifact(alloc, &mut w, name)?;
         }
     }
-    w.facts = seen(alloc, w.facts, &made.hidden)?;
+    hide(alloc, &mut w, &made.hidden)?;
     Ok(w)
 }

@@ -24,13 +24,25 @@ pub struct Waiting<'a> {
 }
 
 /// What the lines tell: the names of the agents, what was sent and taken, what waits, and the cycles that spent a budget.
-#[derive(Drop)]
 pub struct MailLines<'a> {
     pub names: Names,
     pub sent: Vec<Letter<'a>>,
     pub took: Vec<Letter<'a>>,
     pub waiting: Vec<Waiting<'a>>,
     pub spent: Vec<(u64, u64)>,
+}
+
+/// By hand, so that who lets one go proves nothing of its parts.
+impl<'a> Drop for MailLines<'a> {
+    fn drop(self) {
+        let MailLines {
+            names: _,
+            sent: _,
+            took: _,
+            waiting: _,
+            spent: _,
+        } = self;
+    }
 }
 
 /// In which part of the report a line stands.
@@ -44,7 +56,7 @@ enum Section {
 }
 
 /// The first word, and what is behind its blank.
-pub fn first_word(text: &[u8]) -> (&[u8], &[u8]) {
+fn first_word(text: &[u8]) -> (&[u8], &[u8]) {
     for (at, b) in text.iter().enumerate() {
         if *b == b' ' {
             return text.split_at(at);

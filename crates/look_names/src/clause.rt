@@ -1,7 +1,6 @@
 //! Clauses that are read, and the plans among them.
 
-ghost use Rattle.std.specs.Prelude.{◌≡◌, ◌++◌, IfOk, OnOk};
-ghost use Rattle.std.specs.List.{list_any};
+ghost use Rattle.std.specs.Prelude.{◌≡◌, IfOk};
 ghost use Rattle.look_names.specs.Clauses as spec;
 
 use crate::name::same_name;
@@ -13,10 +12,16 @@ use asl_term::syntax::{Kind, Literal, Trigger};
 use std::alloc::Global;
 
 /// A clause: its tokens, and what it says.
-#[derive(Drop)]
 pub struct ReadClause {
     pub toks: Toks,
     pub said: Sentence,
+}
+
+/// By hand, so that who lets one go proves nothing of its parts.
+impl Drop for ReadClause {
+    fn drop(self) {
+        let ReadClause { toks: _, said: _ } = self;
+    }
 }
 
 pub type ReadClauses = Seq<ReadClause>;

@@ -12,11 +12,21 @@ use asl_term::syntax::{Literal, Text};
 use std::alloc::Global;
 
 /// The sign, the functor and the number of arguments.
-#[derive(Drop)]
 pub struct Name {
     pub neg: bool,
     pub functor: Text,
     pub count: u64,
+}
+
+/// By hand, so that who lets one go proves nothing of its parts.
+impl Drop for Name {
+    fn drop(self) {
+        let Name {
+            neg: _,
+            functor: _,
+            count: _,
+        } = self;
+    }
 }
 
 pub type NameSet = Seq<Name>;

@@ -1,6 +1,6 @@
 //! The parts of an agent that a page tells of.
 
-ghost use Rattle.std.specs.Prelude.{◌≡◌, ◌++◌, codes, IfOk, OnOk};
+ghost use Rattle.std.specs.Prelude.{◌≡◌, codes, IfOk};
 ghost use Rattle.look_lines.specs.Lines.{literal_line, part};
 ghost use Rattle.look_text.specs.Agendas.{acting_text, ask_text, event_text, intentions_text};
 ghost use Rattle.look_page.specs.Parts as spec;

@@ -1,6 +1,6 @@
 //! What changes in minds along a run.
 
-ghost use Rattle.std.specs.Prelude.{◌≡◌, ◌≤◌, None, length, take, slice_index, IfOk, MatchOption};
+ghost use Rattle.std.specs.Prelude.{◌≡◌, ◌≤◌, None, length, take, IfOk, MatchOption};
 ghost use Rattle.mas_core.specs.Fits.{Start};
 ghost use Rattle.mas_core.specs.Platform.{opening_platform, run, turn};
 ghost use Rattle.mas_report.specs.Report.{IsAnyReport};
@@ -25,7 +25,6 @@ use std::alloc::Global;
 pub type Change = Seq<ChangedLine>;
 
 /// A play after some turns, and of each of these its change.
-#[derive(Drop)]
 pub struct Walked<M: Mind, A: Artifact> {
     pub play: Play<M, A>,
     pub changes: Seq<Change>,

@@ -27,10 +27,19 @@ use std::alloc::Global;
 pub const MOST_TURNS: u64 = 2000;
 
 /// The agents of all turns of a run, and of the first turns what they change in the agents' minds.
-#[derive(Drop)]
 pub struct MindChanges {
     pub turns: Numbers,
     pub changes: Seq<Change>,
+}
+
+/// By hand, so that who lets one go proves nothing of its parts.
+impl Drop for MindChanges {
+    fn drop(self) {
+        let MindChanges {
+            turns: _,
+            changes: _,
+        } = self;
+    }
 }
 
 /// What the first `t` turns change of the run of a source that bytes tell; none where they are not its report.

@@ -13,11 +13,21 @@ use look_reasons::reason::Reason;
 use std::alloc::Global;
 
 /// A place in a file, and what is said about it: a reason, its code, the line of the source and notes.
-#[derive(Drop)]
 pub struct Finding {
     pub line: u64,
     pub column: u64,
     pub about: Text,
+}
+
+/// By hand, so that who lets one go proves nothing of its parts.
+impl Drop for Finding {
+    fn drop(self) {
+        let Finding {
+            line: _,
+            column: _,
+            about: _,
+        } = self;
+    }
 }
 
 pub type Findings = Seq<Finding>;

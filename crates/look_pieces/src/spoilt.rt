@@ -1,8 +1,7 @@
 //! What is told of faults of bytes.
 
-ghost use Rattle.std.specs.Prelude.{◌≡◌, ◌++◌, ◌∷◌, IfOk};
+ghost use Rattle.std.specs.Prelude.{IfOk};
 ghost use Rattle.asl_lexer.specs.Lexing.{IsFirstFault};
-ghost use Rattle.look_pieces.specs.Telling as spec;
 ghost use Rattle.look_pieces.specs.Telling.{IsAtByte, TellsByte};
 
 use crate::findings::{Finding, Findings, about};
@@ -71,7 +70,6 @@ fn order_of(f: &Finding) -> u64 {
 }
 
 /// The findings before a place, and those behind.
-#[derive(Drop)]
 struct Sides {
     before: Findings,
     behind: Findings,

@@ -29,11 +29,33 @@ pub struct Spoilt {
 }
 
 /// The faults of bytes, and what the bytes are taken for, with their tokens; no tokens where there are too many faults.
-#[derive(Drop)]
 pub struct Mended {
     pub faults: Vec<Spoilt>,
     pub text: Text,
     pub toks: Option<Toks>,
+}
+
+/// By hand, so that who lets one go proves nothing of its parts.
+impl Drop for Mended {
+    fn drop(self) {
+        let Mended {
+            faults: _,
+            text: _,
+            toks: _,
+        } = self;
+    }
+}
+
+impl Mended {
+    /// What the bytes are taken for.
+    pub fn into_text(self) -> Text {
+        let Mended {
+            faults: _,
+            text,
+            toks: _,
+        } = self;
+        text
+    }
 }
 
 /// How many faults are looked for.
@@ -200,10 +222,16 @@ fn blanked(alloc: Global, raw: &[u8]) -> Result<Text, Starved> {
 }
 
 /// A fault, and what stands in its place.
-#[derive(Drop)]
 struct Patch {
     fault: Spoilt,
     fill: Text,
+}
+
+/// By hand, so that who lets one go proves nothing of its parts.
+impl Drop for Patch {
+    fn drop(self) {
+        let Patch { fault: _, fill: _ } = self;
+    }
 }
 
 fn is_inside(alloc: Global, bytes: &[u8], at: usize) -> Result<bool, Starved> {

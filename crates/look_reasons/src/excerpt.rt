@@ -47,7 +47,7 @@ fn is_shown(sign: char) -> bool {
 }
 
 /// The signs of bytes: a byte that is no UTF-8 as `\xNN`, a control sign as `?`.
-pub fn signs_of(alloc: Global, bytes: &[u8]) -> Result<Vec<char>, Starved> {
+fn signs_of(alloc: Global, bytes: &[u8]) -> Result<Vec<char>, Starved> {
     let mut signs = Vec::new(alloc);
     let mut rest = bytes;
     for _ in 0..bytes.len() {
@@ -88,11 +88,21 @@ pub fn shown(alloc: Global, bytes: &[u8]) -> Result<Text, Starved> {
 }
 
 /// A line in three parts: what stands before the place, what is marked, and what is behind.
-#[derive(Drop)]
 struct Parts {
     head: Vec<char>,
     marked: Vec<char>,
     tail: Vec<char>,
+}
+
+/// By hand, so that who lets one go proves nothing of its parts.
+impl Drop for Parts {
+    fn drop(self) {
+        let Parts {
+            head: _,
+            marked: _,
+            tail: _,
+        } = self;
+    }
 }
 
 /// Some signs, behind others.

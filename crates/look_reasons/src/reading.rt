@@ -153,7 +153,6 @@ pub enum Want {
 }
 
 /// How far a reading has come.
-#[derive(Drop)]
 pub struct Reading<'a> {
     pub alloc: Global,
     pub marks: &'a [Mark<'a>],
@@ -176,8 +175,30 @@ pub struct Reading<'a> {
     pub halt: Option<Halt>,
 }
 
+/// By hand, so that who lets one go proves nothing of its parts.
+impl<'a> Drop for Reading<'a> {
+    fn drop(self) {
+        let Reading {
+            alloc: _,
+            marks: _,
+            at: _,
+            left: _,
+            world: _,
+            used: _,
+            plain: _,
+            ground: _,
+            wants: _,
+            opened: _,
+            sort: _,
+            item: _,
+            arrow: _,
+            halt: _,
+        } = self;
+    }
+}
+
 impl<'a> Reading<'a> {
-    pub fn word_at(&self, place: usize) -> Option<Word> {
+    fn word_at(&self, place: usize) -> Option<Word> {
         match self.marks.get(place) {
             Some(m) => Some(m.word),
             None => None,

@@ -14,13 +14,25 @@ use asl_term::syntax::Text;
 use std::alloc::Global;
 
 /// Which bytes are at fault, a stable word for it, the reason, and notes.
-#[derive(Drop)]
 pub struct Reason {
     pub at: usize,
     pub end: usize,
     pub code: &'static [u8],
     pub text: Text,
     pub notes: Seq<Text>,
+}
+
+/// By hand, so that who lets one go proves nothing of its parts.
+impl Drop for Reason {
+    fn drop(self) {
+        let Reason {
+            at: _,
+            end: _,
+            code: _,
+            text: _,
+            notes: _,
+        } = self;
+    }
 }
 
 /// The place where a reading stopped, and the tokens around it.
@@ -512,6 +524,7 @@ fn arithmetic(a: &Around<'_>) -> Told {
         Sort::Belief => b"a belief or a rule's head",
         Sort::Goal => b"an initial goal",
         Sort::Plan => b"a trigger",
+        Sort::Act => b"an act",
         _ => b"a fact",
     };
     let note: &[u8] = if a.is_plan() {
@@ -836,12 +849,13 @@ fn drop_writing(notes: &mut Seq<Text>) {
     }
 }
 
-fn put_fix(fix: Fix, notes: &mut Seq<Text>) -> Result<(), Starved> {
-    let mut words = fix.words;
-    if !matches!(fix.kind, FixKind::Extra) {
-        words.append(b": then the clause is read")?;
-    }
-    notes.push(words)
+fn put_fix(alloc: Global, fix: &Fix, notes: &mut Seq<Text>) -> Result<(), Starved> {
+    let behind: &[u8] = if matches!(fix.kind, FixKind::Extra) {
+        b""
+    } else {
+        b": then the clause is read"
+    };
+    notes.push(joined(alloc, &[fix.words.as_slice(), behind])?)
 }
 
 /// In which clause the place stands, where that begins in another line.
@@ -880,16 +894,15 @@ fn put_change(
     p: &Piece<'_>,
     place: usize,
     told: &mut Reason,
-    fix: Option<Fix>,
+    fix: Option<&Fix>,
 ) -> Result<(), Starved> {
     match fix {
         Some(fix) => {
             if is_unmended(told.code) {
-                drop(fix);
                 return Ok(());
             }
             drop_writing(&mut told.notes);
-            put_fix(fix, &mut told.notes)
+            put_fix(alloc, fix, &mut told.notes)
         }
         None => {
             if !is_general(told.code) {
@@ -908,7 +921,7 @@ fn with_notes(
     p: &Piece<'_>,
     place: usize,
     told: Reason,
-    fix: Option<Fix>,
+    fix: Option<&Fix>,
 ) -> Result<Reason, Starved> {
     let mut told = told;
     put_change(alloc, p, place, &mut told, fix)?;
@@ -977,8 +990,21 @@ fn reason_for(
     r: &Reading<'_>,
     halt: Halt,
 ) -> Result<Reason, Starved> {
+    let fix = mend(alloc, p, r.at)?;
+    let told = reason_with(alloc, p, r, halt, fix.as_ref());
+    drop(fix);
+    told
+}
+
+/// Why the reading stopped, where this change mends it.
+fn reason_with(
+    alloc: Global,
+    p: &Piece<'_>,
+    r: &Reading<'_>,
+    halt: Halt,
+    fix: Option<&Fix>,
+) -> Result<Reason, Starved> {
     let place = r.at;
-    let fix = mend(alloc, p, place)?;
     if p.behind_decimal && place == 0 {
         if let Some(first) = p.marks.first() {
             let told = rest_of_decimal(alloc, first)?;
@@ -989,7 +1015,7 @@ fn reason_for(
         let told = early(alloc, p)?;
         return with_notes(alloc, p, place, told, fix);
     };
-    match told_at(&a, fix.as_ref())? {
+    match told_at(&a, fix)? {
         Some(told) => with_notes(alloc, p, place, told, fix),
         None => {
             let told = early(alloc, p)?;

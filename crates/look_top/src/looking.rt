@@ -1,6 +1,4 @@
 //! The commands, from the files to what is written.
-
-ghost use Rattle.std.specs.Prelude.{◌≡◌};
 ghost use Rattle.mas_io.specs.Told.{told_of, IsKept};
 ghost use Rattle.look_top.specs.Ends as spec;
 
@@ -54,13 +52,25 @@ pub fn print_hints<S: Shelf, K: Sink>(
     shelf: &mut S,
     sink: &mut K,
 ) -> LookEnd {
-    match hints(alloc, known, word, shelf) {
-        Err(status) => LookEnd::Refused(LookFault::Ended(status)),
-        Ok(o) => print_output(Ok(o), sink),
-    }
+    let output = match hints(alloc, known, word, shelf) {
+        Err(status) => Err(LookFault::Ended(status)),
+        Ok(o) => Ok(o),
+    };
+    print_output(output, sink)
 }
 
-/// The bytes of a report: of the file of this name, or of standard input.
+/// The bytes of standard input, where they are not too many.
+fn input_bytes(alloc: Global, bytes: &[u8]) -> Result<Text, Status> {
+    if bytes.len() as u64 > MOST_BYTES {
+        return Err(Status::Limit {
+            what: What::File,
+            count: MOST_BYTES,
+        });
+    }
+    Ok(text_of(alloc, bytes)?)
+}
+
+/// The bytes of a report: of the file of this name, or of standard input where it is `-`.
 pub fn report_bytes<S: Shelf>(
     alloc: Global,
     report: &[u8],
@@ -68,12 +78,8 @@ pub fn report_bytes<S: Shelf>(
     shelf: &mut S,
 ) -> Result<Text, Status> {
     match input {
-        Some(bytes) if bytes.len() as u64 > MOST_BYTES => Err(Status::Limit {
-            what: What::File,
-            count: MOST_BYTES,
-        }),
-        Some(bytes) => Ok(text_of(alloc, bytes)?),
-        None => bytes_of(alloc, &text_of(alloc, report)?, MOST_BYTES, shelf),
+        Some(bytes) if report == b"-".as_slice() => input_bytes(alloc, bytes),
+        _ => bytes_of(alloc, &text_of(alloc, report)?, MOST_BYTES, shelf),
     }
 }
 

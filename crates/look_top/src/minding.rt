@@ -5,7 +5,7 @@ use crate::looking::{print_output, report_bytes};
 use crate::words::MindWords;
 use asl_term::copying::text_of;
 use asl_term::printing::write_number;
-use asl_term::sequence::{Seq, Starved};
+use asl_term::sequence::Starved;
 use asl_term::syntax::Text;
 use look_answer::answer::{LookFault, Output};
 use look_mind::files::look_in;

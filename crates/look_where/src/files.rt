@@ -9,7 +9,7 @@ ghost use Rattle.mas_top_files.specs.Projects as words;
 ghost use Rattle.mas_top_status.specs.declared.status.Status.TheVariants as status;
 ghost use Rattle.look_where.specs.Files as spec;
 
-use crate::projects::{Lead, project_read, project_told};
+use crate::projects::{Lead, ProjectRead, project_read, project_told};
 use crate::worlds::world_told;
 use asl_term::compare::same_text;
 use asl_term::copying::{copy_text, text_of};
@@ -30,7 +30,7 @@ use mas_top_status::status::Status;
 use std::alloc::Global;
 
 /// The most bytes of a file.
-const MOST_BYTES: u64 = 1_048_576;
+pub const MOST_BYTES: u64 = 1_048_576;
 
 #[derive(Clone, Copy)]
 pub enum FileKind {
@@ -40,7 +40,6 @@ pub enum FileKind {
 }
 
 /// What is told of a file: its name, how that is shown, and the findings.
-#[derive(Drop)]
 pub struct FileTold {
     pub kind: FileKind,
     pub name: Text,
@@ -48,13 +47,31 @@ pub struct FileTold {
     pub findings: Findings,
 }
 
+/// By hand, so that who lets one go proves nothing of its parts.
+impl Drop for FileTold {
+    fn drop(self) {
+        let FileTold {
+            kind: _,
+            name: _,
+            shown: _,
+            findings: _,
+        } = self;
+    }
+}
+
 pub type FilesTold = Seq<FileTold>;
 
 /// A file that a project names, of its world or of an agent.
-#[derive(Drop)]
 pub struct Wanted {
     pub name: Text,
     pub world: bool,
+}
+
+/// By hand, so that who lets one go proves nothing of its parts.
+impl Drop for Wanted {
+    fn drop(self) {
+        let Wanted { name: _, world: _ } = self;
+    }
 }
 
 /// What is told of the bytes of an agent's source or of a world.
@@ -369,16 +386,9 @@ fn project_files<S: Shelf>(
     ensures starved { IfErr result (λ s. s ≡ status.Memory) }
 {
     let mended = mended_of(alloc, bytes)?;
-    let read = project_read(alloc, &mended)?;
-    let mut reasons = read.reasons;
-    let files = match others_told(
-        alloc,
-        known,
-        word,
-        read.leads.as_slice(),
-        &mut reasons,
-        shelf,
-    ) {
+    let ProjectRead { reasons, leads } = project_read(alloc, &mended)?;
+    let mut reasons = reasons;
+    let files = match others_told(alloc, known, word, leads.as_slice(), &mut reasons, shelf) {
         Ok(files) => files,
         Err(_) => return Err(Status::Memory),
     };

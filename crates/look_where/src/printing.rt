@@ -1,6 +1,6 @@
 //! The text of `where`.
 
-ghost use Rattle.std.specs.Prelude.{◌≡◌, ◌≤◌, ◌++◌, codes, OnOk, MatchResult, IfOk};
+ghost use Rattle.std.specs.Prelude.{◌≡◌, ◌≤◌, ◌++◌, OnOk, MatchResult, IfOk};
 ghost use Rattle.std.specs.List.{flat_map, list_any};
 ghost use Rattle.look_where.specs.Showing as spec;
 
@@ -67,7 +67,7 @@ fn is_found(files: &FilesTold) -> bool
 }
 
 /// `1 file`, `2 files`
-fn put_counted(alloc: Global, n: u64, what: &[u8], out: &mut Text) -> Result<(), Starved> {
+pub fn put_counted(alloc: Global, n: u64, what: &[u8], out: &mut Text) -> Result<(), Starved> {
     write_number(alloc, n, out)?;
     out.append(what)?;
     if n != 1 {
@@ -97,7 +97,6 @@ fn summary(alloc: Global, files: &[FileTold]) -> Result<Text, Starved> {
 }
 
 /// Whether `jasonrun` refuses the project, and the line with which it does.
-#[derive(Drop)]
 pub struct Refusal {
     pub refused: bool,
     pub line: Text,

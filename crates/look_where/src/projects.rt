@@ -7,7 +7,7 @@ ghost use Rattle.look_where.specs.Others.{TellsProject};
 use crate::leads::{Entry, entry_in, stop_of, world_in};
 use asl_lexer::lexing::tokens;
 use asl_lexer::pieces::cut;
-use asl_lexer::token::{LexFault, Sign, Tok, Toks, Word};
+use asl_lexer::token::{LexFault, Sign, Tok, Word};
 use asl_term::copying::{copy_text, text_of};
 use asl_term::names::{Names, find, number};
 use asl_term::printing::write_number;
@@ -15,7 +15,7 @@ use asl_term::sequence::{Seq, Starved};
 use asl_term::syntax::Text;
 use look_pieces::findings::{Findings, at_least_one, findings_in};
 use look_pieces::spoilt::{piece_end, with_bytes};
-use look_reasons::bytes::{Mended, Spoilt, mended_of};
+use look_reasons::bytes::{Mended, Spoilt};
 use look_reasons::excerpt::shown;
 use look_reasons::mark::{Mark, is_atom, is_sign, marks_of};
 use look_reasons::mending::put_place;
@@ -27,7 +27,6 @@ use mas_project::project::{ProjectPieces, project};
 use std::alloc::Global;
 
 /// A file that a project names, and the bytes that name it.
-#[derive(Drop)]
 pub struct Lead {
     pub file: Text,
     pub world: bool,
@@ -35,8 +34,19 @@ pub struct Lead {
     pub end: usize,
 }
 
+/// By hand, so that who lets one go proves nothing of its parts.
+impl Drop for Lead {
+    fn drop(self) {
+        let Lead {
+            file: _,
+            world: _,
+            at: _,
+            end: _,
+        } = self;
+    }
+}
+
 /// What is found in a project, and where it leads.
-#[derive(Drop)]
 pub struct ProjectRead {
     pub reasons: Vec<Reason>,
     pub leads: Vec<Lead>,
@@ -234,12 +244,35 @@ fn piece_reason(
 }
 
 /// The project as far as it is read: its reasons, its entries, and the token that names its world.
-#[derive(Drop)]
 struct Draft<'a> {
     reasons: Vec<Reason>,
     entries: Vec<Entry<'a>>,
     world: Option<Mark<'a>>,
     done: bool,
+}
+
+/// By hand, so that who lets one go proves nothing of its parts.
+impl<'a> Drop for Draft<'a> {
+    fn drop(self) {
+        let Draft {
+            reasons: _,
+            entries: _,
+            world: _,
+            done: _,
+        } = self;
+    }
+}
+
+impl<'a> Draft<'a> {
+    fn into_reasons(self) -> Vec<Reason> {
+        let Draft {
+            reasons,
+            entries: _,
+            world: _,
+            done: _,
+        } = self;
+        reasons
+    }
 }
 
 /// Reads one piece more, the one of this number.
@@ -382,10 +415,19 @@ fn twice(alloc: Global, name: &Text, at: Mark<'_>, first: Mark<'_>) -> Result<Re
 }
 
 /// The names so far, and the token of the entry of each.
-#[derive(Drop)]
 struct Known<'a> {
     names: Names,
     tokens: Vec<Mark<'a>>,
+}
+
+/// By hand, so that who lets one go proves nothing of its parts.
+impl<'a> Drop for Known<'a> {
+    fn drop(self) {
+        let Known {
+            names: _,
+            tokens: _,
+        } = self;
+    }
 }
 
 /// Puts the names of an entry; the first that is there already is a fault.
@@ -480,13 +522,10 @@ fn read_tokens(
     let mut draft = draft_of(alloc, text, toks, faults)?;
     put_tests(alloc, &mut draft)?;
     let leads = leads_of(alloc, &draft)?;
-    let Draft {
-        reasons,
-        entries: _,
-        world: _,
-        done: _,
-    } = draft;
-    Ok(ProjectRead { reasons, leads })
+    Ok(ProjectRead {
+        reasons: draft.into_reasons(),
+        leads,
+    })
 }
 
 /// What is found in a project with these bytes, as they are mended.

@@ -12,7 +12,6 @@ use asl_lexer::token::{LexFault, Tok};
 use asl_parser_tree::bounded::Bounded;
 use asl_parser_tree::lexeme::lexemes;
 use asl_parser_tree::limits::too_deep;
-use asl_term::copying::text_of;
 use asl_term::names::Names;
 use asl_term::sequence::{Seq, Starved};
 use asl_term::syntax::Text;
@@ -134,10 +133,16 @@ fn all_reasons(
 }
 
 /// What is kept of the pieces while they are read: the world, and the tokens of the names that it uses.
-#[derive(Drop)]
 struct Draft<'a> {
     world: WorldText,
     used: Vec<Mark<'a>>,
+}
+
+/// By hand, so that who lets one go proves nothing of its parts.
+impl<'a> Drop for Draft<'a> {
+    fn drop(self) {
+        let Draft { world: _, used: _ } = self;
+    }
 }
 
 fn no_draft<'a>(alloc: Global) -> Result<Draft<'a>, Starved> {

@@ -6,11 +6,13 @@ ghost use Rattle.asl_cycle.specs.Agent.{agent_kind, opening_mind};
 ghost use Rattle.asl_cycle.specs.Trace.{shows_rules};
 ghost use Rattle.mas_free.specs.Alike.{IsPlain};
 
+use crate::same::{mix_agent, same_agent};
 use asl_cycle::agent::{Agent, open_agent};
 use asl_exec_circumstance::shared::SharedNames;
 use asl_resolve::answers::Budgets;
 use asl_term::sequence::Starved;
 use asl_term::syntax::{AgentText, Text};
+use mas_explore_likes::likened::Likened;
 use mas_free::steady::Steady;
 use mas_mind::mind::{Feedback, Input, Level, Thought};
 use mas_mind::thinking::Mind;
@@ -121,4 +123,15 @@ impl Steady for SteadyAgent {
     ghost use Rattle.mas_explore_agent.specs.inner.Likes.{quiet_stays};
 
     ghost quiet_stays = { quiet_stays };
+}
+
+impl Likened for SteadyAgent {
+    fn same(&self, alloc: Global, other: &SteadyAgent) -> Result<bool, Starved> {
+        let same = same_agent(alloc, &self.agent, &other.agent)?;
+        Ok(same)
+    }
+
+    fn mix(&self, alloc: Global) -> Result<u64, Starved> {
+        mix_agent(alloc, &self.agent)
+    }
 }

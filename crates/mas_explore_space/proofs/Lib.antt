@@ -4,6 +4,7 @@ pub mod Rows
 pub mod Moves
 pub mod Carries
 pub mod Posts
+pub mod Settles
 pub mod Steps
 pub mod Bytes
 pub mod Sees

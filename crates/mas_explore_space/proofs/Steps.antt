@@ -6,7 +6,6 @@ use Rattle.mas_mind.specs.Minds.{Kind}
 use Rattle.mas_free.specs.declared.view.View.{View}
 use Rattle.mas_free.specs.Free.{Free, move}
 use Rattle.mas_free.specs.Covers.{Start, HasLike}
-use Rattle.mas_free.proofs.Likes.{like_same}
 use Rattle.mas_explore.specs.Searches.{Keeps, LeadsInto, HasFollowed}
 use Rattle.mas_explore_tables.specs.Tables.{IsGrown, HasEntered}
 use Rattle.mas_explore_tables.proofs.Entering.{IsNew, get-split}
@@ -16,6 +15,7 @@ use Rattle.mas_explore_space.specs.declared.states.Met.{Met}
 use Rattle.mas_explore_space.specs.declared.states.Came.{Came}
 use Rattle.mas_explore_space.specs.Held.{Grows, HasGrown}
 use Rattle.mas_explore_space.specs.Rows.{free_of, met_of, RowHolds, Comes, MovesTo, HasMoved, Stands, IsSpace}
+use Rattle.mas_explore_space.specs.Settling.{LikeHolds, IsRowLike, IsNextLike}
 use Rattle.mas_explore_space.specs.Met.{states_of, IsMet, HasKept, HasKeptNext, HasStepped}
 use Rattle.mas_explore_space.proofs.Helds.{grows_same}
 use Rattle.mas_explore_space.proofs.Rows.{row_on, row_free, free_holds}
@@ -82,31 +82,36 @@ module _ {V : Type 0} (k : Kind V) (v : View) (s : Start V) (old new : Held) (ro
   leads-some : (met : List (Free V)) (f next : Free V) → move k f a ≡ Some next → HasLike k v next met → LeadsInto k v met (move k f a) true
   leads-some met f next e l = (let P = λ (o : Option (Free V)). LeadsInto k v met o true in subst P (sym e) l)
 
-  module _ (rows' : List Row) (next : Row) (n : ℕ) (h : HasMoved k s old new state row a (Some next)) (entered : HasEntered rows rows' next n) where
+  module _ (rows' : List Row) (next other : Row) (n : ℕ) (h : HasMoved k s old new state row a (Some next)) (likes : IsRowLike k v s new (state + 1) next other)
+      (entered : HasEntered rows rows' other n) where
     abbrev comes : (f : Free V) → free_of k s old row ≡ f → Comes k s new (state + 1) f a next
     comes f q = (let M = λ (z : Free V). Comes k s new (state + 1) z a next in subst M q (h.moves (free_of k s old row) here))
 
-    each : IsGrown rows rows' next → (i : ℕ) (r : Row) → slice_get rows' i ≡ Some r → Stands k s new i r
+    -- a state like that to which the move leads
+    abbrev like : (f : Free V) (q : free_of k s old row ≡ f) → LikeHolds k v s new (state + 1) other (comes f q).next
+    like f q = likes (comes f q).next (comes f q).holds
+
+    each : IsGrown rows rows' other → (i : ℕ) (r : Row) → slice_get rows' i ≡ Some r → Stands k s new i r
     each (inl e) i r q = (let P = λ (xs : List Row). slice_get xs i ≡ Some r in stands-on i r h.grown.grows (subst P e q))
-    each (inr e) i r q = (let P = λ (xs : List Row). slice_get xs i ≡ Some r in by (get-split rows next r i (subst P e q)))
+    each (inr e) i r q = (let P = λ (xs : List Row). slice_get xs i ≡ Some r in by (get-split rows other r i (subst P e q)))
       where
-        by : (slice_get rows i ≡ Some r) ⊎ IsNew rows next r i → Stands k s new i r
+        by : (slice_get rows i ≡ Some r) ⊎ IsNew rows other r i → Stands k s new i r
         by (inl w) = stands-on i r h.grown.grows w
         by (inr w) =
-            let c = comes (free_of k s old row) refl in
+            let c = like (free_of k s old row) refl in
             let l = slice_get_within rows state row at in
             let p = w.place in
             let S = λ (z : Row). Stands k s new i z in
-            subst S (sym w.value) (record { state = c.next; holds = row_on k s new new (state + 1) i next c.next (grows_same k s new) (omega arith) c.holds })
+            subst S (sym w.value) (record { state = c.like; holds = row_on k s new new (state + 1) i other c.like (grows_same k s new) (omega arith) c.holds })
 
     has-like : (f : Free V) (q : free_of k s old row ≡ f) → HasLike k v (comes f q).next (met_of k s new rows')
     has-like f q =
-        let c = comes f q in
-        let same : c.next ≡ free_of k s new next = row_free k s new (state + 1) next c.next c.holds in
+        let c = like f q in
+        let same : c.like ≡ free_of k s new other = row_free k s new (state + 1) other c.like c.holds in
         record {
-          like = c.next;
-          among = record { place = n; at = map-at (free_of k s new) rows' n next entered.at ∙ ap Some (sym same) };
-          is = like_same k v c.next;
+          like = c.like;
+          among = record { place = n; at = map-at (free_of k s new) rows' n other entered.at ∙ ap Some (sym same) };
+          is = c.is;
         }
 
     pub goes_on : (came came' : List Came) → HasStepped k v s (record { held = old; rows = rows; came = came }) (record { held = new; rows = rows'; came = came' }) state a true
@@ -115,19 +120,28 @@ module _ {V : Type 0} (k : Kind V) (v : View) (s : Start V) (old new : Held) (ro
         record {
           met = record { fits = h.grown.fits; each = each entered.grown };
           followed = record {
-            keeps = keeps rows' g (longer rows rows' next entered.grown) (λ i r q. entered.stay i r q);
+            keeps = keeps rows' g (longer rows rows' other entered.grown) (λ i r q. entered.stay i r q);
             leads = λ f q. leads-some (met_of k s new rows') f (comes f (state-is f q)).next (comes f (state-is f q)).moved (has-like f (state-is f q));
           };
         }
 
--- the whole step: what the move led to was kept
-pub stepped : {V : Type 0} (k : Kind V) (v : View) (s : Start V) (begun mid done : Met) (state a : ℕ) (row : Row) (to : Option Row) (moved : Bool) → IsMet k s begun → slice_get begun.rows state ≡ Some row →
-    HasMoved k s begun.held mid.held state row a to → HasKeptNext (record begun { held = mid.held }) done to moved → HasStepped k v s begun done state a moved
-stepped k v s begun mid done state a row None moved met at h kept =
+-- the whole step: a state like what the move led to was kept
+pub stepped : {V : Type 0} (k : Kind V) (v : View) (s : Start V) (begun mid done : Met) (state a : ℕ) (row : Row) (to settled : Option Row) (moved : Bool) → IsMet k s begun →
+    slice_get begun.rows state ≡ Some row → HasMoved k s begun.held mid.held state row a to → IsNextLike k v s mid.held (state + 1) to settled →
+    HasKeptNext (record begun { held = mid.held }) done settled moved → HasStepped k v s begun done state a moved
+stepped k v s begun mid done state a row None None moved met at h likes kept =
     let P = λ (x : Met). HasStepped k v s begun x state a moved in
     let Q = λ (b : Bool). HasStepped k v s begun (record begun { held = mid.held }) state a b in
     subst P (sym kept.0) (subst Q (sym kept.1) (stays_still k v s begun.held mid.held begun.rows state row a met at begun.came h))
-stepped k v s begun mid done state a row (Some next) moved met at h kept =
+stepped k v s begun mid done state a row None (Some other) moved met at h likes kept = absurd likes
+stepped k v s begun mid done state a row (Some next) None moved met at h likes kept = absurd likes
+stepped k v s begun mid done state a row (Some next) (Some other) moved met at h likes kept =
     let Q = λ (b : Bool). HasStepped k v s begun done state a b in
     let P = λ (x : Held). HasStepped k v s begun (record { held = x; rows = done.rows; came = done.came }) state a true in
-    subst Q (sym kept.1) (subst P (sym kept.0.held) (goes_on k v s begun.held mid.held begun.rows state row a met at done.rows next kept.0.number h kept.0.entered begun.came done.came))
+    subst Q (sym kept.1) (subst P (sym kept.0.held)
+    (goes_on k v s begun.held mid.held begun.rows state row a met at done.rows next other kept.0.number h likes kept.0.entered begun.came done.came))
+
+-- what is held is not changed where a row is kept
+pub kept_held : (old new : Met) (to : Option Row) (moved : Bool) → HasKeptNext old new to moved → new.held ≡ old.held
+kept_held old new None moved h = ap (λ (m : Met). m.held) h.0
+kept_held old new (Some row) moved h = h.0.held

@@ -12,6 +12,7 @@ pub mod moving;
 pub mod opened;
 pub mod plan;
 pub mod row;
+pub mod settling;
 pub mod states;
 pub mod texts;
 pub mod thinking;

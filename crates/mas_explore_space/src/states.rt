@@ -5,6 +5,7 @@ ghost use Rattle.mas_mind.specs.Minds.{IsAgent};
 ghost use Rattle.mas_free.specs.Covers.{free_opening};
 ghost use Rattle.mas_explore.specs.Origins.{IsOrigin};
 ghost use Rattle.mas_explore.specs.Searches.{HasFollowed};
+ghost use Rattle.mas_explore_likes.specs.Likes.{AreMet};
 ghost use Rattle.mas_explore_space.specs.Held.{start_of};
 ghost use Rattle.mas_explore_space.specs.Met as spec;
 
@@ -13,15 +14,17 @@ use crate::held::{Held, nothing_held};
 use crate::moving::follow_row;
 use crate::plan::plan_to;
 use crate::row::{Row, Seat, Stance, copy_row};
+use crate::settling::settle_next;
 use crate::texts::outcome_of;
 use asl_term::sequence::{Seq, Starved};
 use asl_term::syntax::Text;
 use mas_explore::listing::Plan;
 use mas_explore::space::Space;
+use mas_explore_likes::likened::Likened;
+use mas_explore_likes::likes::{Likes, no_likes};
 use mas_explore_minds::fresh::Fresh;
 use mas_explore_tables::table::Table;
 use mas_explore_worlds::fresh::FreshWorld;
-use mas_free::steady::Steady;
 use mas_free::view::View;
 use mas_world::artifact::Artifact;
 use std::alloc::Global;
@@ -77,56 +80,60 @@ fn keep_next(alloc: Global, met: &mut Met, to: Option<Row>, came: Came) -> Resul
 }
 
 /// Follows the move of an agent from a state, where it has one.
-fn step<M: Steady, A: Artifact, F: Fresh<M> + FreshWorld<A>>(
+fn step<M: Likened, A: Artifact, F: Fresh<M> + FreshWorld<A>>(
     alloc: Global,
     fresh: &F,
     met: &mut Met,
+    likes: &mut Likes<M>,
     state: u64,
     a: u32,
     view: View,
 ) -> Result<bool, Starved>
     requires met { spec.IsMet M.kind (start_of (F.agents fresh.now) (F.start fresh.now) (F.first fresh.now)) met.old }
+    requires likes { AreMet M.kind (F.first fresh.now) met.old.held.minds likes.old }
     requires there { state < length met.old.rows }
     requires short { state < 1000000 }
     requires agent { IsAgent (length (F.agents fresh.now)) a }
-    ensures { let s = start_of (F.agents fresh.now) (F.start fresh.now) (F.first fresh.now) in
+    ensures likes { OnOk result (AreMet M.kind (F.first fresh.now) met.new.held.minds likes.new) }
+    ensures stepped { let s = start_of (F.agents fresh.now) (F.start fresh.now) (F.first fresh.now) in
         IfOk result (spec.HasStepped M.kind view s met.old met.new state a) }
 {
-    let _shown = view;
     let Some(row) = met.rows.at(state) else {
         unreachable!()
     };
     let row = copy_row(alloc, row)?;
     let to = follow_row::<M, A, F>(alloc, fresh, &mut met.held, state, row, a)?;
+    let most = state + 1;
+    let settled = settle_next::<M, A, F>(alloc, fresh, &met.held, likes, most, to, a, view)?;
     let came = Came {
         from: state,
         agent: a,
     };
-    let moved = keep_next(alloc, met, to, came)?;
+    let moved = keep_next(alloc, met, settled, came)?;
     Ok(moved)
 }
 
 /// The states of a search, which begins with that of the start. Contracts see the start and the list of states. Once memory was wanting there is none.
-pub struct States<M: Steady, A: Artifact, F: Fresh<M> + FreshWorld<A> + Drop> {
+pub struct States<M: Likened, A: Artifact, F: Fresh<M> + FreshWorld<A> + Drop> {
     fresh: F,
     met: Met,
-    minds: PhantomData<M>,
+    likes: Likes<M>,
     artifacts: PhantomData<A>,
 }
 
 /// By hand, so that who lets one go proves nothing of its parts.
-impl<M: Steady, A: Artifact, F: Fresh<M> + FreshWorld<A> + Drop> Drop for States<M, A, F> {
+impl<M: Likened, A: Artifact, F: Fresh<M> + FreshWorld<A> + Drop> Drop for States<M, A, F> {
     fn drop(self) {
         let States {
             fresh: _,
             met: _,
-            minds: _,
+            likes: _,
             artifacts: _,
         } = self;
     }
 }
 
-impl<M: Steady, A: Artifact, F: Fresh<M> + FreshWorld<A> + Drop> Model for States<M, A, F> {
+impl<M: Likened, A: Artifact, F: Fresh<M> + FreshWorld<A> + Drop> Model for States<M, A, F> {
     ghost use Rattle.mas_explore_space.specs.Held.{start_of};
     ghost use Rattle.mas_explore_space.specs.Met.{states_of};
     ghost use Rattle.mas_explore_space.specs.Spaces.{Searched, IsSearched};
@@ -143,7 +150,7 @@ impl<M: Steady, A: Artifact, F: Fresh<M> + FreshWorld<A> + Drop> Model for State
       met = states_of M.kind (start_of (F.agents x.fresh) (F.start x.fresh) (F.first x.fresh)) x.met;
     } };
 
-    ghost invariant = { λ x. IsSearched M.kind (start_of (F.agents x.fresh) (F.start x.fresh) (F.first x.fresh)) x.met.held x.met.rows };
+    ghost invariant = { λ x. IsSearched M.kind (start_of (F.agents x.fresh) (F.start x.fresh) (F.first x.fresh)) x.met.held x.met.rows x.likes };
 }
 
 /// The seats of the opening: each agent is idle, and has its own mind and an empty box.
@@ -163,7 +170,7 @@ fn open_seats(alloc: Global, agents: u32, mail: u64) -> Result<Seq<Seat>, Starve
 }
 
 /// What is held at the start, and the row of the opening.
-fn open_met<M: Steady, A: Artifact, F: Fresh<M> + FreshWorld<A>>(
+fn open_met<M: Likened, A: Artifact, F: Fresh<M> + FreshWorld<A>>(
     alloc: Global,
     fresh: &F,
 ) -> Result<Met, Starved>
@@ -186,24 +193,26 @@ fn open_met<M: Steady, A: Artifact, F: Fresh<M> + FreshWorld<A>>(
     Ok(Met { held, rows, came })
 }
 
-impl<M: Steady, A: Artifact, F: Fresh<M> + FreshWorld<A> + Drop> States<M, A, F> {
+impl<M: Likened, A: Artifact, F: Fresh<M> + FreshWorld<A> + Drop> States<M, A, F> {
     /// The first state alone.
+    #[tactic(auto, using(mas_explore_likes::proofs::Standing::met_none))]
     pub fn open(alloc: Global, fresh: F) -> Result<States<M, A, F>, Starved>
         requires { IsOrigin M.kind (start_of (F.agents fresh) (F.start fresh) (F.first fresh)) }
         ensures start { IfOk result (λ x. x.start ≡ start_of (F.agents fresh) (F.start fresh) (F.first fresh)) }
         ensures first { IfOk result (λ x. x.met ≡ free_opening x.start ∷ []) }
     {
         let met = open_met::<M, A, F>(alloc, &fresh)?;
+        let likes = no_likes(alloc)?;
         Ok(States {
             fresh,
             met,
-            minds: PhantomData,
+            likes,
             artifacts: PhantomData,
         })
     }
 }
 
-impl<M: Steady, A: Artifact, F: Fresh<M> + FreshWorld<A> + Drop> Space<M> for States<M, A, F> {
+impl<M: Likened, A: Artifact, F: Fresh<M> + FreshWorld<A> + Drop> Space<M> for States<M, A, F> {
     ghost start = { λ x. x.start };
 
     ghost met = { λ x. x.met };
@@ -218,7 +227,8 @@ impl<M: Steady, A: Artifact, F: Fresh<M> + FreshWorld<A> + Drop> Space<M> for St
     }
 
     fn follow(&mut self, alloc: Global, state: u64, a: u32, view: View) -> Result<bool, Starved> {
-        match step::<M, A, F>(alloc, &self.fresh, &mut self.met, state, a, view) {
+        let (met, likes) = (&mut self.met, &mut self.likes);
+        match step::<M, A, F>(alloc, &self.fresh, met, likes, state, a, view) {
             Ok(moved) => Ok(moved),
             Err(starved) => {
                 self.met.rows = Table::new(alloc);

@@ -1,2 +1,7 @@
-pub mod Started
+pub mod Asks
+pub mod Caused
+pub mod Claps
 pub mod Explored
+pub mod Options
+pub mod Started
+pub mod Texts

@@ -1,3 +1,5 @@
+pub mod Apps
+pub mod Asked
 pub mod Ends
 pub mod Explored
 pub mod Starting

@@ -32,10 +32,15 @@ pub fn end_code(end: &ExploreEnd) -> u8
 
 /// What the words may be.
 pub const USAGE: &[u8] =
-    b"usage: explore PROJECT [--level ends|say|acts] [--states N] [--never LINE | --always LINE]
+    b"usage: explore PROJECT [--level ends|say|acts] [--depth N] [--tries N] [--states N]
+               [--never LINE | --always LINE] [--progress]
        explore --help | --version
-PROJECT is a .mas2j or an .asl file; N is 1 to 1000000; LINE is a line of an outcome.
+PROJECT is a .mas2j or an .asl file; N is 1 to 10000 for --depth, to 10000000 for --tries
+and to 1000000 for --states; LINE is a line of an outcome.
 ";
+
+/// The version.
+pub const VERSION: &[u8] = b"explore 1.0.0\n";
 
 /// The line for standard error.
 pub fn end_line(alloc: Global, end: &ExploreEnd) -> Result<Text, Starved> {

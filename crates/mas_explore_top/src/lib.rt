@@ -6,7 +6,13 @@
 //! Must not: touch a real file or standard output, know how states are held.
 #![tactic(auto)]
 
+pub mod app;
+pub mod detail;
 pub mod ends;
 pub mod starting;
+pub mod taken;
+pub mod telling;
 pub mod top;
+pub mod values;
+pub mod watching;
 pub mod words;

@@ -19,7 +19,7 @@ use Rattle.mas_explore_agent.specs.inner.Still.{heard, heard_none, heard_cycle, 
 -- ---- what counts of an agent
 
 -- what its next cycles come to follows from this
-abbrev bare : Mindset → Mindset
+abbrev pub bare : Mindset → Mindset
 bare m = record m { kept = heard m.parts.agenda.acting m.kept; awaits = false; cycles = 0; text = [] }
 
 -- its next cycle
@@ -34,11 +34,11 @@ ran_same m n i e = sym (ran_bare m i) ∙ (ap (λ (x : Mindset). ran x i) e ∙ 
 
 -- ---- agents that are like each other
 
-record IsLike (m n : Mindset) : Type 0 where
-  same : bare m ≡ bare n
-  whole : are_lines m.text ≡ true
-  other_whole : are_lines n.text ≡ true
-  texts : unnumbered m.text ≡ unnumbered n.text
+pub record IsLike (v : View) (m n : Mindset) : Type 0 where
+  pub same : bare m ≡ bare n
+  pub whole : are_lines m.text ≡ true
+  pub other_whole : are_lines n.text ≡ true
+  pub texts : viewed v m.text ≡ viewed v n.text
 
 -- the lines of one more cycle
 abbrev more : Mindset → Input → List ℕ
@@ -52,34 +52,34 @@ more_same m n i e =
     shown_same m.level (m.cycles + 1) (n.cycles + 1) (ran m i).lines
     ∙ (λ j. unnumbered (shown (e j).level (n.cycles + 1) (ran_same m n i e j).lines))
 
-cycle_like : (m n : Mindset) (i : Input) → IsLike m n → IsLike (agent_cycle m i).mind (agent_cycle n i).mind
-cycle_like m n i h = record {
+texts_like : (v : View) (m n : Mindset) (i : Input) → IsLike v m n → viewed v (m.text ++ more m i) ≡ viewed v (n.text ++ more n i)
+texts_like Ends m n i h = refl
+texts_like Lines m n i h =
+    behind_lines m.text (more m i) h.whole ∙ ((λ j. h.texts j ++ more_same m n i h.same j) ∙ sym (behind_lines n.text (more n i) h.other_whole))
+
+cycle_like : (v : View) (m n : Mindset) (i : Input) → IsLike v m n → IsLike v (agent_cycle m i).mind (agent_cycle n i).mind
+cycle_like v m n i h = record {
   same = λ j. bare (after_cycle (h.same j) i (ran_same m n i h.same j)).mind;
   whole = stays_whole m i h.whole;
   other_whole = stays_whole n i h.other_whole;
-  texts = behind_lines m.text (more m i) h.whole
-      ∙ ((λ j. h.texts j ++ more_same m n i h.same j) ∙ sym (behind_lines n.text (more n i) h.other_whole));
+  texts = texts_like v m n i h;
 }
 
-told_like : (m n : Mindset) (f : Feedback) → IsLike m n → IsLike (told m f) (told n f)
-told_like m n f h = record { same = λ j. bare (told (h.same j) f); whole = h.whole; other_whole = h.other_whole; texts = h.texts }
+told_like : (v : View) (m n : Mindset) (f : Feedback) → IsLike v m n → IsLike v (told m f) (told n f)
+told_like v m n f h = record { same = λ j. bare (told (h.same j) f); whole = h.whole; other_whole = h.other_whole; texts = h.texts }
 
-like_after : (events : List Event) (m n : Mindset) → IsLike m n → IsLike (after agent_kind m events) (after agent_kind n events)
-like_after [] m n h = h
-like_after (Given i ∷ events) m n h = like_after events (agent_cycle m i).mind (agent_cycle n i).mind (cycle_like m n i h)
-like_after (Told f ∷ events) m n h = like_after events (told m f) (told n f) (told_like m n f h)
+like_after : (v : View) (events : List Event) (m n : Mindset) → IsLike v m n → IsLike v (after agent_kind m events) (after agent_kind n events)
+like_after v [] m n h = h
+like_after v (Given i ∷ events) m n h = like_after v events (agent_cycle m i).mind (agent_cycle n i).mind (cycle_like v m n i h)
+like_after v (Told f ∷ events) m n h = like_after v events (told m f) (told n f) (told_like v m n f h)
 
 -- ---- and so nobody can tell them apart
 
-texts_viewed : (v : View) (text other : List ℕ) → unnumbered text ≡ unnumbered other → viewed v text ≡ viewed v other
-texts_viewed Ends text other e = refl
-texts_viewed Lines text other e = e
-
-alike : (v : View) (m n : Mindset) → IsLike m n → Alike agent_kind v m n
+pub alike : (v : View) (m n : Mindset) → IsLike v m n → Alike agent_kind v m n
 alike v m n h = record {
   thinks = λ events i.
-      ap (λ (r : spec.Ran). r.thought) (ran_same (after agent_kind m events) (after agent_kind n events) i (like_after events m n h).same);
-  shows = λ events. texts_viewed v (after agent_kind m events).text (after agent_kind n events).text (like_after events m n h).texts;
+      ap (λ (r : spec.Ran). r.thought) (ran_same (after agent_kind m events) (after agent_kind n events) i (like_after v events m n h).same);
+  shows = λ events. (like_after v events m n h).texts;
 }
 
 -- ---- a quiet cycle
@@ -105,5 +105,5 @@ quiet_stays v m i plain q none = alike v (agent_cycle m i).mind m (record {
   same = quiet_bare m i q none;
   whole = plain.whole (Given i ∷ []);
   other_whole = plain.whole [];
-  texts = ap unnumbered (plain.silent [] i q);
+  texts = ap (viewed v) (plain.silent [] i q);
 })
