@@ -180,7 +180,7 @@ hint_of() {
             section='What is refused'
             set -- 'Nothing ran. The number counts clauses from 1, dot by dot (in a project its pieces, in a schedule lines or turns),' \
                 'but with byte, string, comment and number it counts bytes from 0.' \
-                './jasonlook where PROJECT shows each such place with its line, and why.'
+                'jasonlook where PROJECT shows each such place with its line, and why.'
             ;;
         7:*) section='What is refused' && set -- 'Something is too large. The word behind limit says what, the number how much there may be, or where it is.' ;;
         8:*) section='When something fails' && set -- 'The report is written, but the search of an agent was cut off: --tries and --depth give it more.' ;;
