@@ -1,5 +1,6 @@
 pub mod Clears
 pub mod Cycled
+pub mod Direct
 pub mod Moving
 pub mod Lefts
 pub mod Leaving

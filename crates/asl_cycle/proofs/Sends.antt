@@ -33,6 +33,9 @@ use Rattle.asl_intend.specs.contracts.entry.First as first
 use Rattle.asl_intend.specs.contracts.entry.StackEntry as entry
 use Rattle.asl_intend.specs.contracts.stack.Stack as stack
 use Rattle.asl_intend.specs.contracts.stack.Stack.TheInside as stack_inside
+use Rattle.asl_intend.specs.contracts.event_trigger.Form as form
+use Rattle.asl_intend.specs.contracts.event_trigger.EventTrigger as told
+use Rattle.asl_intend.specs.contracts.event_trigger.EventTrigger.TheInside as told_inside
 use Rattle.asl_intend.specs.contracts.agenda.Event as event
 use Rattle.asl_intend.specs.contracts.agenda.Ask as ask
 use Rattle.asl_intend.specs.contracts.agenda.Acting as acting
@@ -125,8 +128,17 @@ log_send = view_send log_inside.the_row _ _ _ _ (declared_send log_inside.the_ty
 stack_send : IsSend stack.the_row
 stack_send = view_send stack_inside.the_row _ _ _ _ (declared_send stack_inside.the_type (log_send, (search (sendable, as_row_send, crosses, entry_send) depth 16, tt)))
 
+entry_field_send : IsSend (entry.the_field).row
+entry_field_send = search (sendable, as_row_send, queue_send, trigger_field_send, subst_send, first_send, formula_send) depth 20
+
+form_send : IsSend form.the_row
+form_send = search (sendable, as_row_send, trigger_field_send, entry_field_send, log_send) depth 20
+
+told_send : IsSend told.the_row
+told_send = view_send told_inside.the_row _ _ _ _ (declared_send told_inside.the_type (search (sendable, as_row_send, crosses, form_send) depth 16, tt))
+
 event_send : IsSend event.the_row
-event_send = search (sendable, as_row_send, trigger_field_send, stack_send, error.the_field_send) depth 20
+event_send = search (sendable, as_row_send, told_send, stack_send, error.the_field_send) depth 20
 
 ask_send : IsSend ask.the_row
 ask_send = search (sendable, as_row_send, term_field_send, stack_send) depth 20

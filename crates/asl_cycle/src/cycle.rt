@@ -5,9 +5,13 @@ ghost use Rattle.asl_exec_circumstance.specs.Circumstance.{seen_around, seen};
 ghost use Rattle.asl_beliefs.specs.Bases.{all_ground};
 ghost use Rattle.asl_cycle.specs.Acts.{is_fed};
 ghost use Rattle.asl_cycle.specs.Cycle as spec;
+ghost use Rattle.asl_cycle.specs.Steps as steps;
 ghost use Rattle.asl_cycle.specs.Steps.{plans_after};
+ghost use Rattle.asl_cycle.specs.inner.Choosing as choosing;
 
 use crate::config::{After, Applied, Intended, Related};
+use crate::kept::take_kept;
+use crate::lines::rule;
 use crate::rows::{Lines, Sofar, TraceLine};
 use crate::steps::{
     add_im, appl_pl, clear_step, exec_step, feed, msg, percept, rel_pl, sel_appl, sel_ev, sel_int,
@@ -246,6 +250,45 @@ fn from_appl_pl<B: BeliefBase, A: Actions>(
     }
 }
 
+/// The row by which means come on a stack.
+fn add_row(stack: &Stack) -> Row
+    ensures { result ≡ steps.add_im_row stack.now }
+{
+    if stack.len() == 0 {
+        Row::ExtEv
+    } else {
+        Row::IntEv
+    }
+}
+
+/// The rows SelAppl and AddIM for means that are on the stack of their event already, and what comes then.
+fn from_stack<B: BeliefBase, A: Actions>(
+    alloc: Global,
+    k: &Surroundings<A>,
+    peers: &Peers,
+    p: &mut Circumstance<B>,
+    sofar: Sofar,
+    stack: Stack,
+    row: Row,
+) -> Result<Finished, Starved>
+    requires room { p.old.number + k.now.budgets.tries < 2 ^ 64 - 1 }
+    requires asks { sofar.asks < 2 ^ 64 - 1 }
+    requires free { p.old.agenda.acting ≡ None }
+    ensures made { let e = seen_around A.solve k.now B.rules p.old in
+        let old = seen B.beliefs p.old in
+        let new = seen B.beliefs p.new in
+        IfOk result (λ f. choosing.from_stack e peers.now old sofar stack row ≡ record { parts = new; asks = f.asks; lines = f.lines; thought = f.thought }) }
+    ensures rules { B.rules p.new.beliefs ≡ B.rules p.old.beliefs }
+    ensures number { p.new.number ≤ p.old.number + k.now.budgets.tries }
+    ensures asks { IfOk result (λ f. f.asks ≤ sofar.asks + 1) }
+{
+    let mut sofar = sofar;
+    rule(&mut sofar, Row::SelAppl)?;
+    p.agenda.running.push(stack)?;
+    rule(&mut sofar, row)?;
+    from_sel_int(alloc, k, peers, p, sofar)
+}
+
 fn from_rel_pl<B: BeliefBase, A: Actions>(
     alloc: Global,
     k: &Surroundings<A>,
@@ -273,6 +316,70 @@ fn from_rel_pl<B: BeliefBase, A: Actions>(
     }
 }
 
+/// The rows RelPl and ApplPl for means that are on the stack of their event already, and what comes then.
+fn from_taken<B: BeliefBase, A: Actions>(
+    alloc: Global,
+    k: &Surroundings<A>,
+    peers: &Peers,
+    p: &mut Circumstance<B>,
+    sofar: Sofar,
+    stack: Stack,
+    row: Row,
+) -> Result<Finished, Starved>
+    requires room { p.old.number + 1 + k.now.budgets.tries < 2 ^ 64 - 1 }
+    requires asks { sofar.asks < 2 ^ 64 - 1 }
+    requires free { p.old.agenda.acting ≡ None }
+    ensures made { let e = seen_around A.solve k.now B.rules p.old in
+        let old = seen B.beliefs p.old in
+        let new = seen B.beliefs p.new in
+        IfOk result (λ f. choosing.from_taken e peers.now old sofar stack row ≡ record { parts = new; asks = f.asks; lines = f.lines; thought = f.thought }) }
+    ensures rules { B.rules p.new.beliefs ≡ B.rules p.old.beliefs }
+    ensures number { p.new.number ≤ p.old.number + 1 + k.now.budgets.tries }
+    ensures asks { IfOk result (λ f. f.asks ≤ sofar.asks + 1) }
+{
+    let mut sofar = sofar;
+    p.number += 1;
+    rule(&mut sofar, Row::Rel1)?;
+    rule(&mut sofar, Row::Appl1)?;
+    from_stack(alloc, k, peers, p, sofar, stack, row)
+}
+
+/// An event, from the row RelPl on.
+fn from_event<B: BeliefBase, A: Actions>(
+    alloc: Global,
+    k: &Surroundings<A>,
+    peers: &Peers,
+    p: &mut Circumstance<B>,
+    sofar: Sofar,
+    event: Event,
+) -> Result<Finished, Starved>
+    requires tries { k.now.budgets.tries ≤ 10000000 }
+    requires room { p.old.number ≤ 2 ^ 63 }
+    requires asks { sofar.asks < 2 ^ 64 - 1 }
+    requires free { p.old.agenda.acting ≡ None }
+    ensures made { let e = seen_around A.solve k.now B.rules p.old in
+        let old = seen B.beliefs p.old in
+        let new = seen B.beliefs p.new in
+        IfOk result (λ f. spec.from_rel_pl e peers.now old sofar event ≡ record { parts = new; asks = f.asks; lines = f.lines; thought = f.thought }) }
+    ensures rules { B.rules p.new.beliefs ≡ B.rules p.old.beliefs }
+    ensures number { p.new.number ≤ p.old.number + (1 + 2 * k.now.budgets.tries) }
+    ensures asks { IfOk result (λ f. f.asks ≤ sofar.asks + 1) }
+{
+    let mut event = event;
+    let row = add_row(&event.stack);
+    let taken = take_kept(alloc, k, p, &mut event)?;
+    if taken {
+        let Event {
+            trigger,
+            stack,
+            error: _,
+        } = event;
+        drop(trigger);
+        return from_taken(alloc, k, peers, p, sofar, stack, row);
+    }
+    from_rel_pl(alloc, k, peers, p, sofar, event)
+}
+
 fn from_sel_ev<B: BeliefBase, A: Actions>(
     alloc: Global,
     k: &Surroundings<A>,
@@ -294,7 +401,7 @@ fn from_sel_ev<B: BeliefBase, A: Actions>(
 {
     let mut sofar = sofar;
     match sel_ev(p, &mut sofar)? {
-        Some(event) => from_rel_pl(alloc, k, peers, p, sofar, event),
+        Some(event) => from_event(alloc, k, peers, p, sofar, event),
         None => from_sel_int(alloc, k, peers, p, sofar),
     }
 }

@@ -9,6 +9,7 @@
 pub mod agent;
 pub mod config;
 pub mod cycle;
+pub mod kept;
 pub mod laws;
 pub mod lines;
 pub mod opening;

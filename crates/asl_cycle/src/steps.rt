@@ -5,6 +5,7 @@ ghost use Rattle.asl_beliefs.specs.Bases.{all_ground};
 ghost use Rattle.asl_cycle.specs.declared.rows.TraceLine.TheVariants as line;
 ghost use Rattle.asl_exec_circumstance.specs.Circumstance.{seen_around, seen};
 ghost use Rattle.asl_goals.specs.Inside.{did, act_inside};
+ghost use Rattle.asl_plans.specs.Plans.{relevant};
 ghost use Rattle.asl_cycle.specs.Acts.{is_fed};
 ghost use Rattle.asl_cycle.specs.Steps as spec;
 ghost use Rattle.asl_cycle.specs.Steps.{Wrought};
@@ -27,14 +28,14 @@ use asl_fail::fail::fail;
 use asl_goals::acted::Acted;
 use asl_goals::inside::act_inside;
 use asl_intend::agenda::{Acting, Error, Event};
-use asl_intend::entry::Means;
+use asl_intend::event_trigger::EventTrigger;
 use asl_intend::stack::Stack;
 use asl_kqml::receive::receive;
+use asl_plans::library::{Choices, Library};
 use asl_resolve::actions::Actions;
 use asl_term::copying::copy_literal;
-use asl_term::sequence::{Seq, Starved};
+use asl_term::sequence::Starved;
 use asl_term::syntax::{Call, Kind, Literals, Trigger};
-use asl_unify::subst::no_subst;
 use mas_mind::mind::{Feedback, Message};
 use std::alloc::Global;
 
@@ -57,11 +58,7 @@ fn virtual_stack(alloc: Global, event: Event) -> Result<Stack, Starved>
         error: _,
     } = event;
     let mut stack = stack;
-    let means = Means {
-        trigger,
-        body: Seq::new(alloc),
-    };
-    stack.push(means, no_subst(alloc))?;
+    stack.push_bare(alloc, trigger)?;
     Ok(stack)
 }
 
@@ -109,7 +106,7 @@ fn drop_or_fail<B: BeliefBase, A: Actions>(
     ensures acting { OnOk result (p.new.agenda.acting ≡ p.old.agenda.acting) }
 {
     let (dropped, failed) = rows;
-    match event.trigger.kind {
+    match event.trigger.kind() {
         Kind::Belief => rule(sofar, dropped),
         Kind::Achieve | Kind::Test => no_plan(alloc, k, p, sofar, failed, event, other),
     }
@@ -294,6 +291,26 @@ fn irrelevant(add: bool, kind: Kind) -> Error
     }
 }
 
+/// The plans that are relevant for the trigger of an event.
+fn relevant_plans(
+    alloc: Global,
+    lib: &Library,
+    t: &EventTrigger,
+    number: u64,
+) -> Result<Choices, Starved>
+    ensures { IfOk result (λ r. r ≡ relevant lib.now.plans number t.now) }
+{
+    match t.built() {
+        Some(t) => lib.relevant(alloc, t, number),
+        None => {
+            let full = t.full(alloc)?;
+            let choices = lib.relevant(alloc, &full, number);
+            drop(full);
+            choices
+        }
+    }
+}
+
 /// The event with its relevant plans. The counter rises by one at most.
 pub fn rel_pl<B: BeliefBase, A: Actions>(
     alloc: Global,
@@ -312,9 +329,9 @@ pub fn rel_pl<B: BeliefBase, A: Actions>(
     ensures acting { OnOk result (p.new.agenda.acting ≡ p.old.agenda.acting) }
 {
     let number = p.number;
-    let choices = k.lib.relevant(alloc, &event.trigger, number)?;
+    let choices = relevant_plans(alloc, &k.lib, &event.trigger, number)?;
     if choices.len() == 0 {
-        let other = irrelevant(event.trigger.add, event.trigger.kind);
+        let other = irrelevant(event.trigger.is_addition(), event.trigger.kind());
         drop_or_fail(alloc, k, p, sofar, (Row::Rel2, Row::Rel3), event, other)?;
         return Ok(None);
     }

@@ -45,7 +45,7 @@ fn rename_body(alloc: Global, body: &[Formula], number: u64) -> Result<Formulas,
 }
 
 /// The means of a plan, renamed.
-fn rename_means(alloc: Global, plan: &Plan, number: u64) -> Result<Means, Starved>
+pub fn rename_means(alloc: Global, plan: &Plan, number: u64) -> Result<Means, Starved>
     ensures { IfOk result (λ r. r ≡ spec.renamed_means number plan.now) }
 {
     let body = rename_body(alloc, plan.body.as_slice(), number)?;

@@ -12,6 +12,7 @@ use asl_beliefs::removed::Removed;
 use asl_beliefs::sources::with_source;
 use asl_fail::fail::fail;
 use asl_intend::agenda::{Agenda, Error, Event};
+use asl_intend::event_trigger::EventTrigger;
 use asl_intend::stack::Stack;
 use asl_plans::library::Library;
 use asl_resolve::actions::Actions;
@@ -53,7 +54,7 @@ pub fn goal_event(alloc: Global, kind: Kind, g: &Literal, stack: Stack) -> Resul
 {
     let lit = with_source(alloc, g)?;
     Ok(Event {
-        trigger: goal_trigger(kind, lit),
+        trigger: EventTrigger::of(goal_trigger(kind, lit)),
         stack,
         error: None,
     })
@@ -64,7 +65,7 @@ pub fn external_event(alloc: Global, trigger: Trigger) -> Event
     ensures { result ≡ agendas.external_event trigger }
 {
     Event {
-        trigger,
+        trigger: EventTrigger::of(trigger),
         stack: Stack::new(alloc),
         error: None,
     }

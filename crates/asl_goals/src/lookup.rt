@@ -5,7 +5,6 @@ ghost use Rattle.asl_intend.specs.Stacks as stacks;
 ghost use Rattle.asl_goals.specs.Goals as spec;
 
 use asl_intend::agenda::{Agenda, Ask, Event, Events, Running};
-use asl_intend::goal::goal_match;
 use asl_intend::stack::Stack;
 use asl_term::sequence::Starved;
 use asl_term::syntax::Literal;
@@ -55,7 +54,7 @@ fn own_match(alloc: Global, desired: bool, g: &Literal, e: &Event) -> Result<Opt
     ensures { IfOk result (λ r. r ≡ cond desired (stacks.goal_match g.now e.now.trigger) None) }
 {
     if desired {
-        goal_match(alloc, g, &e.trigger)
+        e.trigger.goal_match(alloc, g)
     } else {
         Ok(None)
     }

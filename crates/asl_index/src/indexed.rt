@@ -4,7 +4,9 @@ ghost use Rattle.std.specs.Prelude.{◌≡◌, ◌++◌, true, refl, IfOk, OnOk}
 ghost use Rattle.asl_beliefs.specs.Bases.{AreBeliefs, all_ground, facts_of, opening, opening_base};
 
 use crate::adding::add_to;
-use crate::finding::{body_of, count_of, head_pairs_of, heads_of, is_rule_at, next_of};
+use crate::finding::{
+    body_of, count_of, head_pairs_of, head_portion_of, heads_of, is_rule_at, next_of,
+};
 use crate::listed::copy_kept;
 use crate::rules::file_rules;
 use crate::store::Store;
@@ -18,6 +20,7 @@ use asl_index_tables::frames::Frames;
 use asl_term::measure::ground_literal;
 use asl_term::sequence::{Seq, Starved};
 use asl_term::syntax::{AgentText, Clause, Clauses, Expr, Literal, Literals, Trigger, Triggers};
+use asl_unify::cursors::Portion;
 use asl_unify::facts::Facts;
 use asl_unify::matching::Substs;
 use asl_unify::subst::{PairLists, Subst};
@@ -149,6 +152,28 @@ impl Facts for Indexed {
             k,
             number,
             s,
+        )
+    }
+
+    fn head_portion(
+        &self,
+        alloc: Global,
+        g: &Literal,
+        k: u64,
+        number: u64,
+        s: &Subst,
+        at: &[u64],
+    ) -> Result<Portion, Starved> {
+        head_portion_of(
+            alloc,
+            &self.store,
+            &self.rules,
+            &self.frames,
+            g,
+            k,
+            number,
+            s,
+            at,
         )
     }
 

@@ -4,9 +4,10 @@ ghost use Rattle.std.specs.Prelude.{◌≡◌, ◌+◌, [], ◌∷◌, ◌++◌,
 ghost use Rattle.asl_intend.specs.Agendas as spec;
 
 use crate::dropping::{drop_named, drop_named_events, drop_named_stacks, drop_wanted_events};
+use crate::event_trigger::EventTrigger;
 use crate::stack::Stack;
 use asl_term::sequence::{Seq, Starved};
-use asl_term::syntax::{Literal, Term, Trigger};
+use asl_term::syntax::{Literal, Term};
 use asl_term_queue::queue::Queue;
 use std::alloc::Global;
 
@@ -26,7 +27,7 @@ pub enum Error {
 /// What happened, and the stack that waits for its treatment. Where the stack is empty the event is external.
 #[derive(Drop)]
 pub struct Event {
-    pub trigger: Trigger,
+    pub trigger: EventTrigger,
     pub stack: Stack,
     pub error: Option<Error>,
 }

@@ -152,7 +152,7 @@ impl StackEntry {
     }
 
     /// Whether the trigger stays within the limits of a term.
-    fn is_small(&self, log: &Log) -> bool
+    pub fn is_small(&self, log: &Log) -> bool
         ensures { result ≡ stacks.is_bounded_trigger (spec.seen log.now self.now).trigger }
     {
         let rest = log.since(self.since);

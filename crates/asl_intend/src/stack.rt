@@ -1,21 +1,29 @@
 //! Stacks of means. Substitutions are kept, and put into no more than what is asked for.
 
-ghost use Rattle.std.specs.Prelude.{◌≡◌, [], ◌∷◌, ◌++◌, None, Some, MatchOption, OnOk, OnErr, IfOk, IfErr, IfSome, drop, length, map, reverse, slice_get};
+ghost use Rattle.std.specs.Prelude.{◌≡◌, ◌≤◌, [], ◌∷◌, ◌++◌, true, false, None, Some, drop, length, map, reverse, slice_get};
+ghost use Rattle.std.specs.Prelude.{MatchOption, OnOk, OnErr, IfOk, IfErr, IfSome};
 ghost use Rattle.asl_unify.specs.Limits.{Passes};
+ghost use Rattle.asl_unify.specs.Logs.{later};
+ghost use Rattle.asl_intend.specs.Apart.{PushedBy};
 ghost use Rattle.asl_intend.specs.Bodies as bodies;
 ghost use Rattle.asl_intend.specs.Entries as spec;
 ghost use Rattle.asl_intend.specs.Means as means;
 ghost use Rattle.asl_intend.specs.Stacks as stacks;
 
+use crate::apart::entry_under;
 use crate::entry::{Means, StackEntry};
-use asl_term::sequence::Starved;
+use crate::event_trigger::{EventTrigger, copy_later, trigger_entry};
+use asl_term::compare::{equal, same_var};
+use asl_term::copying::copy_trigger;
+use asl_term::sequence::{Seq, Starved};
 use asl_term::syntax::{Formula, Literal, Term, Trigger};
 use asl_term_queue::queue::Queue;
 use asl_unify::limits::TermFault;
-use asl_unify::log::Log;
-use asl_unify::subst::{Subst, copy_subst};
+use asl_unify::log::{Later, Log};
+use asl_unify::subst::{Pair, Subst, copy_subst, no_subst};
 use std::alloc::Global;
 use std::marker::Model;
+use std::mem;
 
 /// Means, the top first in contracts. The top is the last entry.
 pub struct Stack {
@@ -113,6 +121,40 @@ fn any_names(alloc: Global, entries: &[StackEntry], log: &Log, g: &Literal) -> R
     Ok(false)
 }
 
+/// Whether two substitutions are the same.
+fn same_pairs(a: &[Pair], b: &[Pair]) -> bool
+    ensures { result ≡ true → a.now ≡ b.now }
+{
+    if a.len() != b.len() {
+        return false;
+    }
+    for i in 0..a.len() {
+        if !same_var(&a[i].var, &b[i].var) || !equal(&a[i].term, &b[i].term) {
+            return false;
+        }
+    }
+    true
+}
+
+/// Whether the substitutions that are left of two logs are the same.
+fn same_later(a: Later<'_>, b: Later<'_>) -> bool
+    ensures { result ≡ true → later a.entry ≡ later b.entry }
+{
+    let mut left = a;
+    let mut right = b;
+    while let Some((s, more)) = left.split_first() {
+        let Some((t, others)) = right.split_first() else {
+            return false;
+        };
+        if !same_pairs(s.pairs(), t.pairs()) {
+            return false;
+        }
+        left = more;
+        right = others;
+    }
+    right.split_first().is_none()
+}
+
 impl Stack {
     /// No means, as of an intention that has come to its end. It takes no memory before the first
     /// are put on it.
@@ -148,6 +190,144 @@ impl Stack {
             body,
         };
         put_last(&mut self.entries, entry)
+    }
+
+    /// One entry over a log.
+    fn alone(alloc: Global, e: StackEntry, log: Log) -> Result<Stack, Starved>
+        requires { spec.Since (length log) e }
+        ensures { IfOk result (λ r. r ≡ spec.seen log e ∷ []) }
+    {
+        let mut entries = Vec::new(alloc);
+        put_last(&mut entries, e)?;
+        Ok(Stack { log, entries })
+    }
+
+    /// Puts an entry on top where it stands over the log of this stack. False where it does not; then the stack stays.
+    #[tactic(auto, using(crate::proofs::Under::pushed_same, crate::proofs::Under::since_pushed))]
+    fn put_same(&mut self, e: StackEntry, log: &Log) -> Result<bool, Starved>
+        requires { spec.Since (length log.now) e }
+        ensures done { IfOk result (λ r. r ≡ true → self.new ≡ spec.seen log.now e ∷ self.old) }
+        ensures stays { IfOk result (λ r. r ≡ false → self.new ≡ self.old) }
+    {
+        if !same_later(self.log.since(0), log.since(0)) {
+            drop(e);
+            return Ok(false);
+        }
+        put_last(&mut self.entries, e)?;
+        Ok(true)
+    }
+
+    /// The same, but no means stand over any log.
+    #[tactic(auto, using(crate::proofs::Under::alone_over, crate::proofs::Under::since_over))]
+    fn put_over(&mut self, alloc: Global, e: StackEntry, log: &Log) -> Result<bool, Starved>
+        requires { spec.Since (length log.now) e }
+        ensures done { IfOk result (λ r. r ≡ true → self.new ≡ spec.seen log.now e ∷ self.old) }
+        ensures stays { IfOk result (λ r. r ≡ false → self.new ≡ self.old) }
+    {
+        if self.len() > 0 {
+            return self.put_same(e, log);
+        }
+        match copy_later(alloc, log.since(0)) {
+            Ok(copy) => {
+                let made = Stack::alone(alloc, e, copy)?;
+                drop(mem::replace(self, made));
+                Ok(true)
+            }
+            Err(starved) => {
+                drop(e);
+                Err(starved)
+            }
+        }
+    }
+
+    /// Puts means on top for a trigger that is kept in an entry over a log, where these are told without it. False where they are
+    /// not, or where that log is not told to be the one of this stack; then the stack stays.
+    fn push_under(
+        &mut self,
+        alloc: Global,
+        m: &Means,
+        e: &StackEntry,
+        log: &Log,
+    ) -> Result<bool, Starved>
+        requires { e.now.since ≤ length log.now }
+        ensures done { let t = (spec.seen log.now e.now).trigger in
+            IfOk result (λ r. r ≡ true → PushedBy m.now t self.old self.new) }
+        ensures stays { IfOk result (λ r. r ≡ false → self.new ≡ self.old) }
+    {
+        let found = entry_under(alloc, m, e, log)?;
+        match found {
+            None => Ok(false),
+            Some(entry) => {
+                let done = self.put_over(alloc, entry, log)?;
+                Ok(done)
+            }
+        }
+    }
+
+    /// Puts means on top for an event on this stack whose trigger is not built, with what the arguments of their own trigger are
+    /// bound to, where these are variables that stand nowhere else. False where they are not, or where it is not told that the
+    /// trigger stands over this stack; then the stack stays.
+    pub fn push_kept(&mut self, alloc: Global, t: &EventTrigger, m: &Means) -> Result<bool, Starved>
+        ensures done { IfOk result (λ r. r ≡ true → PushedBy m.now t.now self.old self.new) }
+        ensures stays { IfOk result (λ r. r ≡ false → self.new ≡ self.old) }
+    {
+        match t.kept() {
+            None => Ok(false),
+            Some((e, log)) => {
+                if e.since > log.len() {
+                    return Ok(false);
+                }
+                let done = self.push_under(alloc, m, e, log)?;
+                Ok(done)
+            }
+        }
+    }
+
+    /// Puts means without formulas on top for a trigger that is kept in an entry over a log. False where that log is not told to be
+    /// the one of this stack; then the stack stays.
+    #[tactic(auto, using(crate::proofs::Under::bare_seen))]
+    fn push_bare_under(&mut self, alloc: Global, e: &StackEntry, log: &Log) -> Result<bool, Starved>
+        requires { e.now.since ≤ length log.now }
+        ensures done { let t = (spec.seen log.now e.now).trigger in
+            IfOk result (λ r. r ≡ true → self.new ≡ means.applied_means [] (record { trigger = t; body = [] }) ∷ self.old) }
+        ensures stays { IfOk result (λ r. r ≡ false → self.new ≡ self.old) }
+    {
+        let trigger = copy_trigger(alloc, &e.trigger)?;
+        let own = copy_subst(alloc, &e.own)?;
+        let entry = trigger_entry(alloc, trigger, own, e.since);
+        let done = self.put_over(alloc, entry, log)?;
+        Ok(done)
+    }
+
+    /// The same for the trigger of an event. False where it is built, too.
+    fn push_bare_kept(&mut self, alloc: Global, t: &EventTrigger) -> Result<bool, Starved>
+        ensures done { IfOk result (λ r. r ≡ true → self.new ≡ means.applied_means [] (record { trigger = t.now; body = [] }) ∷ self.old) }
+        ensures stays { IfOk result (λ r. r ≡ false → self.new ≡ self.old) }
+    {
+        match t.kept() {
+            None => Ok(false),
+            Some((e, log)) => {
+                if e.since > log.len() {
+                    return Ok(false);
+                }
+                let done = self.push_bare_under(alloc, e, log)?;
+                Ok(done)
+            }
+        }
+    }
+
+    /// Puts means without formulas on top for the trigger of an event on this stack. It is not built where it is not yet.
+    pub fn push_bare(&mut self, alloc: Global, t: EventTrigger) -> Result<(), Starved>
+        ensures { OnOk result (self.new ≡ means.applied_means [] (record { trigger = t; body = [] }) ∷ self.old) }
+    {
+        let done = self.push_bare_kept(alloc, &t)?;
+        if done {
+            drop(t);
+            return Ok(());
+        }
+        let trigger = t.into_full(alloc)?;
+        let body = Seq::new(alloc);
+        self.push(Means { trigger, body }, no_subst(alloc))
     }
 
     /// Takes the top away. False where there is none.
@@ -228,7 +408,20 @@ impl Stack {
         }
     }
 
-    /// The same, but one that passes the limits of a term is a fault of its own.
+    /// The same for an event. One that passes the limits of a term is not built.
+    pub fn event_trigger(&self, alloc: Global, k: u64) -> Result<Option<EventTrigger>, Starved>
+        ensures { IfOk result (λ r. r ≡ stacks.trigger_at self.now k) }
+    {
+        match from_top(&self.entries, k) {
+            None => Ok(None),
+            Some(e) => {
+                let r = EventTrigger::of_entry(alloc, e, &self.log)?;
+                Ok(Some(r))
+            }
+        }
+    }
+
+    /// The trigger of the means at a place, but one that passes the limits of a term is a fault of its own.
     pub fn bounded_trigger(&self, alloc: Global, k: u64) -> Result<Option<Trigger>, TermFault>
         ensures ok { IfOk result (λ r. (r ≡ stacks.trigger_at self.now k) × stacks.BoundedAt r) }
         ensures fault { IfErr result (λ e. Passes (stacks.is_bounded_at (stacks.trigger_at self.now k)) e) }

@@ -4,6 +4,7 @@ ghost use Rattle.std.specs.Prelude.{◌≡◌, true, IfOk};
 
 use crate::lists::{Same, same_all, same_queue};
 use asl_intend::agenda::{Acting, Agenda, Ask, Error, Event};
+use asl_intend::event_trigger::EventTrigger;
 use asl_term::compare::equal;
 use asl_term::compare_expr::{equal_literal, equal_trigger};
 use asl_term::sequence::Starved;
@@ -19,9 +20,19 @@ fn same_error(a: Option<Error>, b: Option<Error>) -> bool
     }
 }
 
+/// Whether the triggers of events are the same. Of one that passes the limits of a term it is not said.
+fn same_trigger(a: &EventTrigger, b: &EventTrigger) -> bool
+    ensures { result ≡ true → a.now ≡ b.now }
+{
+    match (a.built(), b.built()) {
+        (Some(x), Some(y)) => equal_trigger(x, y),
+        _ => false,
+    }
+}
+
 impl Same for Event {
     fn same(&self, alloc: Global, other: &Event) -> Result<bool, Starved> {
-        if !equal_trigger(&self.trigger, &other.trigger) || !same_error(self.error, other.error) {
+        if !same_trigger(&self.trigger, &other.trigger) || !same_error(self.error, other.error) {
             return Ok(false);
         }
         let same = self.stack.same(alloc, &other.stack)?;

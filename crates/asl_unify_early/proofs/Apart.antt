@@ -23,6 +23,7 @@ use Rattle.asl_unify.specs.Compare.{same_sign, same_head, same_frame, asks, Outc
 use Rattle.asl_unify.specs.Unified.{unified}
 use Rattle.asl_unify.specs.Unifiers.{UnifiesAll}
 use Rattle.asl_unify.specs.Matches.{matches, annots, on_unified}
+use Rattle.asl_unify.specs.Cursors.{annots_left, matches_left}
 use Rattle.asl_unify.specs.Renamed.{numbered, renamed, renamed_literal}
 use Rattle.asl_unify_early.specs.inner.Clashes.{lists_clash, layers_clash, HasClash, NeverMatch}
 use Rattle.asl_unify.proofs.Views.{made_out}
@@ -116,12 +117,16 @@ no_place (a ∷ xs) (b ∷ ys) zero x y e f d t u =
     d t (ap (apply t) (sym left) ∙ u.0 ∙ ap (apply t) right)
 no_place (a ∷ xs) (b ∷ ys) (suc k) x y e f d t u = no_place xs ys k x y e f d t u.1
 
-no_match : (p q : LiteralOf Term) → ((t : List Pair) → UnifiesAll (asks p.args q.args []) t → ⊥) → (s : List Pair) → IsSubst s → matches p q s ≡ []
-no_match p q none s i = go (unified s (asks p.args q.args [])) refl (same_frame p q) where
-  go : (o : Outcome) → unified s (asks p.args q.args []) ≡ o → (b : Bool) → cond b (on_unified (annots p.annots q.annots) o) [] ≡ []
-  go (Unified t) e b = absurd (none t (unified_general s t (asks p.args q.args []) i e).unifies)
-  go (Failed f) e true = refl
-  go (Failed f) e false = refl
+no_match : (p q : LiteralOf Term) → ((t : List Pair) → UnifiesAll (asks p.args q.args []) t → ⊥) → (s : List Pair) → IsSubst s
+    → (matches p q s ≡ []) × ((at : List ℕ) → matches_left p q s at ≡ [])
+no_match p q none s i = (
+  go (annots p.annots q.annots) (unified s (asks p.args q.args [])) refl (same_frame p q),
+  λ at. go (λ t. annots_left p.annots q.annots t at) (unified s (asks p.args q.args [])) refl (same_frame p q),
+) where
+  go : (f : List Pair → List (List Pair)) (o : Outcome) → unified s (asks p.args q.args []) ≡ o → (b : Bool) → cond b (on_unified f o) [] ≡ []
+  go f (Unified t) e b = absurd (none t (unified_general s t (asks p.args q.args []) i e).unifies)
+  go f (Failed x) e true = refl
+  go f (Failed x) e false = refl
 
 get_map : (f : Term → Term) (ys : List Term) (k : ℕ) (y : Term) → slice_get ys k ≡ Some y → slice_get (map f ys) k ≡ Some (f y)
 get_map f [] k y e = cc

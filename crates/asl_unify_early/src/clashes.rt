@@ -1,21 +1,23 @@
 //! Matches of a goal with a belief and with the head of a rule. The head is not renamed, and nothing is unified, where the topmost
 //! layers of two arguments show that there is no match.
 
-ghost use Rattle.std.specs.Prelude.{◌≡◌, ◌++◌, true, length, IfOk};
+ghost use Rattle.std.specs.Prelude.{◌≡◌, ◌++◌, [], true, length, IfOk};
 ghost use Rattle.std.specs.List.{AllByRecursion};
 ghost use Rattle.asl_term.specs.declared.syntax.Term.{out-Term};
 ghost use Rattle.asl_unify.specs.Compare.{same_head};
 ghost use Rattle.asl_unify.specs.Matches.{matches, behind};
+ghost use Rattle.asl_unify.specs.Cursors.{matches_left};
 ghost use Rattle.asl_unify.specs.Puts.{IsSubst};
 ghost use Rattle.asl_unify.specs.Renamed.{renamed_literal};
 ghost use Rattle.asl_unify_early.specs.inner.Clashes as spec;
 
 use asl_term::sequence::{Seq, Starved};
 use asl_term::syntax::{Listing, Literal, Term};
+use asl_unify::cursors::{Portion, no_portion};
 use asl_unify::layers::same_frames;
-use asl_unify::matching;
 use asl_unify::rename::rename_literal;
 use asl_unify::subst::{PairLists, Subst};
+use asl_unify::{cursors, matching};
 use std::alloc::Global;
 
 /// Whether a list has no item and no tail.
@@ -127,6 +129,51 @@ pub fn renamed_pairs(
     }
     let head = rename_literal(alloc, q, number)?;
     let found = matching::match_pairs(alloc, p, &head, s);
+    drop(head);
+    found
+}
+
+/// The next matches with a literal from a cursor on, as in `cursors`.
+pub fn match_portion(
+    alloc: Global,
+    p: &Literal,
+    q: &Literal,
+    s: &Subst,
+    at: &[u64],
+) -> Result<Portion, Starved>
+    ensures value { IfOk result (λ r. behind s.now r.found ++ matches_left p.now q.now s.now r.rest ≡ matches_left p.now q.now s.now at.now) }
+    ensures sound { IfOk result (λ r. AllByRecursion (λ more. IsSubst (s.now ++ more)) r.found) }
+    ensures some { IfOk result (λ r. r.found ≡ [] → r.rest ≡ []) }
+{
+    // That its pairs are sound is known once they are read.
+    s.pairs();
+    if never_match(p, q) {
+        return Ok(no_portion(alloc));
+    }
+    cursors::match_portion(alloc, p, q, s, at)
+}
+
+/// The same with a literal that is renamed by a number first.
+pub fn renamed_portion(
+    alloc: Global,
+    p: &Literal,
+    q: &Literal,
+    number: u64,
+    s: &Subst,
+    at: &[u64],
+) -> Result<Portion, Starved>
+    ensures value { IfOk result (λ r. behind s.now r.found ++ matches_left p.now (renamed_literal number q.now) s.now r.rest
+        ≡ matches_left p.now (renamed_literal number q.now) s.now at.now) }
+    ensures sound { IfOk result (λ r. AllByRecursion (λ more. IsSubst (s.now ++ more)) r.found) }
+    ensures some { IfOk result (λ r. r.found ≡ [] → r.rest ≡ []) }
+{
+    // That its pairs are sound is known once they are read.
+    s.pairs();
+    if never_match(p, q) {
+        return Ok(no_portion(alloc));
+    }
+    let head = rename_literal(alloc, q, number)?;
+    let found = cursors::match_portion(alloc, p, &head, s, at);
     drop(head);
     found
 }

@@ -152,7 +152,10 @@ pub fn hints<S: Shelf>(
     known: &Names,
     word: &Text,
     shelf: &mut S,
-) -> Result<Output, Status> {
+) -> Result<Output, Status>
+    ensures same { S.holds shelf.new ≡ S.holds shelf.old }
+    ensures later { S.faults shelf.old ≤ S.faults shelf.new }
+{
     let files = files_told(alloc, known, word, shelf)?;
     let refused = refused_in(files.as_slice());
     let p = read_project(alloc, known, word, files.as_slice(), shelf)?;

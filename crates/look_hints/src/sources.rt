@@ -1,4 +1,6 @@
-//! The files of a project, read as far as they can be.
+//! The files of a project, read as far as they can be. The shelf holds then what it held.
+
+ghost use Rattle.std.specs.Prelude.{◌≡◌, ◌≤◌};
 
 use crate::project::{ReadProject, project_of};
 use crate::reading::{ReadSource, source_of};
@@ -134,7 +136,10 @@ fn entries_in(alloc: Global, word: &Text, bytes: &[u8]) -> Result<Entries, Starv
 }
 
 /// The entries of the project of a word.
-fn entries<S: Shelf>(alloc: Global, word: &Text, shelf: &mut S) -> Result<Entries, Status> {
+fn entries<S: Shelf>(alloc: Global, word: &Text, shelf: &mut S) -> Result<Entries, Status>
+    ensures same { S.holds shelf.new ≡ S.holds shelf.old }
+    ensures later { S.faults shelf.old ≤ S.faults shelf.new }
+{
     match whole::project_of(alloc, word, shelf) {
         Ok(p) => {
             let all = entries_of(alloc, &p);
@@ -193,7 +198,10 @@ fn put_file<S: Shelf>(
     t: &FileTold,
     draft: &mut Draft,
     shelf: &mut S,
-) -> Result<(), Status> {
+) -> Result<(), Status>
+    ensures same { S.holds shelf.new ≡ S.holds shelf.old }
+    ensures later { S.faults shelf.old ≤ S.faults shelf.new }
+{
     if matches!(t.kind, FileKind::Project) {
         return Ok(());
     }
@@ -216,13 +224,16 @@ pub fn read_project<S: Shelf>(
     word: &Text,
     files: &[FileTold],
     shelf: &mut S,
-) -> Result<ReadProject, Status> {
+) -> Result<ReadProject, Status>
+    ensures same { S.holds shelf.new ≡ S.holds shelf.old }
+    ensures later { S.faults shelf.old ≤ S.faults shelf.new }
+{
     let entries = entries(alloc, word, shelf)?;
     let mut draft = Draft {
         sources: Seq::new(alloc),
         world: None,
     };
-    for t in files {
+    'files: for t in files {
         put_file(alloc, known, &entries, t, &mut draft, shelf)?;
     }
     Ok(draft.into_project(alloc)?)

@@ -1,6 +1,7 @@
 //! `messages`: from the bytes of a report to a table.
 
-ghost use Rattle.std.specs.Prelude.{◌≡◌, IfOk, false};
+ghost use Rattle.std.specs.Prelude.{◌≡◌, IfOk, IfErr, false};
+ghost use Rattle.look_answer.specs.Answers.{IsUnfit};
 ghost use Rattle.look_messages.specs.Runs.{TellsRun};
 
 use crate::fitting::fitted;
@@ -23,7 +24,9 @@ fn unfit_line(alloc: Global, name: &[u8], why: &[u8]) -> Result<Text, Starved> {
     Ok(line)
 }
 
-fn unfit(alloc: Global, name: &[u8], why: &[u8]) -> LookFault {
+fn unfit(alloc: Global, name: &[u8], why: &[u8]) -> LookFault
+    ensures { IsUnfit result }
+{
     match unfit_line(alloc, name, why) {
         Ok(line) => LookFault::Unfit(line),
         Err(_) => LookFault::Ended(Status::Memory),
@@ -38,7 +41,8 @@ fn told_messages(
     told: &Told,
     csv: bool,
 ) -> Result<Output, LookFault>
-    ensures { IfOk result (λ o. o.found ≡ false) }
+    ensures found { IfOk result (λ o. o.found ≡ false) }
+    ensures fault { IfErr result IsUnfit }
 {
     if matches!(told.options.level, Level::Say) {
         return Err(unfit(alloc, name, b": a report of level say has no messages\n"));
@@ -62,6 +66,7 @@ fn told_messages(
 pub fn messages(alloc: Global, name: &[u8], bytes: &[u8], csv: bool) -> Result<Output, LookFault>
     ensures found { IfOk result (λ o. o.found ≡ false) }
     ensures report { IfOk result (λ o. TellsRun bytes.now) }
+    ensures fault { IfErr result IsUnfit }
 {
     match read_report(alloc, bytes)? {
         None => Err(unfit(alloc, name, b": no report\n")),

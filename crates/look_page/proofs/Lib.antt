@@ -1,3 +1,4 @@
 pub mod Walking
 pub mod Reported
 pub mod Owned
+pub mod Paged

@@ -1,3 +1,4 @@
 pub mod Parts
 pub mod Along
 pub mod Own
+pub mod Page

@@ -4,12 +4,14 @@
 
 ghost use Rattle.std.specs.Prelude.{◌≡◌, ◌<◌, ◌+◌, ◌^◌, ◌++◌, codes, length, OnOk};
 ghost use Rattle.std.specs.List.{flat_map};
+ghost use Rattle.asl_print.specs.Agents.{trigger_text};
 ghost use Rattle.look_text.specs.Agendas as spec;
 ghost use Rattle.look_lines.specs.Lines.{head, part};
 
 use crate::stacks::put_stack;
 use asl_fail::failure::error_name;
 use asl_intend::agenda::{Acting, Agenda, Ask, Error, Event, Events, Running};
+use asl_intend::event_trigger::EventTrigger;
 use asl_intend::stack::Stack;
 use asl_print::printing::write_trigger;
 use asl_term::printing::{print, write_number};
@@ -42,13 +44,28 @@ fn stand_text(stack: &Stack) -> &'static [u8]
     }
 }
 
+/// Appends the trigger of an event. One that passes the limits of a term is built for that, where it may be.
+fn put_trigger(alloc: Global, out: &mut Text, t: &EventTrigger) -> Result<(), Starved>
+    ensures { OnOk result (out.new ≡ out.old ++ trigger_text t.now) }
+{
+    match t.built() {
+        Some(t) => write_trigger(t, out),
+        None => {
+            let full = t.full(alloc)?;
+            let written = write_trigger(&full, out);
+            drop(full);
+            written
+        }
+    }
+}
+
 /// Appends the line of an event, and its stack.
 #[tactic(auto, unfolding(crate::specs::Agendas::event_text, look_lines::specs::Lines::line))]
 fn put_event(alloc: Global, out: &mut Text, e: &Event) -> Result<(), Starved>
     ensures { OnOk result (out.new ≡ out.old ++ spec.event_text e.now) }
 {
     out.append(b"  ")?;
-    write_trigger(&e.trigger, out)?;
+    put_trigger(alloc, out, &e.trigger)?;
     put_error(out, e.error)?;
     out.append(stand_text(&e.stack))?;
     out.append(b"\n")?;

@@ -1,1 +1,3 @@
+pub mod Reports
+pub mod Outputs
 pub mod Ends

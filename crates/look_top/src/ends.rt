@@ -59,6 +59,9 @@ pub const USAGE: &[u8] =
 PROJECT is a .mas2j or an .asl file; REPORT is a file that jasonrun wrote, or - for standard input; TURN is a number or end.
 ";
 
+/// The version.
+pub const VERSION: &[u8] = b"jasonlook 1.0.0\n";
+
 /// The line for standard error.
 pub fn end_line(alloc: Global, end: &LookEnd) -> Result<Text, Starved> {
     match end {

@@ -1,12 +1,18 @@
-//! The commands, from the files to what is written.
-ghost use Rattle.mas_io.specs.Told.{told_of, IsKept};
-ghost use Rattle.look_top.specs.Ends as spec;
+//! The outputs of the commands that read one file or project, and what is written of an output.
+
+ghost use Rattle.std.specs.Prelude.{◌≡◌, ◌≤◌, false, option_map, MatchResult};
+ghost use Rattle.look_answer.specs.declared.answer.LookFault.TheVariants.{Ended};
+ghost use Rattle.mas_top_status.specs.declared.status.Status.TheVariants.{Memory};
+ghost use Rattle.mas_top_opening.specs.Opening.{objects_of};
+ghost use Rattle.mas_top_files.specs.Known.{known};
+ghost use Rattle.look_where.specs.Showing.{IsWhere};
+ghost use Rattle.look_top.specs.Ends.{WroteOutput};
+ghost use Rattle.look_top.specs.Outputs.{IsTold, LacksMessages, LacksPlaces};
 
 use crate::ends::LookEnd;
+use crate::reports::report_bytes;
 use asl_term::copying::text_of;
-use asl_term::names::Names;
 use asl_term::sequence::Starved;
-use asl_term::syntax::Text;
 use look_answer::answer::{LookFault, Output};
 use look_hints::printing::hints;
 use look_messages::messages::messages;
@@ -14,90 +20,93 @@ use look_where::printing::refused_places;
 use mas_io::shelf::Shelf;
 use mas_io::sink::Sink;
 use mas_io::writing::write_all;
-use mas_top_files::files::bytes_of;
-use mas_top_status::status::{Status, What};
+use mas_top_files::known::known_names;
+use mas_top_status::status::Status;
+use mas_world::artifact::Artifact;
 use std::alloc::Global;
 
-/// The most bytes of a report.
-const MOST_BYTES: u64 = 268_435_456;
-
-/// Writes what is refused in the files of the project of this word, where there are artifacts of these names.
-#[tactic(auto, using(crate::proofs::Caused::written, crate::proofs::Caused::cut))]
-pub fn print_where<S: Shelf, K: Sink>(
-    alloc: Global,
-    known: &Names,
-    word: &Text,
-    shelf: &mut S,
-    sink: &mut K,
-) -> LookEnd
-    ensures kept { let told = told_of S.holds S.faults K.written K.faults in
-        IsKept (told shelf.old sink.old) (told shelf.new sink.new) }
-    ensures caused { let told = told_of S.holds S.faults K.written K.faults in
-        spec.WhereCaused known.now word.now (told shelf.old sink.old) (told shelf.new sink.new) result }
+/// A text as it is.
+pub fn plain_output(alloc: Global, text: &[u8]) -> Result<Output, LookFault>
+    ensures { MatchResult result (λ o. (o.found ≡ false) × (o.text ≡ text.now)) (λ why. why ≡ Ended Memory) }
 {
-    match refused_places(alloc, known, word, shelf) {
-        Err(status) => LookEnd::Refused(LookFault::Ended(status)),
-        Ok(o) => match write_all(sink, o.text.as_slice()) {
-            Ok(()) => LookEnd::Written { found: o.found },
-            Err(_) => LookEnd::Cut,
-        },
+    match text_of(alloc, text) {
+        Ok(text) => Ok(Output { text, found: false }),
+        Err(Starved) => Err(LookFault::Ended(Status::Memory)),
     }
 }
 
-/// Writes the hints of the project of this word, where there are artifacts of these names.
-pub fn print_hints<S: Shelf, K: Sink>(
+/// What is refused in the files of a project, where there are these artifacts.
+#[tactic(auto, using(crate::proofs::Outputs::placed, crate::proofs::Outputs::unplaced, crate::proofs::Outputs::no_places))]
+pub fn where_output<S: Shelf, A: Artifact>(
     alloc: Global,
-    known: &Names,
-    word: &Text,
+    project: &[u8],
+    artifacts: &[A],
     shelf: &mut S,
-    sink: &mut K,
-) -> LookEnd {
-    let output = match hints(alloc, known, word, shelf) {
+) -> Result<Output, LookFault>
+    ensures same { S.holds shelf.new ≡ S.holds shelf.old }
+    ensures later { S.faults shelf.old ≤ S.faults shelf.new }
+    ensures answer { let names = known (objects_of A.named A.table A.facts artifacts.now) in
+        let held = S.holds shelf.old in
+        MatchResult result
+        (λ o. IsWhere names held project.now (S.faults shelf.old) (S.faults shelf.new) o.found o.text)
+        (LacksPlaces held (S.faults shelf.old) (S.faults shelf.new) project.now) }
+{
+    let names = known_names(alloc, artifacts)?;
+    let word = text_of(alloc, project)?;
+    match refused_places(alloc, &names, &word, shelf) {
+        Ok(output) => Ok(output),
         Err(status) => Err(LookFault::Ended(status)),
-        Ok(o) => Ok(o),
-    };
-    print_output(output, sink)
-}
-
-/// The bytes of standard input, where they are not too many.
-fn input_bytes(alloc: Global, bytes: &[u8]) -> Result<Text, Status> {
-    if bytes.len() as u64 > MOST_BYTES {
-        return Err(Status::Limit {
-            what: What::File,
-            count: MOST_BYTES,
-        });
     }
-    Ok(text_of(alloc, bytes)?)
 }
 
-/// The bytes of a report: of the file of this name, or of standard input where it is `-`.
-pub fn report_bytes<S: Shelf>(
+/// What looks wrong in the files of a project, where there are these artifacts.
+pub fn hints_output<S: Shelf, A: Artifact>(
     alloc: Global,
-    report: &[u8],
-    input: Option<&[u8]>,
+    project: &[u8],
+    artifacts: &[A],
     shelf: &mut S,
-) -> Result<Text, Status> {
-    match input {
-        Some(bytes) if report == b"-".as_slice() => input_bytes(alloc, bytes),
-        _ => bytes_of(alloc, &text_of(alloc, report)?, MOST_BYTES, shelf),
+) -> Result<Output, LookFault>
+    ensures same { S.holds shelf.new ≡ S.holds shelf.old }
+    ensures later { S.faults shelf.old ≤ S.faults shelf.new }
+{
+    let names = known_names(alloc, artifacts)?;
+    let word = text_of(alloc, project)?;
+    match hints(alloc, &names, &word, shelf) {
+        Ok(output) => Ok(output),
+        Err(status) => Err(LookFault::Ended(status)),
     }
 }
 
-fn messages_output<S: Shelf>(
+/// The messages of a report.
+#[tactic(auto, using(crate::proofs::Outputs::told, crate::proofs::Outputs::untold))]
+pub fn messages_output<S: Shelf>(
     alloc: Global,
     report: &[u8],
     csv: bool,
     input: Option<&[u8]>,
     shelf: &mut S,
-) -> Result<Output, LookFault> {
+) -> Result<Output, LookFault>
+    ensures same { S.holds shelf.new ≡ S.holds shelf.old }
+    ensures later { S.faults shelf.old ≤ S.faults shelf.new }
+    ensures answer { let given = option_map (λ b. b.now) input.entry in
+        MatchResult result
+        (λ o. (o.found ≡ false) × IsTold given (S.holds shelf.old) report.now)
+        (LacksMessages given (S.holds shelf.old) (S.faults shelf.old) (S.faults shelf.new) report.now) }
+{
     match report_bytes(alloc, report, input, shelf) {
         Err(status) => Err(LookFault::Ended(status)),
-        Ok(bytes) => messages(alloc, report, bytes.as_slice(), csv),
+        Ok(bytes) => match messages(alloc, report, bytes.as_slice(), csv) {
+            Ok(output) => Ok(output),
+            Err(fault) => Err(fault),
+        },
     }
 }
 
 /// Writes an output.
-pub fn print_output<K: Sink>(output: Result<Output, LookFault>, sink: &mut K) -> LookEnd {
+pub fn print_output<K: Sink>(output: Result<Output, LookFault>, sink: &mut K) -> LookEnd
+    ensures later { K.faults sink.old ≤ K.faults sink.new }
+    ensures caused { WroteOutput output (K.written sink.old) (K.written sink.new) (K.faults sink.old) (K.faults sink.new) result }
+{
     match output {
         Err(fault) => LookEnd::Refused(fault),
         Ok(o) => match write_all(sink, o.text.as_slice()) {
@@ -105,26 +114,4 @@ pub fn print_output<K: Sink>(output: Result<Output, LookFault>, sink: &mut K) ->
             Err(_) => LookEnd::Cut,
         },
     }
-}
-
-/// Writes the messages of a report.
-pub fn print_messages<S: Shelf, K: Sink>(
-    alloc: Global,
-    report: &[u8],
-    csv: bool,
-    input: Option<&[u8]>,
-    shelf: &mut S,
-    sink: &mut K,
-) -> LookEnd {
-    let output = messages_output(alloc, report, csv, input, shelf);
-    print_output(output, sink)
-}
-
-/// Writes a text as it is.
-pub fn print_plain<K: Sink>(alloc: Global, text: &[u8], sink: &mut K) -> LookEnd {
-    let output = match text_of(alloc, text) {
-        Ok(text) => Ok(Output { text, found: false }),
-        Err(Starved) => Err(LookFault::Ended(Status::Memory)),
-    };
-    print_output(output, sink)
 }

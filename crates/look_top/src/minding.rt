@@ -1,8 +1,16 @@
 //! `mind`: from the files to the text of an agent.
 
-use crate::ends::LookEnd;
-use crate::looking::{print_output, report_bytes};
-use crate::words::MindWords;
+ghost use Rattle.std.specs.Prelude.{◌≡◌, ◌≤◌, option_map, MatchResult};
+ghost use Rattle.mas_report.specs.Limits.{defaults};
+ghost use Rattle.mas_top_files.specs.Known.{known};
+ghost use Rattle.mas_top_files.specs.Sources.{AreRefused};
+ghost use Rattle.mas_top_opening.specs.Opening.{objects_of};
+ghost use Rattle.look_answer.specs.Answers.{IsUnfit};
+ghost use Rattle.look_mind.specs.Looks.{IsLookIn};
+ghost use Rattle.look_words.specs.Asked as asked;
+ghost use Rattle.look_top.specs.Outputs as spec;
+
+use crate::reports::report_bytes;
 use asl_term::copying::text_of;
 use asl_term::printing::write_number;
 use asl_term::sequence::Starved;
@@ -11,13 +19,14 @@ use look_answer::answer::{LookFault, Output};
 use look_mind::files::look_in;
 use look_mind::look::Look;
 use look_reasons::excerpt::shown;
+use look_words::words::MindWords;
 use mas_io::shelf::Shelf;
-use mas_io::sink::Sink;
+use mas_top_status::status::Status;
 use mas_world::artifact::Artifact;
 use std::alloc::Global;
 
 /// The line that says that a file is not the report of the project.
-pub fn foreign_line(alloc: Global, report: &[u8]) -> Result<Text, Starved> {
+fn foreign_line(alloc: Global, report: &[u8]) -> Result<Text, Starved> {
     let mut line = shown(alloc, report)?;
     line.append(b": not the report of this project\n")?;
     Ok(line)
@@ -41,43 +50,88 @@ fn turns_line(alloc: Global, report: &[u8], turns: u64) -> Result<Text, Starved>
     Ok(line)
 }
 
-/// The text of an agent, or why there is none.
-fn mind_output<S: Shelf, A: Artifact>(
-    alloc: Global,
-    words: &MindWords<'_>,
-    input: Option<&[u8]>,
-    shelf: &mut S,
-    artifacts: Vec<A>,
-) -> Result<Output, LookFault> {
-    let project = text_of(alloc, words.project)?;
-    let agent = text_of(alloc, words.agent)?;
-    let bytes = match report_bytes(alloc, words.report, input, shelf) {
-        Ok(bytes) => bytes,
-        Err(status) => {
-            drop(artifacts);
-            return Err(LookFault::Ended(status));
-        }
-    };
-    match look_in(
-        alloc, artifacts, &project, &bytes, &agent, words.turn, shelf,
-    ) {
-        Ok(Look::Shown(text)) => Ok(Output { text, found: false }),
-        Ok(Look::Foreign) => Err(LookFault::Unfit(foreign_line(alloc, words.report)?)),
-        Ok(Look::NoAgent) => Err(LookFault::Unfit(nobody_line(alloc, words.agent)?)),
-        Ok(Look::NoTurn(turns)) => Err(LookFault::Unfit(turns_line(alloc, words.report, turns)?)),
-        Err(status) => Err(LookFault::Ended(status)),
+/// The fault with this line.
+fn unfit(line: Result<Text, Starved>) -> LookFault
+    ensures { IsUnfit result }
+{
+    match line {
+        Ok(line) => LookFault::Unfit(line),
+        Err(Starved) => LookFault::Ended(Status::Memory),
     }
 }
 
-/// Writes the text of an agent after the first turns of a run.
-pub fn print_mind<S: Shelf, K: Sink, A: Artifact>(
+/// A file is not the report of the project.
+pub fn foreign(alloc: Global, report: &[u8]) -> LookFault
+    ensures { IsUnfit result }
+{
+    unfit(foreign_line(alloc, report))
+}
+
+/// The text of a look, or why there is none.
+fn look_output(alloc: Global, words: &MindWords<'_>, look: Look) -> Result<Output, LookFault>
+    ensures { spec.TellsLook look result }
+{
+    match look {
+        Look::Shown(text) => Ok(Output { text, found: false }),
+        Look::Foreign => Err(foreign(alloc, words.report)),
+        Look::NoAgent => Err(unfit(nobody_line(alloc, words.agent))),
+        Look::NoTurn(turns) => Err(unfit(turns_line(alloc, words.report, turns))),
+    }
+}
+
+/// What is seen of an agent of the project, where the bytes are the report of its run; or why a file of the project is refused.
+#[tactic(auto, using(crate::proofs::Outputs::looked))]
+fn look_of<S: Shelf, A: Artifact>(
+    alloc: Global,
+    words: &MindWords<'_>,
+    bytes: &Text,
+    shelf: &mut S,
+    artifacts: Vec<A>,
+) -> Result<Look, Status>
+    ensures same { S.holds shelf.new ≡ S.holds shelf.old }
+    ensures later { S.faults shelf.old ≤ S.faults shelf.new }
+    ensures answer { let objects = objects_of A.named A.table A.facts artifacts.items in
+        let held = S.holds shelf.old in
+        let m = asked.minding_of words.now in
+        MatchResult result
+        (IsLookIn objects held m.project bytes.now m.agent m.turn)
+        (AreRefused (known objects) defaults.cycles held m.project (S.faults shelf.old) (S.faults shelf.new)) }
+{
+    let Ok(project) = text_of(alloc, words.project) else {
+        drop(artifacts);
+        return Err(Status::Memory);
+    };
+    let Ok(agent) = text_of(alloc, words.agent) else {
+        drop(artifacts);
+        return Err(Status::Memory);
+    };
+    look_in(alloc, artifacts, &project, bytes, &agent, words.turn, shelf)
+}
+
+/// The text of an agent after the first turns of a run, or why there is none.
+#[tactic(auto, using(crate::proofs::Outputs::mind_no_report))]
+pub fn mind_output<S: Shelf, A: Artifact>(
     alloc: Global,
     words: &MindWords<'_>,
     input: Option<&[u8]>,
     shelf: &mut S,
-    sink: &mut K,
     artifacts: Vec<A>,
-) -> LookEnd {
-    let output = mind_output(alloc, words, input, shelf, artifacts);
-    print_output(output, sink)
+) -> Result<Output, LookFault>
+    ensures same { S.holds shelf.new ≡ S.holds shelf.old }
+    ensures later { S.faults shelf.old ≤ S.faults shelf.new }
+    ensures answer { let objects = objects_of A.named A.table A.facts artifacts.items in
+        let given = option_map (λ b. b.now) input.entry in
+        let a = asked.mind (asked.minding_of words.now) in
+        spec.Answers objects given (S.holds shelf.old) (S.faults shelf.old) (S.faults shelf.new) a result }
+{
+    match report_bytes(alloc, words.report, input, shelf) {
+        Err(status) => {
+            drop(artifacts);
+            Err(LookFault::Ended(status))
+        }
+        Ok(bytes) => match look_of(alloc, words, &bytes, shelf, artifacts) {
+            Err(status) => Err(LookFault::Ended(status)),
+            Ok(look) => look_output(alloc, words, look),
+        },
+    }
 }

@@ -1,82 +1,92 @@
 //! The top call.
 
-use crate::ends::{LookEnd, USAGE};
-use crate::looking::{print_hints, print_messages, print_plain, print_where};
-use crate::minding::print_mind;
-use crate::paging::print_page;
-use crate::words::{LookAsked, asked_of};
-use asl_term::copying::text_of;
-use asl_term::names::Names;
+ghost use Rattle.std.specs.Prelude.{◌≡◌, ◌≤◌, Some, map, string_bytes, option_map};
+ghost use Rattle.mas_io.specs.Told.{told_of, IsKept};
+ghost use Rattle.mas_top_opening.specs.Opening.{objects_of};
+ghost use Rattle.look_words.specs.Asked.{asked_of};
+ghost use Rattle.look_top.specs.Ends as spec;
+ghost use Rattle.look_top.specs.Outputs.{Answers};
+
+use crate::ends::{LookEnd, USAGE, VERSION};
+use crate::looking::{hints_output, messages_output, plain_output, print_output, where_output};
+use crate::minding::mind_output;
+use crate::paging::page_output;
 use asl_term::sequence::Starved;
-use look_answer::answer::LookFault;
+use look_answer::answer::{LookFault, Output};
+use look_words::taken::asked_of;
+use look_words::words::LookAsked;
 use mas_io::shelf::Shelf;
 use mas_io::sink::Sink;
-use mas_top_files::known::known_names;
 use mas_top_status::status::Status;
 use mas_world::artifact::Artifact;
 use std::alloc::Global;
 
-const VERSION: &[u8] = b"jasonlook 1.0.0\n";
-
-/// Does what is asked for, where there are these artifacts, of these names.
-fn look_asked<S: Shelf, K: Sink, A: Artifact>(
+/// What is asked for, where there are these artifacts and this standard input.
+#[tactic(auto, using(crate::proofs::Outputs::answered))]
+fn output_of<S: Shelf, A: Artifact>(
     alloc: Global,
-    known: &Names,
+    asked: LookAsked<'_>,
+    input: Option<&[u8]>,
+    shelf: &mut S,
+    artifacts: Vec<A>,
+) -> Result<Output, LookFault>
+    ensures same { S.holds shelf.new ≡ S.holds shelf.old }
+    ensures later { S.faults shelf.old ≤ S.faults shelf.new }
+    ensures answer { let objects = objects_of A.named A.table A.facts artifacts.items in
+        let given = option_map (λ b. b.now) input.entry in
+        Answers objects given (S.holds shelf.old) (S.faults shelf.old) (S.faults shelf.new) (asked_of asked.entry) result }
+{
+    match asked {
+        LookAsked::Help => {
+            drop(artifacts);
+            plain_output(alloc, USAGE)
+        }
+        LookAsked::Version => {
+            drop(artifacts);
+            plain_output(alloc, VERSION)
+        }
+        LookAsked::Where { project } => {
+            let output = where_output(alloc, project, artifacts.as_slice(), shelf);
+            drop(artifacts);
+            output
+        }
+        LookAsked::Hints { project } => {
+            let output = hints_output(alloc, project, artifacts.as_slice(), shelf);
+            drop(artifacts);
+            output
+        }
+        LookAsked::Messages { report, csv } => {
+            drop(artifacts);
+            messages_output(alloc, report, csv, input, shelf)
+        }
+        LookAsked::Mind(words) => mind_output(alloc, &words, input, shelf, artifacts),
+        LookAsked::Page(words) => page_output(alloc, &words, input, shelf, artifacts),
+    }
+}
+
+/// Does what is asked for.
+#[tactic(auto, using(crate::proofs::Caused::caused))]
+fn do_asked<S: Shelf, K: Sink, A: Artifact>(
+    alloc: Global,
     asked: LookAsked<'_>,
     input: Option<&[u8]>,
     shelf: &mut S,
     sink: &mut K,
     artifacts: Vec<A>,
-) -> LookEnd {
-    match asked {
-        LookAsked::Mind(words) => print_mind(alloc, &words, input, shelf, sink, artifacts),
-        LookAsked::Page(words) => print_page(alloc, &words, input, shelf, sink, artifacts),
-        LookAsked::Help => {
-            drop(artifacts);
-            print_plain(alloc, USAGE, sink)
-        }
-        LookAsked::Version => {
-            drop(artifacts);
-            print_plain(alloc, VERSION, sink)
-        }
-        LookAsked::Where { project } => {
-            drop(artifacts);
-            match text_of(alloc, project) {
-                Ok(word) => print_where(alloc, known, &word, shelf, sink),
-                Err(_) => LookEnd::Refused(LookFault::Ended(Status::Memory)),
-            }
-        }
-        LookAsked::Hints { project } => {
-            drop(artifacts);
-            match text_of(alloc, project) {
-                Ok(word) => print_hints(alloc, known, &word, shelf, sink),
-                Err(_) => LookEnd::Refused(LookFault::Ended(Status::Memory)),
-            }
-        }
-        LookAsked::Messages { report, csv } => {
-            drop(artifacts);
-            print_messages(alloc, report, csv, input, shelf, sink)
-        }
-    }
-}
-
-fn look<S: Shelf, K: Sink, A: Artifact>(
-    alloc: Global,
-    words: &[String],
-    input: Option<&[u8]>,
-    shelf: &mut S,
-    sink: &mut K,
-    artifacts: Vec<A>,
-) -> Result<LookEnd, Starved> {
-    let Some(asked) = asked_of(alloc, words)? else {
-        drop(artifacts);
-        return Ok(LookEnd::Usage);
-    };
-    let known = known_names(alloc, artifacts.as_slice())?;
-    Ok(look_asked(alloc, &known, asked, input, shelf, sink, artifacts))
+) -> LookEnd
+    ensures kept { let told = told_of S.holds S.faults K.written K.faults in
+        IsKept (told shelf.old sink.old) (told shelf.new sink.new) }
+    ensures caused { let told = told_of S.holds S.faults K.written K.faults in
+        let objects = objects_of A.named A.table A.facts artifacts.items in
+        let given = option_map (λ b. b.now) input.entry in
+        spec.AskedCaused objects given (Some (asked_of asked.entry)) (told shelf.old sink.old) (told shelf.new sink.new) result }
+{
+    let output = output_of(alloc, asked, input, shelf, artifacts);
+    print_output(output, sink)
 }
 
 /// Does what the words ask for. The words leave out the program's own name; the input is that of the word `-`.
+#[tactic(auto, using(crate::proofs::Caused::starved, crate::proofs::Caused::asked_so))]
 pub fn look_words<S: Shelf, K: Sink, A: Artifact>(
     alloc: Global,
     words: &[String],
@@ -84,9 +94,23 @@ pub fn look_words<S: Shelf, K: Sink, A: Artifact>(
     shelf: &mut S,
     sink: &mut K,
     artifacts: Vec<A>,
-) -> LookEnd {
-    match look(alloc, words, input, shelf, sink, artifacts) {
-        Ok(end) => end,
-        Err(Starved) => LookEnd::Refused(LookFault::Ended(Status::Memory)),
+) -> LookEnd
+    ensures kept { let told = told_of S.holds S.faults K.written K.faults in
+        IsKept (told shelf.old sink.old) (told shelf.new sink.new) }
+    ensures caused { let told = told_of S.holds S.faults K.written K.faults in
+        let objects = objects_of A.named A.table A.facts artifacts.items in
+        let given = option_map (λ b. b.now) input.entry in
+        spec.WordsCaused objects given (map string_bytes words.now) (told shelf.old sink.old) (told shelf.new sink.new) result }
+{
+    match asked_of(alloc, words) {
+        Ok(Some(asked)) => do_asked(alloc, asked, input, shelf, sink, artifacts),
+        Ok(None) => {
+            drop(artifacts);
+            LookEnd::Usage
+        }
+        Err(Starved) => {
+            drop(artifacts);
+            LookEnd::Refused(LookFault::Ended(Status::Memory))
+        }
     }
 }

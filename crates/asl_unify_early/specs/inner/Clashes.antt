@@ -10,6 +10,7 @@ use Rattle.asl_term.specs.declared.syntax.Term.TheViews.{out-Term}
 use Rattle.asl_unify.specs.declared.subst.Pair.{Pair}
 use Rattle.asl_unify.specs.Compare.{same_head}
 use Rattle.asl_unify.specs.Matches.{matches}
+use Rattle.asl_unify.specs.Cursors.{matches_left}
 use Rattle.asl_unify.specs.Puts.{IsSubst}
 use Rattle.asl_unify.specs.Renamed.{renamed_literal}
 
@@ -38,8 +39,9 @@ pub record HasClash (xs ys : List Term) : Type 0 where
   pub at_right : slice_get ys place ≡ Some right
   pub clash : layers_clash (out-Term left) (out-Term right) ≡ true
 
+-- no match, and none left at any cursor
 abbrev pub HasNoMatch : LiteralOf Term → LiteralOf Term → Type 0
-HasNoMatch p q = (s : List Pair) → IsSubst s → matches p q s ≡ []
+HasNoMatch p q = (s : List Pair) → IsSubst s → (matches p q s ≡ []) × ((at : List ℕ) → matches_left p q s at ≡ [])
 
 -- a literal has no match with another one, as it is and whatever number its variables get
 abbrev pub NeverMatch : LiteralOf Term → LiteralOf Term → Type 0

@@ -1,0 +1,9 @@
+use Rattle.asl_intend.proofs.Under.{under_since, put_under}
+use Rattle.asl_intend.proofs.stack.Stack.push_under.Goals as goal
+
+pub put_over-requires : goal.put_over-requires
+put_over-requires c = under_since c.args.m.now c.args.e.now c.args.log.now _ _ c.in_ok-found.ensures c.in-Some.is c.requires
+
+pub returns-in_ok-done-in-Some-clause-done : goal.returns-in_ok-done-in-Some-clause-done
+returns-in_ok-done-in-Some-clause-done c = λ yes.
+    put_under c.args.m.now c.args.e.now c.args.log.now _ _ c.in_ok-found.ensures c.in-Some.is _ _ (c.in_ok-done-in-Some.ensures.done yes)

@@ -1,0 +1,3 @@
+pub mod Claps
+pub mod Texts
+pub mod Numerals
