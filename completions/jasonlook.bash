@@ -4,7 +4,7 @@ _jasonlook() {
     local word=${COMP_WORDS[COMP_CWORD]}
     COMPREPLY=()
     if ((COMP_CWORD == 1)); then
-        COMPREPLY=($(compgen -W "where hints messages mind page --help --version" -- "$word"))
+        COMPREPLY=($(compgen -W "where hints messages mind drops page --help --version" -- "$word"))
         return
     fi
     case ${COMP_WORDS[1]} in
@@ -15,6 +15,14 @@ _jasonlook() {
         messages)
             if [[ $word == -* ]]; then
                 COMPREPLY=($(compgen -W "- --csv" -- "$word"))
+            else
+                compopt -o filenames 2>/dev/null
+                mapfile -t COMPREPLY < <(compgen -f -- "$word")
+            fi
+            ;;
+        drops)
+            if [[ $word == -* ]]; then
+                COMPREPLY=($(compgen -W "- --unhandled" -- "$word"))
             else
                 compopt -o filenames 2>/dev/null
                 mapfile -t COMPREPLY < <(compgen -f -- "$word")

@@ -15,6 +15,7 @@ complete -c jasonlook -n __jasonlook_first -a where -d 'what is refused, with li
 complete -c jasonlook -n __jasonlook_first -a hints -d 'what is read and looks wrong'
 complete -c jasonlook -n __jasonlook_first -a messages -d 'who sent what to whom, and when it was taken'
 complete -c jasonlook -n __jasonlook_first -a mind -d 'what an agent has in mind after so many turns'
+complete -c jasonlook -n __jasonlook_first -a drops -d 'what was dropped, has failed or is spent, and on which stack'
 complete -c jasonlook -n __jasonlook_first -a page -d 'the run as a page, with what changed in minds'
 complete -c jasonlook -n __jasonlook_first -l help -d 'the commands'
 complete -c jasonlook -n __jasonlook_first -l version -d 'the version'
@@ -23,4 +24,6 @@ complete -c jasonlook -n '__jasonlook_in hints' -a '(__fish_complete_suffix .mas
 complete -c jasonlook -n '__jasonlook_in messages' -F
 complete -c jasonlook -n '__jasonlook_in messages' -l csv -d 'a table for a spreadsheet'
 complete -c jasonlook -n '__jasonlook_in mind' -F
+complete -c jasonlook -n '__jasonlook_in drops' -F
+complete -c jasonlook -n '__jasonlook_in drops' -l unhandled -d 'what no failure plan takes up'
 complete -c jasonlook -n '__jasonlook_in page' -F

@@ -87,9 +87,7 @@ pub fn looked_up<B: BeliefBase, A: Actions>(
     match first_goal(alloc, desired, g, &p.agenda, cur)? {
         None => Ok(Acted::Failed(Why::NoMatch)),
         Some(s) => {
-            let bound = cur.bind(&s);
-            drop(s);
-            bound?;
+            cur.bind_match(alloc, s)?;
             cur.remove_head();
             Ok(Acted::Ok(Seq::new(alloc)))
         }

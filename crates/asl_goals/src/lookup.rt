@@ -5,14 +5,14 @@ ghost use Rattle.asl_intend.specs.Stacks as stacks;
 ghost use Rattle.asl_goals.specs.Goals as spec;
 
 use asl_intend::agenda::{Agenda, Ask, Event, Events, Running};
+use asl_intend::goal_match::GoalMatch;
 use asl_intend::stack::Stack;
 use asl_term::sequence::Starved;
 use asl_term::syntax::Literal;
-use asl_unify::subst::Subst;
 use std::alloc::Global;
 
 /// The first match with a goal of a stack, from its top.
-fn stack_match(alloc: Global, g: &Literal, stack: &Stack) -> Result<Option<Subst>, Starved>
+fn stack_match(alloc: Global, g: &Literal, stack: &Stack) -> Result<Option<GoalMatch>, Starved>
     ensures { IfOk result (λ r. r ≡ spec.stack_match g.now stack.now) }
 {
     for k in 0..stack.len() {
@@ -25,7 +25,7 @@ fn stack_match(alloc: Global, g: &Literal, stack: &Stack) -> Result<Option<Subst
 }
 
 /// That of the first stack which has one.
-fn stacks_match(alloc: Global, g: &Literal, stacks: &[Stack]) -> Result<Option<Subst>, Starved>
+fn stacks_match(alloc: Global, g: &Literal, stacks: &[Stack]) -> Result<Option<GoalMatch>, Starved>
     ensures { IfOk result (λ r. r ≡ spec.first_of (spec.stack_match g.now) stacks.now) }
 {
     for stack in stacks {
@@ -38,7 +38,11 @@ fn stacks_match(alloc: Global, g: &Literal, stacks: &[Stack]) -> Result<Option<S
 }
 
 /// That of the first running stack which has one.
-fn running_match(alloc: Global, g: &Literal, running: &Running) -> Result<Option<Subst>, Starved>
+fn running_match(
+    alloc: Global,
+    g: &Literal,
+    running: &Running,
+) -> Result<Option<GoalMatch>, Starved>
     ensures { IfOk result (λ r. r ≡ spec.first_of (spec.stack_match g.now) running.now) }
 {
     let (front, back) = running.parts();
@@ -50,7 +54,12 @@ fn running_match(alloc: Global, g: &Literal, running: &Running) -> Result<Option
 }
 
 /// The match with the goal that an event is about.
-fn own_match(alloc: Global, desired: bool, g: &Literal, e: &Event) -> Result<Option<Subst>, Starved>
+fn own_match(
+    alloc: Global,
+    desired: bool,
+    g: &Literal,
+    e: &Event,
+) -> Result<Option<GoalMatch>, Starved>
     ensures { IfOk result (λ r. r ≡ cond desired (stacks.goal_match g.now e.now.trigger) None) }
 {
     if desired {
@@ -66,7 +75,7 @@ fn event_match(
     desired: bool,
     g: &Literal,
     e: &Event,
-) -> Result<Option<Subst>, Starved>
+) -> Result<Option<GoalMatch>, Starved>
     ensures { IfOk result (λ r. r ≡ spec.event_match desired g.now e.now) }
 {
     let own = own_match(alloc, desired, g, e)?;
@@ -82,7 +91,7 @@ fn first_match(
     desired: bool,
     g: &Literal,
     events: &[Event],
-) -> Result<Option<Subst>, Starved>
+) -> Result<Option<GoalMatch>, Starved>
     ensures { IfOk result (λ r. r ≡ spec.first_of (spec.event_match desired g.now) events.now) }
 {
     for e in events {
@@ -100,7 +109,7 @@ fn events_match(
     desired: bool,
     g: &Literal,
     events: &Events,
-) -> Result<Option<Subst>, Starved>
+) -> Result<Option<GoalMatch>, Starved>
     ensures { IfOk result (λ r. r ≡ spec.first_of (spec.event_match desired g.now) events.now) }
 {
     let (front, back) = events.parts();
@@ -112,7 +121,7 @@ fn events_match(
 }
 
 /// That of the first ask whose stack has one.
-fn asks_match(alloc: Global, g: &Literal, asks: &[Ask]) -> Result<Option<Subst>, Starved>
+fn asks_match(alloc: Global, g: &Literal, asks: &[Ask]) -> Result<Option<GoalMatch>, Starved>
     ensures { IfOk result (λ r. r ≡ spec.first_of (λ q. spec.stack_match g.now q.stack) asks.now) }
 {
     for ask in asks {
@@ -130,7 +139,7 @@ fn waiting_match(
     g: &Literal,
     asks: &[Ask],
     cur: &Stack,
-) -> Result<Option<Subst>, Starved>
+) -> Result<Option<GoalMatch>, Starved>
     ensures { IfOk result (λ r. r ≡ spec.or_else (spec.first_of (λ q. spec.stack_match g.now q.stack) asks.now)
         (spec.stack_match g.now cur.now)) }
 {
@@ -148,7 +157,7 @@ fn later_match(
     g: &Literal,
     a: &Agenda,
     cur: &Stack,
-) -> Result<Option<Subst>, Starved>
+) -> Result<Option<GoalMatch>, Starved>
     ensures { IfOk result (λ r. r ≡ spec.or_else (spec.first_of (spec.event_match desired g.now) a.now.events)
         (spec.or_else (spec.first_of (λ q. spec.stack_match g.now q.stack) a.now.asks)
         (spec.stack_match g.now cur.now))) }
@@ -168,7 +177,7 @@ pub fn first_goal(
     g: &Literal,
     a: &Agenda,
     cur: &Stack,
-) -> Result<Option<Subst>, Starved>
+) -> Result<Option<GoalMatch>, Starved>
     ensures { IfOk result (λ r. r ≡ spec.first_goal desired g.now a.now cur.now) }
 {
     let found = running_match(alloc, g, &a.running)?;

@@ -32,7 +32,7 @@ use Rattle.asl_intend.specs.Entries as entry
 use Rattle.asl_intend.specs.Entries.{seen, seen_first, Since, FirstSince}
 use Rattle.asl_intend.specs.Stacks as stacks
 
-map_joined : {A B : Type 0} (f : A → B) (xs ys : List A) → map f (xs ++ ys) ≡ map f xs ++ map f ys
+pub map_joined : {A B : Type 0} (f : A → B) (xs ys : List A) → map f (xs ++ ys) ≡ map f xs ++ map f ys
 map_joined f [] ys = refl
 map_joined f (x ∷ xs) ys = ap (λ z. f x ∷ z) (map_joined f xs ys)
 

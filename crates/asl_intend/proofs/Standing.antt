@@ -42,7 +42,7 @@ use Rattle.asl_intend.specs.declared.entry.Means.{Means}
 use Rattle.asl_intend.specs.Means.{put_means, applied_means}
 use Rattle.asl_intend.specs.Apart.{with_bound, bound_to, stands, in_pair, in_pairs, in_levels, is_apart, are_apart, is_bare, stands_apart}
 
-neither : (a b : Bool) → (a || b) ≡ false → (a ≡ false) × (b ≡ false)
+pub neither : (a b : Bool) → (a || b) ≡ false → (a ≡ false) × (b ≡ false)
 neither false b e = (refl, e)
 neither true b e = absurd (false≢true (sym e))
 
@@ -60,7 +60,7 @@ all_three true true c e = (refl, refl, e)
 all_three true false c e = absurd (false≢true e)
 all_three false b c e = absurd (false≢true e)
 
-not_true : (b : Bool) → not b ≡ true → b ≡ false
+pub not_true : (b : Bool) → not b ≡ true → b ≡ false
 not_true false e = refl
 not_true true e = absurd (false≢true e)
 
@@ -111,12 +111,12 @@ module _ (x : Var) where
       let n = neither (in_pairs x s) (in_levels x rest) e in
       clear_each rest n.1 (apply s t) ∙ clear_put (value_of s) (clear_pairs s term.Var clear_var n.0) t
 
-  clear_in : (own : List Pair) (rest : List (List Pair)) → in_levels x (own ∷ rest) ≡ false → Clear (value_in own rest)
+  pub clear_in : (own : List Pair) (rest : List (List Pair)) → in_levels x (own ∷ rest) ≡ false → Clear (value_in own rest)
   clear_in own rest e y =
       let n = neither (in_pairs x own) (in_levels x rest) e in
       clear_each rest n.1 (value_of own y) ∙ clear_pairs own term.Var clear_var n.0 y
 
-  from_places : (t : Term) → places x t ≡ 0 → occurs x t ≡ false
+  pub from_places : (t : Term) → places x t ≡ 0 → occurs x t ≡ false
   from_places t n = go (occurs x t) refl where
     go : (b : Bool) → occurs x t ≡ b → occurs x t ≡ false
     go false u = u
@@ -138,7 +138,7 @@ module _ (x : Var) where
       let n = neither (in_pairs x s) (in_levels x rest) e in
       ap (apply_each rest) (put-var (value_of s) x ∙ own_stays s n.0) ∙ each_stays rest n.1
 
-  stays_in : (own : List Pair) (rest : List (List Pair)) → in_levels x (own ∷ rest) ≡ false → value_in own rest x ≡ term.Var x
+  pub stays_in : (own : List Pair) (rest : List (List Pair)) → in_levels x (own ∷ rest) ≡ false → value_in own rest x ≡ term.Var x
   stays_in own rest e =
       let n = neither (in_pairs x own) (in_levels x rest) e in
       ap (apply_each rest) (own_stays own n.0) ∙ each_stays rest n.1

@@ -13,11 +13,10 @@ ghost use Rattle.asl_intend.specs.Apart as spec;
 ghost use Rattle.asl_intend.specs.Means.{put_means, applied_means};
 
 use crate::entry::{Means, StackEntry};
-use asl_term::compare::same_var;
-use asl_term::compare_expr::{equal_formulas, equal_trigger};
+use crate::occurring::{in_later, in_pairs, stands};
+use crate::untouched::{leaves_formulas, leaves_trigger};
 use asl_term::sequence::{Seq, Starved};
-use asl_term::syntax::{Formula, Formulas, Literal, Term, Trigger, Var};
-use asl_term::variables::occurs;
+use asl_term::syntax::{Formula, Formulas, Literal, Term, Trigger};
 use asl_term_queue::queue::Queue;
 use asl_unify::apply::apply_formula;
 use asl_unify::layers::same_frames;
@@ -28,42 +27,6 @@ use asl_unify::matching::first_match;
 use asl_unify::solve::View;
 use asl_unify::subst::{Pair, Subst, copy_subst, no_subst};
 use std::alloc::Global;
-
-/// Whether a variable stands in some of these terms.
-fn stands(v: &Var, ts: &[Term]) -> bool
-    ensures { result ≡ spec.stands v.now ts.now }
-{
-    for t in ts {
-        if occurs(v, t) {
-            return true;
-        }
-    }
-    false
-}
-
-fn in_pairs(v: &Var, pairs: &[Pair]) -> bool
-    ensures { result ≡ spec.in_pairs v.now pairs.now }
-{
-    for p in pairs {
-        if same_var(&p.var, v) || occurs(v, &p.term) {
-            return true;
-        }
-    }
-    false
-}
-
-fn in_later(v: &Var, rest: Later<'_>) -> bool
-    ensures { result ≡ spec.in_levels v.now (later rest.entry) }
-{
-    let mut left = rest;
-    while let Some((next, more)) = left.split_first() {
-        if in_pairs(v, next.pairs()) {
-            return true;
-        }
-        left = more;
-    }
-    false
-}
 
 /// Whether a term is a variable that stands in none of these.
 fn is_apart(x: &Term, xs: &[Term], us: &[Term], own: &[Pair], rest: Later<'_>) -> bool
@@ -97,7 +60,8 @@ fn is_bare(ts: &[Term]) -> bool
     }
 }
 
-fn stands_apart(g: &Literal, l: &Literal, own: &[Pair], rest: Later<'_>) -> bool
+/// Whether the arguments of a literal are variables that stand nowhere else, and it has the frame of another one.
+pub fn stands_apart(g: &Literal, l: &Literal, own: &[Pair], rest: Later<'_>) -> bool
     ensures { result ≡ spec.stands_apart g.now l.now (own.now ∷ later rest.entry) }
 {
     same_frames(g, l)
@@ -165,15 +129,10 @@ fn leaves(alloc: Global, m: &Means, s: &Subst, rest: Later<'_>) -> Result<bool, 
     requires { IsSubst s.now }
     ensures { IfOk result (λ r. r ≡ true → put_means (value_in s.now (later rest.entry)) m.now ≡ m.now) }
 {
-    match put_in(alloc, m, s, rest)? {
-        None => Ok(false),
-        Some(made) => {
-            let same = equal_trigger(&made.trigger, &m.trigger)
-                && equal_formulas(made.body.as_slice(), m.body.as_slice());
-            drop(made);
-            Ok(same)
-        }
+    if !leaves_trigger(alloc, &m.trigger, s, rest)? {
+        return Ok(false);
     }
+    leaves_formulas(alloc, m.body.as_slice(), s, rest)
 }
 
 /// The means with what the variables of their trigger are bound to, as it is kept.

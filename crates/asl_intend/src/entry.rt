@@ -5,7 +5,7 @@ ghost use Rattle.asl_unify.specs.Limits.{Passes};
 ghost use Rattle.asl_intend.specs.Entries as spec;
 ghost use Rattle.asl_intend.specs.Stacks as stacks;
 
-use crate::goal::{can_name, goal_match, some_match};
+use crate::goal::{can_name, some_match};
 use crate::unbuilt::matches_under;
 use asl_term::copying::copy_all;
 use asl_term::sequence::Starved;
@@ -212,27 +212,6 @@ impl StackEntry {
             return Ok(false);
         }
         self.is_matched(alloc, log, g, &[])
-    }
-
-    /// The first match of the literal with the goal of the trigger, which is built only where it is small or matches.
-    pub fn goal_match(
-        &self,
-        alloc: Global,
-        log: &Log,
-        g: &Literal,
-    ) -> Result<Option<Subst>, Starved>
-        ensures { IfOk result (λ r. r ≡ stacks.goal_match g.now (spec.seen log.now self.now).trigger) }
-    {
-        if !can_name(g, &self.trigger) {
-            return Ok(None);
-        }
-        if !self.is_small(log) && !self.is_matched(alloc, log, g, &[])? {
-            return Ok(None);
-        }
-        let t = self.full_trigger(alloc, log)?;
-        let found = goal_match(alloc, g, &t);
-        drop(t);
-        found
     }
 
     /// The trigger, with what is bound put into it. One that passes the limits of a term is not built.

@@ -1,20 +1,19 @@
 //! The triggers of events. One that passes the limits of a term is not built: what is still to be put into it is kept with it.
 
-ghost use Rattle.std.specs.Prelude.{◌≡◌, [], ◌∷◌, ◌++◌, None, Some, IfOk, IfSome, OnOk};
-ghost use Rattle.asl_unify.specs.Logs.{later};
+ghost use Rattle.std.specs.Prelude.{◌≡◌, [], None, Some, IfOk, IfSome};
 ghost use Rattle.asl_unify.specs.Matches.{matches};
 ghost use Rattle.asl_intend.specs.Entries as entries;
 ghost use Rattle.asl_intend.specs.EventTriggers as spec;
 ghost use Rattle.asl_intend.specs.Stacks as stacks;
 
 use crate::entry::StackEntry;
-use crate::goal::{goal_match, names_goal, some_match};
+use crate::goal::{names_goal, some_match};
+use crate::goal_match::{GoalMatch, built_match, entry_match};
+use crate::kept::{copy_later, kept_entry};
 use asl_term::copying::copy_trigger;
-use asl_term::sequence::{Seq, Starved};
+use asl_term::sequence::Starved;
 use asl_term::syntax::{Kind, Literal, Term, Trigger};
-use asl_term_queue::queue::Queue;
-use asl_unify::log::{Later, Log};
-use asl_unify::subst::{Subst, copy_subst};
+use asl_unify::log::Log;
 use std::alloc::Global;
 use std::marker::Model;
 
@@ -49,32 +48,6 @@ impl Model for EventTrigger {
     ghost coded = { Prim.hlevel (codes, term.the_row.coded) };
 
     ghost view = { λ t. spec.filled t.form };
-}
-
-/// The substitutions that are left of a log, as a log of its own.
-pub fn copy_later(alloc: Global, rest: Later<'_>) -> Result<Log, Starved>
-    ensures { IfOk result (λ r. r ≡ later rest.entry) }
-{
-    let mut log = Log::new(alloc);
-    let mut left = rest;
-    while let Some((next, more)) = left.split_first() {
-        log.push(copy_subst(alloc, next)?)?;
-        left = more;
-    }
-    Ok(log)
-}
-
-/// An entry of a trigger alone.
-pub fn trigger_entry(alloc: Global, trigger: Trigger, own: Subst, since: u64) -> StackEntry
-    ensures { result ≡ record { trigger = trigger; own = own; since = since; first = None; body = [] } }
-{
-    StackEntry {
-        trigger,
-        own,
-        since,
-        first: None,
-        body: Queue::new(alloc),
-    }
 }
 
 /// The deletion of a trigger, with one more annotation.
@@ -127,10 +100,8 @@ impl EventTrigger {
             let trigger = e.full_trigger(alloc, log)?;
             return Ok(EventTrigger::of(trigger));
         }
-        let trigger = copy_trigger(alloc, &e.trigger)?;
-        let own = copy_subst(alloc, &e.own)?;
+        let kept = kept_entry(alloc, e)?;
         let copy = copy_later(alloc, log.since(0))?;
-        let kept = trigger_entry(alloc, trigger, own, e.since);
         Ok(EventTrigger {
             form: Form::Kept(kept, copy),
         })
@@ -254,12 +225,12 @@ impl EventTrigger {
     }
 
     /// The first match of the literal with the goal that it is about, where it is `+!h`.
-    pub fn goal_match(&self, alloc: Global, g: &Literal) -> Result<Option<Subst>, Starved>
+    pub fn goal_match(&self, alloc: Global, g: &Literal) -> Result<Option<GoalMatch>, Starved>
         ensures { IfOk result (λ r. r ≡ stacks.goal_match g.now self.now) }
     {
         match &self.form {
-            Form::Built(t) => goal_match(alloc, g, t),
-            Form::Kept(e, log) => e.goal_match(alloc, log, g),
+            Form::Built(t) => built_match(alloc, g, t),
+            Form::Kept(e, log) => entry_match(alloc, e, log, g),
         }
     }
 }

@@ -9,7 +9,7 @@ use asl_term::sequence::Starved;
 use asl_term::syntax::{Kind, Literal, Trigger};
 use asl_unify::layers::same_frames;
 use asl_unify::matching::first_match;
-use asl_unify::subst::{Subst, no_subst};
+use asl_unify::subst::no_subst;
 use std::alloc::Global;
 
 /// Whether the literal may name the goal of a trigger into which substitutions are still to be put.
@@ -53,24 +53,5 @@ pub fn names_goal(alloc: Global, g: &Literal, t: &Trigger) -> Result<bool, Starv
         Kind::Belief => Ok(false),
         Kind::Test => Ok(false),
         Kind::Achieve => some_match(alloc, g, &t.lit),
-    }
-}
-
-/// The first match of the literal with the goal that a trigger `+!h` is about.
-pub fn goal_match(alloc: Global, g: &Literal, t: &Trigger) -> Result<Option<Subst>, Starved>
-    ensures { IfOk result (λ r. r ≡ stacks.goal_match g.now t.now) }
-{
-    if !t.add {
-        return Ok(None);
-    }
-    match t.kind {
-        Kind::Belief => Ok(None),
-        Kind::Test => Ok(None),
-        Kind::Achieve => {
-            let empty = no_subst(alloc);
-            let found = first_match(alloc, g, &t.lit, &empty);
-            drop(empty);
-            found
-        }
     }
 }

@@ -4,17 +4,23 @@ ghost use Rattle.std.specs.Prelude.{◌≡◌, ◌≤◌, [], ◌∷◌, ◌++�
 ghost use Rattle.std.specs.Prelude.{MatchOption, OnOk, OnErr, IfOk, IfErr, IfSome};
 ghost use Rattle.asl_unify.specs.Limits.{Passes};
 ghost use Rattle.asl_unify.specs.Logs.{later};
+ghost use Rattle.asl_unify.specs.Puts.{IsSubst};
+ghost use Rattle.asl_unify.specs.Turns.{value_in};
 ghost use Rattle.asl_intend.specs.Apart.{PushedBy};
 ghost use Rattle.asl_intend.specs.Bodies as bodies;
 ghost use Rattle.asl_intend.specs.Entries as spec;
+ghost use Rattle.asl_intend.specs.GoalMatches as found;
 ghost use Rattle.asl_intend.specs.Means as means;
 ghost use Rattle.asl_intend.specs.Stacks as stacks;
+ghost use Rattle.asl_intend.specs.Untouched as untouched;
 
-use crate::apart::entry_under;
+use crate::apart::{entry_under, stands_apart};
 use crate::entry::{Means, StackEntry};
-use crate::event_trigger::{EventTrigger, copy_later, trigger_entry};
+use crate::event_trigger::EventTrigger;
+use crate::goal_match::{GoalMatch, MatchForm, entry_match, first_of};
+use crate::kept::{copy_later, kept_entry};
+use crate::untouched::{are_disjoint, leaves_entries};
 use asl_term::compare::{equal, same_var};
-use asl_term::copying::copy_trigger;
 use asl_term::sequence::{Seq, Starved};
 use asl_term::syntax::{Formula, Literal, Term, Trigger};
 use asl_term_queue::queue::Queue;
@@ -119,6 +125,19 @@ fn any_names(alloc: Global, entries: &[StackEntry], log: &Log, g: &Literal) -> R
         }
     }
     Ok(false)
+}
+
+/// The first match of a literal with the goal of an entry, which is built. No pairs where there is none.
+fn full_match(alloc: Global, g: &Literal, e: &StackEntry, log: &Log) -> Result<Subst, Starved>
+    ensures { IfOk result (λ r. r ≡ found.first_found g.now (spec.seen log.now e.now).trigger.lit) }
+{
+    let t = e.full_trigger(alloc, log)?;
+    let found = first_of(alloc, g, &t.lit);
+    drop(t);
+    match found? {
+        None => Ok(no_subst(alloc)),
+        Some(s) => Ok(s),
+    }
 }
 
 /// Whether two substitutions are the same.
@@ -292,9 +311,7 @@ impl Stack {
             IfOk result (λ r. r ≡ true → self.new ≡ means.applied_means [] (record { trigger = t; body = [] }) ∷ self.old) }
         ensures stays { IfOk result (λ r. r ≡ false → self.new ≡ self.old) }
     {
-        let trigger = copy_trigger(alloc, &e.trigger)?;
-        let own = copy_subst(alloc, &e.own)?;
-        let entry = trigger_entry(alloc, trigger, own, e.since);
+        let entry = kept_entry(alloc, e)?;
         let done = self.put_over(alloc, entry, log)?;
         Ok(done)
     }
@@ -352,6 +369,125 @@ impl Stack {
     {
         let next = copy_subst(self.log.alloc(), s)?;
         self.log.push(next)
+    }
+
+    /// Puts substitutions into all means, one after another.
+    fn bind_later(&mut self, rest: Later<'_>) -> Result<(), Starved>
+        ensures { OnOk result (self.new ≡ untouched.bound_each (later rest.entry) self.old) }
+    {
+        let mut left = rest;
+        while let Some((next, more)) = left.split_first() {
+            self.bind(next)?;
+            left = more;
+        }
+        Ok(())
+    }
+
+    /// Whether substitutions leave all means as they are. It may be false where they do.
+    fn is_left(&self, alloc: Global, s: &Subst, rest: Later<'_>) -> Result<bool, Starved>
+        requires { IsSubst s.now }
+        ensures { IfOk result (λ r. r ≡ true → map (means.put_means (value_in s.now (later rest.entry))) self.now ≡ self.now) }
+    {
+        if !are_disjoint(&[], self.log.since(0), s.pairs(), rest) {
+            return Ok(false);
+        }
+        leaves_entries(alloc, &self.entries, s, rest)
+    }
+
+    /// Whether the arguments of a literal stand apart, and what is still to be put into a goal leaves all means as they are.
+    fn stays_under(
+        &self,
+        alloc: Global,
+        g: &Literal,
+        e: &StackEntry,
+        rest: Later<'_>,
+    ) -> Result<bool, Starved>
+        ensures { IfOk result (λ r. r ≡ true → untouched.StaysUnder g.now e.now.trigger.lit e.now.own (later rest.entry) self.now) }
+    {
+        if !stands_apart(g, &e.trigger.lit, e.own.pairs(), rest) {
+            return Ok(false);
+        }
+        self.is_left(alloc, &e.own, rest)
+    }
+
+    /// Puts a match as it is kept into all means, and then what is still to be put into it.
+    fn bind_raw(&mut self, raw: Subst, own: &Subst, rest: Later<'_>) -> Result<(), Starved>
+        ensures { OnOk result (self.new ≡ untouched.bound_each (own.now ∷ later rest.entry) (stacks.bound raw self.old)) }
+    {
+        let done = self.bind(&raw);
+        drop(raw);
+        done?;
+        self.bind(own)?;
+        self.bind_later(rest)
+    }
+
+    /// Puts the first match of a literal with a goal that is kept into all means, where it is told without building the goal. False
+    /// where it is not; then the stack stays.
+    #[tactic(auto, using(crate::proofs::Stays::kept_bound))]
+    fn bind_under(
+        &mut self,
+        alloc: Global,
+        g: &Literal,
+        e: &StackEntry,
+        log: &Log,
+    ) -> Result<bool, Starved>
+        ensures done { let goal = (spec.seen log.now e.now).trigger.lit in
+            IfOk result (λ r. r ≡ true → self.new ≡ stacks.bound (found.first_found g.now goal) self.old) }
+        ensures stays { IfOk result (λ r. r ≡ false → self.new ≡ self.old) }
+    {
+        let rest = log.since(e.since);
+        if !self.stays_under(alloc, g, e, rest)? {
+            return Ok(false);
+        }
+        match first_of(alloc, g, &e.trigger.lit)? {
+            None => Ok(false),
+            Some(raw) => {
+                self.bind_raw(raw, &e.own, rest)?;
+                Ok(true)
+            }
+        }
+    }
+
+    /// The same of any, which is built where it has to be.
+    fn bind_kept(
+        &mut self,
+        alloc: Global,
+        g: &Literal,
+        e: &StackEntry,
+        log: &Log,
+    ) -> Result<(), Starved>
+        ensures { OnOk result (self.new ≡ stacks.bound (found.first_found g.now (spec.seen log.now e.now).trigger.lit) self.old) }
+    {
+        let done = self.bind_under(alloc, g, e, log)?;
+        if done {
+            return Ok(());
+        }
+        let s = full_match(alloc, g, e, log)?;
+        let bound = self.bind(&s);
+        drop(s);
+        bound
+    }
+
+    /// Puts the first match of a literal with a goal into all means. A goal that is not built stays so where the arguments of the
+    /// literal are variables that stand nowhere else and nothing that is bound in it stands in these means. Where it is built and has
+    /// more than 1,000,000 nodes or 1,000 levels, the answer is that memory is short.
+    pub fn bind_match(&mut self, alloc: Global, m: GoalMatch) -> Result<(), Starved>
+        ensures { OnOk result (self.new ≡ stacks.bound m self.old) }
+    {
+        match m.into_form() {
+            MatchForm::Put(s) => {
+                let bound = self.bind(&s);
+                drop(s);
+                bound
+            }
+            MatchForm::Kept(g, e, log) => {
+                let bound = self.bind_kept(alloc, &g, &e, &log);
+                drop(g);
+                drop(e);
+                drop(log);
+                bound
+            }
+        }
     }
 
     /// Whether the top has a formula left. Nothing is built.
@@ -473,12 +609,17 @@ impl Stack {
     }
 
     /// The first match of the literal with the goal of the means at a place.
-    pub fn goal_match(&self, alloc: Global, k: u64, g: &Literal) -> Result<Option<Subst>, Starved>
+    pub fn goal_match(
+        &self,
+        alloc: Global,
+        k: u64,
+        g: &Literal,
+    ) -> Result<Option<GoalMatch>, Starved>
         ensures { IfOk result (λ r. r ≡ stacks.match_at g.now (stacks.trigger_at self.now k)) }
     {
         match from_top(&self.entries, k) {
             None => Ok(None),
-            Some(e) => e.goal_match(alloc, &self.log, g),
+            Some(e) => entry_match(alloc, e, &self.log, g),
         }
     }
 

@@ -39,9 +39,10 @@ fn input_of(rt: &HostRuntime, words: &[String]) -> io::Result<Option<Vec<u8>>> {
 fn run(rt: &HostRuntime, words: &[String], input: Option<&[u8]>) -> Result<LookEnd, Starved> {
     let alloc = rt.alloc();
     let artifacts = all_kinds(alloc)?;
+    let again = all_kinds(alloc)?;
     let mut shelf = FileShelf::new(rt);
     let mut sink = OutSink::new(rt);
-    Ok(look_words(alloc, words, input, &mut shelf, &mut sink, artifacts))
+    Ok(look_words(alloc, words, input, &mut shelf, &mut sink, artifacts, again))
 }
 
 /// Writes the line of an end to standard error, where there is memory for it.

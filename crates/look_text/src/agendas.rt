@@ -45,7 +45,7 @@ fn stand_text(stack: &Stack) -> &'static [u8]
 }
 
 /// Appends the trigger of an event. One that passes the limits of a term is built for that, where it may be.
-fn put_trigger(alloc: Global, out: &mut Text, t: &EventTrigger) -> Result<(), Starved>
+pub fn put_trigger(alloc: Global, out: &mut Text, t: &EventTrigger) -> Result<(), Starved>
     ensures { OnOk result (out.new ≡ out.old ++ trigger_text t.now) }
 {
     match t.built() {

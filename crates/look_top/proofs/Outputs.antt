@@ -14,17 +14,18 @@ use Rattle.look_answer.specs.declared.answer.LookFault.TheVariants.{Ended, Unfit
 use Rattle.look_answer.specs.declared.answer.Output.{Output}
 use Rattle.look_answer.specs.Answers.{IsUnfit}
 use Rattle.look_messages.specs.Runs.{TellsRun}
+use Rattle.look_drops.specs.Drops.{IsDroppedIn, AreRefusedIn}
 use Rattle.look_mind.specs.Looks.{IsLookIn}
 use Rattle.look_mind.specs.declared.look.Look.{Look}
 use Rattle.look_mind.specs.declared.look.Look.TheVariants.{Shown}
 use Rattle.look_page.specs.Own.{IsToldIn}
 use Rattle.look_page.specs.declared.looking.MindChanges.{MindChanges}
-use Rattle.look_words.specs.Asked.{Asked, Minding, help, version, places, hints, messages, mind, page}
+use Rattle.look_words.specs.Asked.{Asked, Dropping, Minding, help, version, places, hints, messages, mind, page, drops}
 use Rattle.look_where.specs.Showing.{IsWhere, IsUnread}
 use Rattle.look_top.specs.declared.ends.TheConstants.{USAGE, VERSION}
 use Rattle.look_top.specs.Reports.{input_for, LackBytes, HasReport, LacksReport}
 use Rattle.look_top.specs.Outputs.{Within, AreUnread, no_report, no_project, IsTold, LacksMessages, IsSeen, IsUnseen}
-use Rattle.look_top.specs.Outputs.{TellsLook, LacksPlaces, IsChanged, TellsChanges, IsPaged, IsUnpaged, IsOutput, Lacks, Answers}
+use Rattle.look_top.specs.Outputs.{TellsLook, LacksPlaces, IsChanged, TellsChanges, IsPaged, IsUnpaged, IsDrops, TellsDrops, IsOutput, Lacks, Answers}
 
 -- ---- want of memory
 
@@ -50,6 +51,7 @@ lacks_memory objects input held before after (hints project) = tt
 lacks_memory objects input held before after (messages report csv) = report_lacks input held report before after
 lacks_memory objects input held before after (mind m) = none_read objects input held before after m.report m.project
 lacks_memory objects input held before after (page project report) = none_read objects input held before after report project
+lacks_memory objects input held before after (drops d) = none_read objects input held before after d.report d.project
 
 -- ---- texts as they are
 
@@ -154,6 +156,22 @@ module _ (objects : List Used) (input : Option (List ℕ)) (held : Option (List 
   unfolding Lacks
   page_no_project project report now between status e l h = then_project now between report project status e l h
 
+  pub drops_no_report : (d : Dropping) (status : Status) → LacksReport input held d.report before after status →
+      Lacks objects input held before after (drops d) (Ended status)
+  unfolding Lacks
+  drops_no_report d status h = report_first d.report d.project status h
+
+  pub drops_no_project : (d : Dropping) (now : Option (List Filed)) (between : ℕ) (status : Status) → now ≡ held → before ≤ between →
+      AreRefusedIn objects now d.project between after status → Lacks objects input held before after (drops d) (Ended status)
+  unfolding Lacks
+  drops_no_project d now between status e l h = no_project (record {
+    start = h.start;
+    end = h.end;
+    begins = omega (arith, l, h.begins);
+    ends = h.ends;
+    is = subst (λ (x : Option (List Filed)). AreRefused (known objects) defaults.cycles x d.project h.start h.end status) e h.is;
+  })
+
 -- ---- a mind
 
 -- by the texts of the words
@@ -213,6 +231,35 @@ pub paged : (objects : List Used) (input : Option (List ℕ)) (held now : Option
 paged objects input held now before after project report bytes changes r e h i t =
     paged_so objects input held before after project report bytes changes r h
     (subst (λ (x : Option (List Filed)). IsToldIn objects x project bytes changes) e i) t
+
+-- ---- what a run dropped
+
+-- by the texts of the words
+pub dropped : (objects : List Used) (held : Option (List Filed)) (before after : ℕ) (p project bytes : List ℕ) (unhandled : Bool)
+    (r : Result (Option Output) Status) → p ≡ project →
+    MatchResult r (IsDroppedIn objects held p bytes unhandled) (AreRefusedIn objects held p before after) →
+    MatchResult r (IsDroppedIn objects held project bytes unhandled) (AreRefusedIn objects held project before after)
+dropped objects held before after p project bytes unhandled r e m =
+    subst (λ (x : List ℕ). MatchResult r (IsDroppedIn objects held x bytes unhandled) (AreRefusedIn objects held x before after)) e m
+
+dropped_by : (objects : List Used) (input : Option (List ℕ)) (held : Option (List Filed)) (before after : ℕ) (d : Dropping) (told : Option Output)
+    (r : Result Output LookFault) → IsDrops objects input held d told → TellsDrops told r → Answers objects input held before after (drops d) r
+unfolding IsOutput Lacks
+dropped_by objects input held before after d None (Ok o) i t = absurd t
+dropped_by objects input held before after d (Some told) (Ok o) i t =
+    record { told = told; is = i; found_is = sym t.0; text_is = sym t.1 }
+dropped_by objects input held before after d None (Err (Ended status)) i t =
+    subst (λ (x : Status). AreUnread objects input held before after d.report d.project x) (sym t)
+    (none_read objects input held before after d.report d.project)
+dropped_by objects input held before after d None (Err (Unfit line)) i t = i
+dropped_by objects input held before after d (Some told) (Err why) i t = absurd t
+
+pub dropped_so : (objects : List Used) (input : Option (List ℕ)) (held now : Option (List Filed)) (before after : ℕ) (d : Dropping) (bytes : List ℕ)
+    (told : Option Output) (r : Result Output LookFault) → now ≡ held → HasReport input held d.report bytes →
+    IsDroppedIn objects now d.project bytes d.unhandled told → TellsDrops told r → Answers objects input held before after (drops d) r
+dropped_so objects input held now before after d bytes told r e h i t =
+    dropped_by objects input held before after d told r
+    (record { bytes = bytes; has = h; is = subst (λ (x : Option (List Filed)). IsDroppedIn objects x d.project bytes d.unhandled told) e i }) t
 
 -- the outputs of the commands that read one file or none
 pub ruleset answered = (is_help, is_version, is_places, is_hints, is_messages)

@@ -12,6 +12,7 @@ use Rattle.look_answer.specs.declared.answer.LookFault.TheVariants.{Ended, Unfit
 use Rattle.look_answer.specs.declared.answer.Output.{Output}
 use Rattle.look_answer.specs.Answers.{IsUnfit}
 use Rattle.look_messages.specs.Runs.{TellsRun}
+use Rattle.look_drops.specs.Drops.{IsDroppedIn}
 use Rattle.look_mind.specs.Looks.{IsLookIn}
 use Rattle.look_mind.specs.declared.look.Look.{Look}
 use Rattle.look_mind.specs.declared.look.Look.TheVariants.{Shown}
@@ -19,7 +20,7 @@ use Rattle.look_page.specs.Own.{IsToldIn}
 use Rattle.look_page.specs.Page.{IsPageOf}
 use Rattle.look_page.specs.declared.looking.MindChanges.{MindChanges}
 use Rattle.look_where.specs.Showing.{IsWhere, IsUnread}
-use Rattle.look_words.specs.Asked.{Asked, Minding, help, version, places, hints, messages, mind, page}
+use Rattle.look_words.specs.Asked.{Asked, Dropping, Minding, help, version, places, hints, messages, mind, page, drops}
 use Rattle.look_top.specs.declared.ends.TheConstants.{USAGE, VERSION}
 use Rattle.look_top.specs.Reports.{HasReport, LacksReport}
 
@@ -49,6 +50,12 @@ TellsPage bytes (Err why) = IsUnfit why
 abbrev pub TellsChanges : List ℕ → Option MindChanges → Result Output LookFault → Type 0
 TellsChanges bytes None r = IsErrAnd r IsUnfit
 TellsChanges bytes (Some changes) r = TellsPage bytes r
+
+-- what is written of what a run dropped; None where the bytes are not the report of one
+abbrev pub TellsDrops : Option Output → Result Output LookFault → Type 0
+TellsDrops None r = IsErrAnd r IsUnfit
+TellsDrops (Some o) (Ok written) = (written.found ≡ o.found) × (written.text ≡ o.text)
+TellsDrops (Some o) (Err why) = ⊥
 
 -- ---- of a project alone
 
@@ -111,6 +118,19 @@ module _ (objects : List Used) (input : Option (List ℕ)) (held : Option (List 
     pub changes : Option MindChanges
     pub is : IsChanged project report changes
 
+  -- this is told of what the run of the project dropped that the report is of; None where it is not that of the project
+  pub record IsDrops (d : Dropping) (told : Option Output) : Type 0 where
+    pub bytes : List ℕ
+    pub has : HasReport input held d.report bytes
+    pub is : IsDroppedIn objects held d.project bytes d.unhandled told
+
+  -- the report is that of the project, and these are the entries; something is found where there is one
+  pub record IsDropped (d : Dropping) (found : Bool) (text : List ℕ) : Type 0 where
+    pub told : Output
+    pub is : IsDrops d (Some told)
+    pub found_is : told.found ≡ found
+    pub text_is : told.text ≡ text
+
 module _ (objects : List Used) (input : Option (List ℕ)) (held : Option (List Filed)) (before after : ℕ) where
   -- the output of what is asked for, and whether something is found. Of hints nothing is said.
   unfoldable pub IsOutput : Asked → Bool → List ℕ → Type 0
@@ -121,6 +141,7 @@ module _ (objects : List Used) (input : Option (List ℕ)) (held : Option (List 
   IsOutput (messages report csv) found text = (found ≡ false) × IsTold input held report
   IsOutput (mind m) found text = (found ≡ false) × IsSeen objects input held m (Shown text)
   IsOutput (page project report) found text = (found ≡ false) × IsPaged objects input held project report text
+  IsOutput (drops d) found text = IsDropped objects input held d found text
 
   -- why there is none. Want of memory is free; of hints nothing is said.
   unfoldable pub Lacks : Asked → LookFault → Type 0
@@ -133,6 +154,8 @@ module _ (objects : List Used) (input : Option (List ℕ)) (held : Option (List 
   Lacks (mind m) (Unfit line) = IsUnseen objects input held m
   Lacks (page project report) (Ended status) = AreUnread objects input held before after report project status
   Lacks (page project report) (Unfit line) = IsUnpaged objects input held project report
+  Lacks (drops d) (Ended status) = AreUnread objects input held before after d.report d.project status
+  Lacks (drops d) (Unfit line) = IsDrops objects input held d None
 
   -- the answer to what is asked for
   abbrev pub Answers : Asked → Result Output LookFault → Type 0

@@ -54,6 +54,8 @@ pub const USAGE: &[u8] =
        jasonlook messages REPORT [--csv]  who sent what to whom, and when it was taken
        jasonlook mind PROJECT REPORT AGENT TURN
                                           what an agent has in mind after the first TURN turns, or at the end
+       jasonlook drops PROJECT REPORT [--unhandled]
+                                          what was dropped, has failed or used up its budget, and on which stack
        jasonlook page PROJECT REPORT      the run as an HTML page, with what changed in the agents' minds
        jasonlook --help | --version
 PROJECT is a .mas2j or an .asl file; REPORT is a file that jasonrun wrote, or - for standard input; TURN is a number or end.

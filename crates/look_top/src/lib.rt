@@ -5,6 +5,7 @@
 //! Must not: touch a real file or standard output, know how a command finds what it tells, take the words apart.
 #![tactic(auto)]
 
+pub mod dropping;
 pub mod ends;
 pub mod looking;
 pub mod minding;

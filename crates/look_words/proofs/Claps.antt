@@ -11,7 +11,7 @@ use Rattle.clap.specs.declared.error.Error.{Error}
 use Rattle.clap.specs.declared.error.kind.ErrorKind.{ErrorKind}
 use Rattle.clap.specs.declared.error.kind.ErrorKind.TheVariants.{OutOfMemory}
 use Rattle.clap.specs.declared.parser.matches.ArgMatches.{ArgMatches}
-use Rattle.look_words.specs.Apps.{project_app, messages_app, mind_app, page_app}
+use Rattle.look_words.specs.Apps.{project_app, messages_app, mind_app, page_app, drops_app}
 use Rattle.look_words.specs.Asked.{rows_by}
 
 -- ---- the commands are simple
@@ -32,6 +32,10 @@ page_is : is_simple_and_free page_app ≡ true
 unfolding page_app
 page_is = refl
 
+drops_is : is_simple_and_free drops_app ≡ true
+unfolding drops_app
+drops_is = refl
+
 pub project_free : (a : App) → a ≡ project_app → is_simple_and_free a ≡ true
 project_free a e = ap is_simple_and_free e ∙ project_is
 
@@ -43,6 +47,9 @@ mind_free a e = ap is_simple_and_free e ∙ mind_is
 
 pub page_free : (a : App) → a ≡ page_app → is_simple_and_free a ≡ true
 page_free a e = ap is_simple_and_free e ∙ page_is
+
+pub drops_free : (a : App) → a ≡ drops_app → is_simple_and_free a ≡ true
+drops_free a e = ap is_simple_and_free e ∙ drops_is
 
 -- ---- where it takes the words
 

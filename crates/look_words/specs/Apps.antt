@@ -29,3 +29,7 @@ mind_app = with_name (with_name (with_name (with_name bare (codes "project")) (c
 -- `page`: two names
 unfoldable pub page_app : App
 page_app = with_name (with_name bare (codes "project")) (codes "report")
+
+-- `drops`: two names, and a flag
+unfoldable pub drops_app : App
+drops_app = with_rule (with_name (with_name bare (codes "project")) (codes "report")) (flag_rule (codes "unhandled"))

@@ -10,7 +10,8 @@ use Rattle.clap.specs.Walk.{Row, first_of, is_empty}
 use Rattle.look_words.specs.declared.words.LookAsked as code
 use Rattle.look_words.specs.declared.words.LookAsked.TheVariants as code_variant
 use Rattle.look_words.specs.declared.words.MindWords as code_mind
-use Rattle.look_words.specs.Apps.{project_app, messages_app, mind_app, page_app}
+use Rattle.look_words.specs.declared.words.DropsWords as code_drops
+use Rattle.look_words.specs.Apps.{project_app, messages_app, mind_app, page_app, drops_app}
 
 -- what the agent of this name has in mind after so many turns of the run of a project and its report; without a number after all turns
 pub record Minding : Type 0 where
@@ -19,8 +20,14 @@ pub record Minding : Type 0 where
   pub agent : List ℕ
   pub turn : Option ℕ
 
+-- what the run of a project and its report dropped; or those failures alone that no failure plan takes up
+pub record Dropping : Type 0 where
+  pub project : List ℕ
+  pub report : List ℕ
+  pub unhandled : Bool
+
 -- the commands and the version; the places at which a project is refused; what looks wrong in it; the messages of a report, as a spreadsheet or
--- not; a mind; the page of a project and its report
+-- not; a mind; the page of a project and its report; what a run dropped
 pub data Asked : Type 0 where
   help : Asked
   version : Asked
@@ -29,6 +36,7 @@ pub data Asked : Type 0 where
   messages : List ℕ → Bool → Asked
   mind : Minding → Asked
   page : List ℕ → List ℕ → Asked
+  drops : Dropping → Asked
 
 -- ---- what the text of a turn says; None outside where it is not permitted
 
@@ -52,6 +60,10 @@ abbrev pub page_with : Option (List ℕ) → Option (List ℕ) → Option Asked
 page_with (Some project) (Some report) = Some (page project report)
 page_with _ _ = None
 
+abbrev pub dropping_with : Option (List ℕ) → Option (List ℕ) → Bool → Option Dropping
+dropping_with (Some project) (Some report) unhandled = Some (record { project = project; report = report; unhandled = unhandled })
+dropping_with _ _ _ = None
+
 abbrev pub is_set : Option (List ℕ) → Bool
 is_set None = false
 is_set (Some text) = bytes_eq text (codes "true")
@@ -68,6 +80,12 @@ minding_among rows = minding_with
 
 abbrev pub page_among : List Row → Option Asked
 page_among rows = page_with (first_of (codes "project") rows) (first_of (codes "report") rows)
+
+abbrev pub dropping_among : List Row → Option Dropping
+dropping_among rows = dropping_with
+    (first_of (codes "project") rows)
+    (first_of (codes "report") rows)
+    (is_set (first_of (codes "unhandled") rows))
 
 -- ---- the words
 
@@ -88,6 +106,9 @@ mind_in words = option_map mind (option_and_then minding_among (rows_by mind_app
 abbrev pub page_in : List (List ℕ) → Option Asked
 page_in words = option_and_then page_among (rows_by page_app words)
 
+abbrev pub drops_in : List (List ℕ) → Option Asked
+drops_in words = option_map drops (option_and_then dropping_among (rows_by drops_app words))
+
 abbrev pub is_either : List ℕ → List ℕ → List ℕ → Bool
 is_either word long short = bytes_eq word long || bytes_eq word short
 
@@ -101,6 +122,7 @@ asked_behind word words =
     else if bytes_eq word (codes "messages") then messages_in words
     else if bytes_eq word (codes "mind") then mind_in words
     else if bytes_eq word (codes "page") then page_in words
+    else if bytes_eq word (codes "drops") then drops_in words
     else None
 
 -- what the words ask for; None where they are not read
@@ -113,6 +135,9 @@ asked (word ∷ words) = asked_behind word words
 abbrev pub minding_of : code_mind.MindWords → Minding
 minding_of w = record { project = w.project.now; report = w.report.now; agent = w.agent.now; turn = w.turn }
 
+abbrev pub dropping_of : code_drops.DropsWords → Dropping
+dropping_of w = record { project = w.project.now; report = w.report.now; unhandled = w.unhandled }
+
 abbrev pub asked_of : code.LookAsked → Asked
 asked_of code_variant.Help = help
 asked_of code_variant.Version = version
@@ -121,3 +146,4 @@ asked_of (code_variant.Hints project) = hints project.now
 asked_of (code_variant.Messages report csv) = messages report.now csv
 asked_of (code_variant.Mind w) = mind (minding_of w)
 asked_of (code_variant.Page w) = page w.project.now w.report.now
+asked_of (code_variant.Drops w) = drops (dropping_of w)

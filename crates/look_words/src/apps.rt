@@ -64,3 +64,13 @@ pub fn page_app<'a>(alloc: Global) -> Result<Command<'a>, AllocError>
     let app = with_name(alloc, bare(alloc), "project")?;
     with_name(alloc, app, "report")
 }
+
+/// For `drops`: two names, and a flag.
+#[tactic(auto, unfolding(crate::specs::Apps::drops_app))]
+pub fn drops_app<'a>(alloc: Global) -> Result<Command<'a>, AllocError>
+    ensures { IfOk result (λ a. app_of a ≡ spec.drops_app) }
+{
+    let app = with_name(alloc, bare(alloc), "project")?;
+    let app = with_name(alloc, app, "report")?;
+    with_flag(alloc, app, "unhandled")
+}

@@ -8,9 +8,9 @@ ghost use Rattle.clap.specs.Simple.{app_of};
 ghost use Rattle.clap.specs.Walk.{first_of, rows_of};
 ghost use Rattle.look_words.specs.Asked as spec;
 
-use crate::apps::{messages_app, mind_app, page_app, project_app};
+use crate::apps::{drops_app, messages_app, mind_app, page_app, project_app};
 use crate::turns::turn_in;
-use crate::words::{LookAsked, MindWords, PageWords};
+use crate::words::{DropsWords, LookAsked, MindWords, PageWords};
 use asl_term::sequence::Starved;
 use clap::error::ErrorKind;
 use clap::{ArgMatches, Command};
@@ -93,6 +93,19 @@ fn page_among<'a>(matches: &ArgMatches<'a>) -> Option<LookAsked<'a>>
     Some(LookAsked::Page(PageWords { project, report }))
 }
 
+fn dropping_among<'a>(matches: &ArgMatches<'a>) -> Option<DropsWords<'a>>
+    ensures { option_map spec.dropping_of result ≡ spec.dropping_among (rows_of (found_of matches.now)) }
+{
+    let project = text_of(matches, "project")?;
+    let report = text_of(matches, "report")?;
+    let unhandled = is_set(text_of(matches, "unhandled"));
+    Some(DropsWords {
+        project,
+        report,
+        unhandled,
+    })
+}
+
 /// The one name that the words are.
 fn project_in<'a>(alloc: Global, words: &'a [String]) -> Result<Option<&'a [u8]>, Starved>
     ensures { IfOk result (λ r. option_map (λ t. t.now) r ≡ spec.project_in (map string_bytes words.now)) }
@@ -155,6 +168,19 @@ fn page_asked<'a>(alloc: Global, words: &'a [String]) -> Result<Option<LookAsked
     }
 }
 
+fn drops_asked<'a>(alloc: Global, words: &'a [String]) -> Result<Option<LookAsked<'a>>, Starved>
+    ensures { IfOk result (λ a. option_map spec.asked_of a ≡ spec.drops_in (map string_bytes words.now)) }
+{
+    let app = drops_app(alloc)?;
+    match matches_of(app, words)? {
+        None => Ok(None),
+        Some(matches) => match dropping_among(&matches) {
+            None => Ok(None),
+            Some(words) => Ok(Some(LookAsked::Drops(words))),
+        },
+    }
+}
+
 fn is_either(word: &[u8], long: &[u8], short: &[u8]) -> bool
     ensures { result ≡ (bytes_eq word.now long.now || bytes_eq word.now short.now) }
 {
@@ -189,6 +215,9 @@ fn asked_behind<'a>(
     }
     if word == b"page".as_slice() {
         return page_asked(alloc, words);
+    }
+    if word == b"drops".as_slice() {
+        return drops_asked(alloc, words);
     }
     Ok(None)
 }

@@ -10,6 +10,7 @@ pub enum LookAsked<'a> {
     Messages { report: &'a [u8], csv: bool },
     Mind(MindWords<'a>),
     Page(PageWords<'a>),
+    Drops(DropsWords<'a>),
 }
 
 /// The words of `mind`: the project, its report, the name of an agent, and after how many turns; without a number after all.
@@ -26,4 +27,12 @@ pub struct MindWords<'a> {
 pub struct PageWords<'a> {
     pub project: &'a [u8],
     pub report: &'a [u8],
+}
+
+/// The words of `drops`: the project, its report, and whether those failures alone are told that no failure plan takes up.
+#[derive(Clone, Copy)]
+pub struct DropsWords<'a> {
+    pub project: &'a [u8],
+    pub report: &'a [u8],
+    pub unhandled: bool,
 }

@@ -13,5 +13,5 @@ returns-in-Some c =
     let same : Some (seen log c.in-Some.e.now).trigger ≡ stacks.trigger_at c.args.self.now c.args.k =
     sym (logs.trigger_shown log
     (reverse c.self.inside.entries.items) c.args.k c.in-Some.e.now at) ∙ ap (λ l. stacks.trigger_at l c.args.k) c.self.view_is in
-    IfOk-weaker c.goal_match.result _ (λ r. r ≡ stacks.match_at g (stacks.trigger_at c.args.self.now c.args.k))
-    (λ r p. p ∙ ap (stacks.match_at g) same) c.goal_match.ensures
+    IfOk-weaker c.entry_match.result _ (λ r. r ≡ stacks.match_at g (stacks.trigger_at c.args.self.now c.args.k))
+    (λ r p. p ∙ ap (stacks.match_at g) same) c.entry_match.ensures

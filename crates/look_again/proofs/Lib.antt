@@ -1,0 +1,3 @@
+pub mod Fallen
+pub mod Walking
+pub mod Reported

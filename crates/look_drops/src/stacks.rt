@@ -1,0 +1,123 @@
+//! The texts of the agents of a source before the marked turns of a run, of which bytes are the report.
+
+ghost use Rattle.std.specs.Prelude.{◌≡◌, ◌≤◌, IfOk, MatchOption, length, take};
+ghost use Rattle.asl_cycle.specs.Agent.{agent_kind};
+ghost use Rattle.mas_report.specs.Limits.{IsWithin};
+ghost use Rattle.mas_report.specs.Reading.{Shows};
+ghost use Rattle.mas_report.specs.Report.{IsAnyReport};
+ghost use Rattle.mas_report_schedule.specs.Schedule.{IsVersion, printed};
+ghost use Rattle.mas_top_opening.specs.Fits.{CanRun};
+ghost use Rattle.mas_top_opening.specs.Opening.{objects_of, opening, setup};
+ghost use Rattle.look_again.specs.Before.{AreBefore};
+ghost use Rattle.look_drops.specs.Stacks as spec;
+ghost use Rattle.look_drops.specs.Texts.{agent_texts};
+
+use crate::agent::AgentTexts;
+use asl_term::sequence::Starved;
+use asl_term::syntax::Text;
+use look_again::before::{TextsBefore, texts_along};
+use mas_report::reading::{Told, read_report};
+use mas_top::checking::is_allowed;
+use mas_top_files::sources::Source;
+use mas_top_opening::opening::{Opened, open_source};
+use mas_world::artifact::Artifact;
+use std::alloc::Global;
+
+/// The texts before the marked ones of the first `t` turns of the run of a source that bytes tell; none where they are not its report.
+#[tactic(auto, using(mas_top_opening::proofs::Starts::starts))]
+fn texts_of<A: Artifact>(
+    alloc: Global,
+    told: &Told,
+    source: Source,
+    artifacts: Vec<A>,
+    marks: &[bool],
+    bytes: &Text,
+    t: u64,
+) -> Result<Option<TextsBefore>, Starved>
+    requires known { IsVersion told.now.version }
+    requires within { IsWithin told.now.options }
+    requires can { CanRun (objects_of A.named A.table A.facts artifacts.items) source }
+    requires last { printed bytes.now ≡ told.now.turns }
+    requires short { t ≤ length told.now.turns }
+    ensures { let objects = objects_of A.named A.table A.facts artifacts.items in
+        let told = told.now in
+        let p = opening (setup told.options objects) source in
+        IfOk result (λ r. MatchOption r (IsAnyReport agent_kind told.version told.options p bytes.now → ⊥)
+        (λ cs. IsAnyReport agent_kind told.version told.options p bytes.now × AreBefore agent_kind agent_texts p (take t told.turns) marks.now cs)) }
+{
+    match open_source(alloc, &told.options, source, artifacts) {
+        Ok(opened) => {
+            let Opened { board, minds } = opened;
+            let writer = AgentTexts;
+            texts_along(
+                alloc,
+                &writer,
+                told.version,
+                &told.options,
+                board,
+                minds,
+                &told.turns,
+                marks,
+                bytes,
+                t,
+            )
+        }
+        Err(starved) => Err(starved),
+    }
+}
+
+/// The texts before the marked turns of the run that the bytes tell, where they tell this.
+#[tactic(auto, using(mas_top::proofs::Verdicts::allowed_within))]
+fn stacks_told<A: Artifact>(
+    alloc: Global,
+    told: &Told,
+    source: Source,
+    artifacts: Vec<A>,
+    marks: &[bool],
+    bytes: &Text,
+) -> Result<Option<TextsBefore>, Starved>
+    requires can { CanRun (objects_of A.named A.table A.facts artifacts.items) source }
+    requires shows { Shows bytes.now told.now }
+    ensures { let objects = objects_of A.named A.table A.facts artifacts.items in
+        IfOk result (spec.IsTold objects source bytes.now marks.now) }
+{
+    if !is_allowed(&told.options, &source) {
+        drop(source);
+        drop(artifacts);
+        return Ok(None);
+    }
+    let t = told.turns.len();
+    let found = texts_of(alloc, told, source, artifacts, marks, bytes, t)?;
+    match found {
+        Some(texts) => Ok(Some(texts)),
+        None => Ok(None),
+    }
+}
+
+/// The texts before the marked turns of the run of a source whose report the bytes are; none where they are not.
+#[tactic(auto, using(mas_top::proofs::Verdicts::shows_by))]
+pub fn stacks_at<A: Artifact>(
+    alloc: Global,
+    source: Source,
+    artifacts: Vec<A>,
+    marks: &[bool],
+    bytes: &Text,
+) -> Result<Option<TextsBefore>, Starved>
+    requires { CanRun (objects_of A.named A.table A.facts artifacts.items) source }
+    ensures { let objects = objects_of A.named A.table A.facts artifacts.items in
+        IfOk result (spec.IsTold objects source bytes.now marks.now) }
+{
+    match read_report(alloc, bytes.as_slice()) {
+        Err(starved) => {
+            drop(source);
+            drop(artifacts);
+            Err(starved)
+        }
+        Ok(None) => {
+            drop(source);
+            drop(artifacts);
+            Ok(None)
+        }
+        Ok(Some(told)) => stacks_told(alloc, &told, source, artifacts, marks, bytes),
+    }
+}
