@@ -60,7 +60,7 @@ $(CHART): $(shell find crates/chart/src crates/chart_page/src crates/chart_page/
 install: all
 	install -d "$(bin)" "$(man)" "$(bash)" "$(zsh)" "$(fish)" "$(own)/docs"
 	install -m 755 $(JASONRUN) $(JASONLOOK) $(EXPLORE) $(CHART) "$(bin)"
-	install -m 644 docs/jasonrun.1 docs/jasonlook.1 docs/explore.1 "$(man)"
+	install -m 644 docs/jasonrun.1 docs/jasonlook.1 docs/explore.1 docs/chart.1 "$(man)"
 	install -m 644 completions/jasonrun.bash "$(bash)/jasonrun"
 	install -m 644 completions/jasonlook.bash "$(bash)/jasonlook"
 	install -m 644 completions/explore.bash "$(bash)/explore"
@@ -73,7 +73,7 @@ install: all
 
 uninstall:
 	rm -f "$(bin)/jasonrun" "$(bin)/jasonlook" "$(bin)/explore" "$(bin)/chart"
-	rm -f "$(man)/jasonrun.1" "$(man)/jasonlook.1" "$(man)/explore.1"
+	rm -f "$(man)/jasonrun.1" "$(man)/jasonlook.1" "$(man)/explore.1" "$(man)/chart.1"
 	rm -f "$(bash)/jasonrun" "$(zsh)/_jasonrun" "$(fish)/jasonrun.fish" "$(bash)/jasonlook" "$(zsh)/_jasonlook" "$(fish)/jasonlook.fish"
 	rm -f "$(bash)/explore" "$(zsh)/_explore" "$(fish)/explore.fish"
 	rm -rf "$(own)"
