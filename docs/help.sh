@@ -182,7 +182,7 @@ hint_of() {
                 'but with byte, string, comment and number it counts bytes from 0.' \
                 'jasonlook where PROJECT shows each such place with its line, and why.'
             ;;
-        7:*) section='What is refused' && set -- 'Something is too large. The word behind limit says what, the number how much there may be, or where it is.' ;;
+        7:*) section='What is refused' && set -- 'Something is too large. The word behind limit says what; the number says how many bytes there may be, which clause it is, or how many there are.' ;;
         8:*) section='When something fails' && set -- 'The report is written, but the search of an agent was cut off: --tries and --depth give it more.' ;;
         9:*) set -- 'Memory was short.' ;;
         11:*) section='Record and resume' && set -- 'The file of the recorded run could not be made, read or written, or another run has it. What was made until then is in it.' ;;
