@@ -66,9 +66,9 @@ install: all
 	install -m 644 completions/explore.bash "$(bash)/explore"
 	install -m 644 completions/_jasonrun completions/_jasonlook completions/_explore "$(zsh)"
 	install -m 644 completions/jasonrun.fish completions/jasonlook.fish completions/explore.fish "$(fish)"
-	cp -r README.md CHANGELOG.md LICENSE-MIT LICENSE-APACHE editors "$(own)"
+	cp -r README.md CONTRIBUTING.md CHANGELOG.md LICENSE-MIT LICENSE-APACHE editors "$(own)"
 	find examples -type f ! -path '*/out/*' -exec cp --parents -t "$(own)" {} +
-	cp -r docs/*.md docs/pictures "$(own)/docs"
+	cp -r docs/*.md docs/*.1 docs/pictures "$(own)/docs"
 	chmod -R u=rwX,go=rX "$(own)"
 
 uninstall:
