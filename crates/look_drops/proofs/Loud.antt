@@ -11,7 +11,7 @@ use Rattle.mas_report.specs.Reading.{Shows, ShowsNothing}
 use Rattle.mas_report.proofs.Shown.{one_shown}
 use Rattle.mas_top_files.specs.declared.sources.Source.{Source}
 use Rattle.mas_top_opening.specs.Opening.{setup, opening}
-use Rattle.mas_top.specs.Checking.{IsAllowed}
+use Rattle.mas_top_check.specs.Checking.{IsAllowed}
 use Rattle.look_falls.specs.declared.falls.FallLine.{FallLine}
 use Rattle.look_again.specs.Falling.{HaveFallen}
 use Rattle.look_drops.specs.declared.fallen.RunFalls.{RunFalls}

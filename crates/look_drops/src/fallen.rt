@@ -18,7 +18,7 @@ use look_falls::falls::FallLines;
 use mas_mind::mind::Level;
 use mas_report::options::Options;
 use mas_report::reading::{Told, read_report};
-use mas_top::checking::is_allowed;
+use mas_top_check::checking::is_allowed;
 use mas_top_files::sources::Source;
 use mas_top_opening::opening::{Opened, open_source};
 use mas_world::artifact::Artifact;
@@ -81,7 +81,7 @@ fn falls_of<A: Artifact>(
 }
 
 /// The failures along the turns that a report tells, which tells this.
-#[tactic(auto, using(mas_top::proofs::Verdicts::allowed_within, crate::proofs::Loud::loud_within))]
+#[tactic(auto, using(mas_top_check::proofs::Verdicts::allowed_within, crate::proofs::Loud::loud_within))]
 fn fallen_told<A: Artifact>(
     alloc: Global,
     told: Told,
@@ -112,7 +112,7 @@ fn fallen_told<A: Artifact>(
 
 /// The failures of a source's agents along the turns that bytes tell, at level rules; none where they tell no turns and options that a run of the source may
 /// have, or one of the turns cannot be made.
-#[tactic(auto, using(mas_top::proofs::Verdicts::shows_by, crate::proofs::Loud::shown))]
+#[tactic(auto, using(mas_top_check::proofs::Verdicts::shows_by, crate::proofs::Loud::shown))]
 pub fn fallen_at<A: Artifact>(
     alloc: Global,
     source: Source,

@@ -17,7 +17,7 @@ use asl_term::sequence::Starved;
 use asl_term::syntax::Text;
 use look_again::before::{TextsBefore, texts_along};
 use mas_report::reading::{Told, read_report};
-use mas_top::checking::is_allowed;
+use mas_top_check::checking::is_allowed;
 use mas_top_files::sources::Source;
 use mas_top_opening::opening::{Opened, open_source};
 use mas_world::artifact::Artifact;
@@ -67,7 +67,7 @@ fn texts_of<A: Artifact>(
 }
 
 /// The texts before the marked turns of the run that the bytes tell, where they tell this.
-#[tactic(auto, using(mas_top::proofs::Verdicts::allowed_within))]
+#[tactic(auto, using(mas_top_check::proofs::Verdicts::allowed_within))]
 fn stacks_told<A: Artifact>(
     alloc: Global,
     told: &Told,
@@ -95,7 +95,7 @@ fn stacks_told<A: Artifact>(
 }
 
 /// The texts before the marked turns of the run of a source whose report the bytes are; none where they are not.
-#[tactic(auto, using(mas_top::proofs::Verdicts::shows_by))]
+#[tactic(auto, using(mas_top_check::proofs::Verdicts::shows_by))]
 pub fn stacks_at<A: Artifact>(
     alloc: Global,
     source: Source,

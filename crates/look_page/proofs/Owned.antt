@@ -12,7 +12,7 @@ use Rattle.mas_top_files.specs.declared.sources.Source.{Source}
 use Rattle.mas_top_files.specs.Known.{known}
 use Rattle.mas_top_files.specs.Sources.{HasSource}
 use Rattle.mas_top_opening.specs.Opening.{setup, opening}
-use Rattle.mas_top.specs.Checking.{IsAllowed}
+use Rattle.mas_top_check.specs.Checking.{IsAllowed}
 use Rattle.look_change.specs.declared.change.ChangedLine.{ChangedLine}
 use Rattle.look_page.specs.Along.{AreChanges}
 use Rattle.look_page.specs.Own.{AreOwnChanges, IsTold, IsToldIn, most_turns}

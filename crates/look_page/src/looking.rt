@@ -17,7 +17,7 @@ use crate::along::{Change, changes_along};
 use asl_term::sequence::{Seq, Starved};
 use asl_term::syntax::{Numbers, Text};
 use mas_report::reading::{Told, read_report};
-use mas_top::checking::is_allowed;
+use mas_top_check::checking::is_allowed;
 use mas_top_files::sources::Source;
 use mas_top_opening::opening::{Opened, open_source};
 use mas_world::artifact::Artifact;
@@ -84,7 +84,7 @@ fn changes_of<A: Artifact>(
 }
 
 /// What changes along the run that the bytes tell, where they tell this.
-#[tactic(auto, using(mas_top::proofs::Verdicts::allowed_within))]
+#[tactic(auto, using(mas_top_check::proofs::Verdicts::allowed_within))]
 fn told_of<A: Artifact>(
     alloc: Global,
     told: Told,
@@ -114,7 +114,7 @@ fn told_of<A: Artifact>(
 }
 
 /// What changes along the run of a source whose report the bytes are; none where they are not.
-#[tactic(auto, using(mas_top::proofs::Verdicts::shows_by))]
+#[tactic(auto, using(mas_top_check::proofs::Verdicts::shows_by))]
 pub fn changes_at<A: Artifact>(
     alloc: Global,
     source: Source,

@@ -1,6 +1,6 @@
 use Rattle.std.proofs.Common.{ℕ, List, subst}
 use Rattle.std.specs.Prelude.{None, IfOk}
-use Rattle.mas_top.proofs.Verdicts.{shows_by}
+use Rattle.mas_top_check.proofs.Verdicts.{shows_by}
 use Rattle.mas_top_opening.specs.Opening.{objects_of}
 use Rattle.look_drops.specs.Fallen.{IsFallen}
 use Rattle.look_drops.proofs.Loud.{none_shown, shown}

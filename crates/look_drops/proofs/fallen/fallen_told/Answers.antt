@@ -1,6 +1,6 @@
 use Rattle.std.proofs.Common.{subst}
 use Rattle.mas_report.specs.Report.{Decided}
-use Rattle.mas_top.specs.Checking.{IsAllowed}
+use Rattle.mas_top_check.specs.Checking.{IsAllowed}
 use Rattle.mas_top_opening.specs.Opening.{objects_of}
 use Rattle.look_drops.proofs.Loud.{are_falls, no_falls}
 use Rattle.look_drops.proofs.fallen.fallen_told.Goals as goal

@@ -15,15 +15,14 @@ use Rattle.mas_report.specs.declared.reading.Told.{Told}
 use Rattle.mas_report.proofs.Shown.{one_shown, shown_printed}
 use Rattle.mas_top_files.specs.declared.sources.Source.{Source}
 use Rattle.mas_top_status.specs.declared.status.Status.{Status}
-use Rattle.mas_top_files.specs.Files.{Has, HasFile, IsRefusal, unfetched, IsUnfetched}
+use Rattle.mas_top_files.specs.Files.{Has, HasFile, IsRefusal, unfetched, IsUnfetched, most_report_bytes}
 use Rattle.mas_top_files.specs.Known.{known}
 use Rattle.mas_top_files.specs.Projects.{most_cycles}
 use Rattle.mas_top_files.specs.Sources.{HasSource, FirstRefused, AreRefused, UnlessMemory}
 use Rattle.mas_top_files.proofs.Fetched.{refusal_from}
 use Rattle.mas_top_files.proofs.Unless.{unless, unless_as}
-use Rattle.mas_top.specs.Checking.{ReportClaim, IsAllowed, IsOwn, Says, IsJudged, Claim, IsDecided, reports, ClaimRefused}
+use Rattle.mas_top_check.specs.Checking.{ReportClaim, IsAllowed, IsOwn, Says, IsJudged, Claim, IsDecided, reports, ClaimRefused}
 use Rattle.mas_top_opening.specs.Opening.{setup, opening}
-use Rattle.mas_top.specs.Runs.{most_bytes}
 
 -- ---- what is allowed
 
@@ -95,13 +94,13 @@ pub unread : (name : List ℕ) (held : Option (List Filed)) (before after : ℕ)
 unread name held before after status h = unfetched h
 
 pub judged : (asks : ReportClaim) (objects : List Used) (held : Option (List Filed)) (source : Source) (name bytes : List ℕ) (answer : Option (List ℕ)) →
-    Has 268435456 held name (Bytes bytes) → IsJudged asks objects source bytes answer → HasFile most_bytes held name (λ b. IsJudged asks objects source b answer)
+    Has 268435456 held name (Bytes bytes) → IsJudged asks objects source bytes answer → HasFile most_report_bytes held name (λ b. IsJudged asks objects source b answer)
 judged asks objects held source name bytes answer h d = record { bytes = bytes; has = h; are = d }
 
 -- ---- what is claimed
 
 pub decided : (objects : List Used) (held : Option (List Filed)) (c : Claim) (o : Options) (source : Source) (answer : Option (List ℕ)) → o ≡ defaults →
-    HasSource (known objects) o.cycles held c.project source → HasFile most_bytes held c.report (λ b. IsJudged c.asks objects source b answer) → IsDecided objects held c answer
+    HasSource (known objects) o.cycles held c.project source → HasFile most_report_bytes held c.report (λ b. IsJudged c.asks objects source b answer) → IsDecided objects held c answer
 decided objects held c o source answer e h f =
     record { source = source; has = subst (λ (x : Options). HasSource (known objects) x.cycles held c.project source) e h; file = f }
 

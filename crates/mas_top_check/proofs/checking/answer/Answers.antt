@@ -1,8 +1,8 @@
 use Rattle.std.proofs.Common.{subst}
-use Rattle.mas_top.specs.Checking.{IsOwn}
+use Rattle.mas_top_check.specs.Checking.{IsOwn}
 use Rattle.mas_top_opening.specs.Opening.{objects_of}
-use Rattle.mas_top.proofs.Verdicts.{shows_none_by}
-use Rattle.mas_top.proofs.checking.answer.Goals as goal
+use Rattle.mas_top_check.proofs.Verdicts.{shows_none_by}
+use Rattle.mas_top_check.proofs.checking.answer.Goals as goal
 
 pub returns-in-Ok-None : goal.returns-in-Ok-None
 returns-in-Ok-None g c =

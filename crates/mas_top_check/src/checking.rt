@@ -9,15 +9,13 @@ ghost use Rattle.mas_report.specs.Limits.{IsWithin};
 ghost use Rattle.mas_report.specs.Reading.{Shows};
 ghost use Rattle.mas_report.specs.Report.{Decided, IsAnyReport};
 ghost use Rattle.mas_report_schedule.specs.Schedule.{IsVersion, printed};
-ghost use Rattle.mas_top_files.specs.Files.{HasFile, IsRefusal};
+ghost use Rattle.mas_top_files.specs.Files.{HasFile, IsRefusal, most_report_bytes};
 ghost use Rattle.mas_top_files.specs.Projects.{most_cycles};
 ghost use Rattle.mas_top_files.specs.Sources.{UnlessMemory};
-ghost use Rattle.mas_top.specs.Checking as spec;
+ghost use Rattle.mas_top_check.specs.Checking as spec;
 ghost use Rattle.mas_top_opening.specs.Fits.{CanRun};
 ghost use Rattle.mas_top_opening.specs.Opening.{objects_of, opening, setup};
-ghost use Rattle.mas_top.specs.Runs.{most_bytes};
 
-use crate::playing::{MOST_BYTES, read_source};
 use asl_term::copying::text_of;
 use asl_term::sequence::Starved;
 use asl_term::syntax::Text;
@@ -28,9 +26,10 @@ use mas_mind::thinking::Mind;
 use mas_report::checking::{is_report_along, renewal_along};
 use mas_report::options::{Options, default_options, is_within};
 use mas_report::reading::{Told, read_report};
-use mas_top_files::files::bytes_of;
+use mas_top_files::files::{MOST_REPORT_BYTES, bytes_of};
 use mas_top_files::sources::Source;
 use mas_top_opening::opening::{Opened, open_source};
+use mas_top_opening::reading::read_source;
 use mas_top_status::status::{Status, verdict};
 use mas_world::artifact::Artifact;
 use std::alloc::Global;
@@ -193,10 +192,10 @@ fn judge_file<S: Shelf, A: Artifact>(
     ensures answer { let held = S.holds shelf.old in
         let objects = objects_of A.named A.table A.facts artifacts.items in
         MatchResult result
-        (λ r. HasFile most_bytes held name.now (λ bytes. spec.IsJudged (spec.asks_of asks) objects source bytes r))
+        (λ r. HasFile most_report_bytes held name.now (λ bytes. spec.IsJudged (spec.asks_of asks) objects source bytes r))
         (IsRefusal spec.reports name.now held (S.faults shelf.old) (S.faults shelf.new)) }
 {
-    match bytes_of(alloc, name, MOST_BYTES, shelf) {
+    match bytes_of(alloc, name, MOST_REPORT_BYTES, shelf) {
         Err(status) => {
             drop(source);
             drop(artifacts);

@@ -1,9 +1,9 @@
 use Rattle.std.proofs.Common.{subst}
 use Rattle.mas_report.specs.Report.{Decided}
-use Rattle.mas_top.specs.Checking.{IsAllowed, asks_of}
+use Rattle.mas_top_check.specs.Checking.{IsAllowed, asks_of}
 use Rattle.mas_top_opening.specs.Opening.{objects_of}
-use Rattle.mas_top.proofs.Verdicts.{known_version, last_told, not_allowed, own_answer}
-use Rattle.mas_top.proofs.checking.answer_told.Goals as goal
+use Rattle.mas_top_check.proofs.Verdicts.{known_version, last_told, not_allowed, own_answer}
+use Rattle.mas_top_check.proofs.checking.answer_told.Goals as goal
 
 pub returns-then-not-is_allowed : goal.returns-then-not-is_allowed
 returns-then-not-is_allowed g c =
