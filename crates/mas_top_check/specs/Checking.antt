@@ -31,6 +31,15 @@ pub record IsAllowed (source : Source) (o : Options) : Type 0 where
   pub within : IsWithin o
   pub few : length source.names * o.cycles ≤ most_cycles
 
+-- The bytes tell this of a run that the source may have: its options are allowed.
+pub record TellsRun (source : Source) (bytes : List ℕ) (told : Told) : Type 0 where
+  pub shows : Shows bytes told
+  pub allowed : IsAllowed source told.options
+
+-- they tell of none
+abbrev pub TellsNoRun : Source → List ℕ → Type 0
+TellsNoRun source bytes = (told : Told) → TellsRun source bytes told → ⊥
+
 -- The bytes are the report, of the version that their first line names, of the options and of the schedule in them, of a run of
 -- this source among these artifacts.
 pub record IsOwn (objects : List Used) (source : Source) (bytes : List ℕ) : Type 0 where
