@@ -17,20 +17,28 @@ use Rattle.mas_report.specs.Report.{IsAnyReport, IsRenewal}
 use Rattle.mas_top_files.specs.declared.sources.Source.{Source}
 use Rattle.mas_top_status.specs.declared.status.Status.{Status}
 use Rattle.mas_top_status.specs.declared.status.Status.TheVariants.{Ok, No, Usage, Missing, ReadFault, WriteFault, Refused, Limit, Budget, Memory, DiskFault}
-use Rattle.mas_top_files.specs.Files.{HasFile, Reader, IsRefusal}
+use Rattle.mas_top_files.specs.Files.{HasFile, Reader, IsRefusal, most_report_bytes}
 use Rattle.mas_top_files.specs.Known.{known}
 use Rattle.mas_top_files.specs.Laws.{Surely}
 use Rattle.mas_top_files.specs.Projects.{most_cycles}
 use Rattle.mas_top_files.specs.Sources.{HasSource, FirstRefused}
-use Rattle.mas_top.specs.declared.checking.ReportClaim as code
-use Rattle.mas_top.specs.declared.checking.ReportClaim.TheVariants as code_variant
+use Rattle.mas_top_check.specs.declared.checking.ReportClaim as code
+use Rattle.mas_top_check.specs.declared.checking.ReportClaim.TheVariants as code_variant
 use Rattle.mas_top_opening.specs.Opening.{setup, opening}
-use Rattle.mas_top.specs.Runs.{most_bytes}
 
 -- The options are within their limits, and so are the cycles that the agents of the source may make together.
 pub record IsAllowed (source : Source) (o : Options) : Type 0 where
   pub within : IsWithin o
   pub few : length source.names * o.cycles ≤ most_cycles
+
+-- The bytes tell this of a run that the source may have: its options are allowed.
+pub record TellsRun (source : Source) (bytes : List ℕ) (told : Told) : Type 0 where
+  pub shows : Shows bytes told
+  pub allowed : IsAllowed source told.options
+
+-- they tell of none
+abbrev pub TellsNoRun : Source → List ℕ → Type 0
+TellsNoRun source bytes = (told : Told) → TellsRun source bytes told → ⊥
 
 -- The bytes are the report, of the version that their first line names, of the options and of the schedule in them, of a run of
 -- this source among these artifacts.
@@ -87,13 +95,13 @@ HasClaimed objects held c source = HasSource (known objects) defaults.cycles hel
 pub record IsDecided (objects : List Used) (held : Option (List Filed)) (c : Claim) (answer : Option (List ℕ)) : Type 0 where
   pub source : Source
   pub has : HasClaimed objects held c source
-  pub file : HasFile most_bytes held c.report (λ bytes. IsJudged c.asks objects source bytes answer)
+  pub file : HasFile most_report_bytes held c.report (λ bytes. IsJudged c.asks objects source bytes answer)
 
 -- ---- what is refused
 
 -- the bytes of a report have no fault
 abbrev pub reports : Reader
-reports = record { most = most_bytes; Fault = ⊥; faulty = λ bytes why. ⊥; status_of = λ name why. Memory }
+reports = record { most = most_report_bytes; Fault = ⊥; faulty = λ bytes why. ⊥; status_of = λ name why. Memory }
 
 -- the source is described, and the report is not there or too long
 pub record ReportRefused (objects : List Used) (held : Option (List Filed)) (c : Claim) (before after : ℕ) (status : Status) : Type 0 where
@@ -156,9 +164,9 @@ pub record SaysNo (objects : List Used) (source : Source) (bytes : List ℕ) (be
 -- the one for Ok and the other for No, each exactly where it is so of the source and the bytes that the files are
 pub record Judges (objects : List Used) (c : Claim) (before after : Kept) (status : Status) : Type 0 where
   pub on_ok : (files : List Filed) (source : Source) (bytes : List ℕ) → before.held ≡ Some files → HasClaimed objects (Some files) c source →
-      HasFile most_bytes (Some files) c.report (λ x. x ≡ bytes) → status ≡ Ok → SaysYes c.asks objects source bytes before after
+      HasFile most_report_bytes (Some files) c.report (λ x. x ≡ bytes) → status ≡ Ok → SaysYes c.asks objects source bytes before after
   pub on_no : (files : List Filed) (source : Source) (bytes : List ℕ) → before.held ≡ Some files → HasClaimed objects (Some files) c source →
-      HasFile most_bytes (Some files) c.report (λ x. x ≡ bytes) → status ≡ No → SaysNo objects source bytes before after
+      HasFile most_report_bytes (Some files) c.report (λ x. x ≡ bytes) → status ≡ No → SaysNo objects source bytes before after
 
 -- completeness: where none of the files that the shelf tells is refused, and neither count of faults rises, the answer was written, or the status
 -- is Memory

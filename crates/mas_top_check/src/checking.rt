@@ -6,18 +6,15 @@ ghost use Rattle.mas_core.specs.Fits.{Start};
 ghost use Rattle.mas_core.specs.Platform.{opening_platform};
 ghost use Rattle.mas_io.specs.Told.{told_of, IsKept};
 ghost use Rattle.mas_report.specs.Limits.{IsWithin};
-ghost use Rattle.mas_report.specs.Reading.{Shows};
 ghost use Rattle.mas_report.specs.Report.{Decided, IsAnyReport};
 ghost use Rattle.mas_report_schedule.specs.Schedule.{IsVersion, printed};
-ghost use Rattle.mas_top_files.specs.Files.{HasFile, IsRefusal};
+ghost use Rattle.mas_top_files.specs.Files.{HasFile, IsRefusal, most_report_bytes};
 ghost use Rattle.mas_top_files.specs.Projects.{most_cycles};
 ghost use Rattle.mas_top_files.specs.Sources.{UnlessMemory};
-ghost use Rattle.mas_top.specs.Checking as spec;
+ghost use Rattle.mas_top_check.specs.Checking as spec;
 ghost use Rattle.mas_top_opening.specs.Fits.{CanRun};
 ghost use Rattle.mas_top_opening.specs.Opening.{objects_of, opening, setup};
-ghost use Rattle.mas_top.specs.Runs.{most_bytes};
 
-use crate::playing::{MOST_BYTES, read_source};
 use asl_term::copying::text_of;
 use asl_term::sequence::Starved;
 use asl_term::syntax::Text;
@@ -28,9 +25,10 @@ use mas_mind::thinking::Mind;
 use mas_report::checking::{is_report_along, renewal_along};
 use mas_report::options::{Options, default_options, is_within};
 use mas_report::reading::{Told, read_report};
-use mas_top_files::files::bytes_of;
+use mas_top_files::files::{MOST_REPORT_BYTES, bytes_of};
 use mas_top_files::sources::Source;
 use mas_top_opening::opening::{Opened, open_source};
+use mas_top_opening::reading::read_source;
 use mas_top_status::status::{Status, verdict};
 use mas_world::artifact::Artifact;
 use std::alloc::Global;
@@ -62,6 +60,24 @@ pub fn is_allowed(o: &Options, source: &Source) -> bool
         are_few(source.names.len(), o.cycles)
     } else {
         false
+    }
+}
+
+/// What bytes tell of a run that the source may have; none where they are no report, or its options are not allowed.
+#[tactic(auto, using(crate::proofs::Verdicts::tells))]
+pub fn told_in(alloc: Global, bytes: &Text, source: &Source) -> Result<Option<Told>, Starved>
+    ensures { IfOk result (λ r. MatchOption r (spec.TellsNoRun source.now bytes.now) (spec.TellsRun source.now bytes.now)) }
+{
+    match read_report(alloc, bytes.as_slice())? {
+        None => Ok(None),
+        Some(told) => {
+            if is_allowed(&told.options, source) {
+                Ok(Some(told))
+            } else {
+                drop(told);
+                Ok(None)
+            }
+        }
     }
 }
 
@@ -124,33 +140,9 @@ fn answer_of<A: Artifact>(
     }
 }
 
-/// What is written where the bytes, which tell this, are the report of it, of a run of the source, and its options are within
-/// their limits; None where it is not so.
-#[tactic(auto, using(crate::proofs::Verdicts::allowed_within))]
-fn answer_told<A: Artifact>(
-    alloc: Global,
-    asks: ReportClaim,
-    told: &Told,
-    source: Source,
-    artifacts: Vec<A>,
-    bytes: &Text,
-) -> Result<Option<Text>, Starved>
-    requires can { CanRun (objects_of A.named A.table A.facts artifacts.items) source }
-    requires shows { Shows bytes.now told.now }
-    ensures { let objects = objects_of A.named A.table A.facts artifacts.items in
-        IfOk result (spec.IsJudged (spec.asks_of asks) objects source bytes.now) }
-{
-    if !is_allowed(&told.options, &source) {
-        drop(source);
-        drop(artifacts);
-        return Ok(None);
-    }
-    answer_of(alloc, asks, told, source, artifacts, bytes)
-}
-
 /// What is written where the bytes are the report of the options and the schedule in them, of a run of the source; None where
 /// they are not.
-#[tactic(auto, using(crate::proofs::Verdicts::shows_by))]
+#[tactic(auto, using(crate::proofs::Verdicts::told, crate::proofs::Verdicts::no_own, crate::proofs::Verdicts::own_answer))]
 fn answer<A: Artifact>(
     alloc: Global,
     asks: ReportClaim,
@@ -162,7 +154,7 @@ fn answer<A: Artifact>(
     ensures { let objects = objects_of A.named A.table A.facts artifacts.items in
         IfOk result (spec.IsJudged (spec.asks_of asks) objects source bytes.now) }
 {
-    match read_report(alloc, bytes.as_slice()) {
+    match told_in(alloc, bytes, &source) {
         Err(starved) => {
             drop(source);
             drop(artifacts);
@@ -173,7 +165,7 @@ fn answer<A: Artifact>(
             drop(artifacts);
             Ok(None)
         }
-        Ok(Some(told)) => answer_told(alloc, asks, &told, source, artifacts, bytes),
+        Ok(Some(told)) => answer_of(alloc, asks, &told, source, artifacts, bytes),
     }
 }
 
@@ -193,10 +185,10 @@ fn judge_file<S: Shelf, A: Artifact>(
     ensures answer { let held = S.holds shelf.old in
         let objects = objects_of A.named A.table A.facts artifacts.items in
         MatchResult result
-        (λ r. HasFile most_bytes held name.now (λ bytes. spec.IsJudged (spec.asks_of asks) objects source bytes r))
+        (λ r. HasFile most_report_bytes held name.now (λ bytes. spec.IsJudged (spec.asks_of asks) objects source bytes r))
         (IsRefusal spec.reports name.now held (S.faults shelf.old) (S.faults shelf.new)) }
 {
-    match bytes_of(alloc, name, MOST_BYTES, shelf) {
+    match bytes_of(alloc, name, MOST_REPORT_BYTES, shelf) {
         Err(status) => {
             drop(source);
             drop(artifacts);

@@ -1,10 +1,10 @@
 use Rattle.std.proofs.Common.{subst}
 use Rattle.mas_top_files.specs.Known.{known}
 use Rattle.mas_top_files.specs.Sources.{AreRefused}
-use Rattle.mas_top.specs.Checking.{asks_of, claim}
+use Rattle.mas_top_check.specs.Checking.{asks_of, claim}
 use Rattle.mas_top_opening.specs.Opening.{objects_of}
-use Rattle.mas_top.proofs.Verdicts.{no_source}
-use Rattle.mas_top.proofs.checking.judge.Goals as goal
+use Rattle.mas_top_check.proofs.Verdicts.{no_source}
+use Rattle.mas_top_check.proofs.checking.judge.Goals as goal
 
 pub returns-clause-answer : goal.returns-clause-answer
 returns-clause-answer g c =

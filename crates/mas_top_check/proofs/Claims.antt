@@ -9,15 +9,14 @@ use Rattle.mas_io.specs.Writing.{Wrote, IsCut}
 use Rattle.mas_top_files.specs.declared.sources.Source.{Source}
 use Rattle.mas_top_status.specs.declared.status.Status.{Status}
 use Rattle.mas_top_status.specs.declared.status.Status.TheVariants.{Ok, No, Usage, Missing, ReadFault, WriteFault, Refused, Limit, Budget, Memory, DiskFault}
-use Rattle.mas_top_files.specs.Files.{HasFile}
+use Rattle.mas_top_files.specs.Files.{HasFile, most_report_bytes}
 use Rattle.mas_top_files.specs.Known.{known}
 use Rattle.mas_top_files.specs.Laws.{Surely}
 use Rattle.mas_top_files.specs.Sources.{UnlessMemory}
 use Rattle.mas_top_status.specs.Statuses.{verdict}
 use Rattle.mas_top_files.proofs.Refusing.{refuses, no_report, first_by}
 use Rattle.mas_top_files.proofs.Single.{with_file, one_source}
-use Rattle.mas_top.specs.Checking.{IsJudged, answer_text, Claim, HasClaimed, IsDecided, reports, ClaimRefused, IsYes, IsNo, ClaimCaused, Judges, IsClaimComplete}
-use Rattle.mas_top.specs.Runs.{most_bytes}
+use Rattle.mas_top_check.specs.Checking.{IsJudged, answer_text, Claim, HasClaimed, IsDecided, reports, ClaimRefused, IsYes, IsNo, ClaimCaused, Judges, IsClaimComplete}
 
 -- ---- what is refused
 
@@ -81,12 +80,12 @@ cut_answer objects c before after answer w d t r k = record { rose = r; text = w
 
 -- what is decided is so of the source and the bytes that the files are
 so : (objects : List Used) (held : Option (List Filed)) (c : Claim) (answer : Option (List ℕ)) (files : List Filed) (source : Source) (bytes : List ℕ) →
-    IsDecided objects held c answer → held ≡ Some files → HasClaimed objects (Some files) c source → HasFile most_bytes (Some files) c.report (λ x. x ≡ bytes) →
+    IsDecided objects held c answer → held ≡ Some files → HasClaimed objects (Some files) c source → HasFile most_report_bytes (Some files) c.report (λ x. x ≡ bytes) →
     IsJudged c.asks objects source bytes answer
 so objects held c answer files source bytes d e h f =
     let k = subst (λ x. IsDecided objects x c answer) e d in
     let s = one_source (known objects) 1000 files c.project k.source source k.has h in
-    let b = with_file most_bytes files c.report (λ x. IsJudged c.asks objects k.source x answer) (λ x. x ≡ bytes) k.file f in
+    let b = with_file most_report_bytes files c.report (λ x. IsJudged c.asks objects k.source x answer) (λ x. x ≡ bytes) k.file f in
     subst (λ x. IsJudged c.asks objects source x answer) b (subst (λ x. IsJudged c.asks objects x k.file.bytes answer) s k.file.are)
 
 pub judged_claim : (objects : List Used) (c : Claim) (before after : Told) (status : Status) → ClaimCaused objects c before after status → Judges objects c before after status

@@ -1,8 +1,8 @@
 use Rattle.std.proofs.Common.{ap, ◌∙◌}
 use Rattle.mas_top_files.specs.Known.{known}
 use Rattle.mas_top_opening.specs.Opening.{objects_of}
-use Rattle.mas_top.proofs.Played.{known_as}
-use Rattle.mas_top.proofs.playing.read_source.Goals as goal
+use Rattle.mas_top_opening.proofs.Known.{known_as}
+use Rattle.mas_top_opening.proofs.reading.read_source.Goals as goal
 
 pub returns-clause-answer : goal.returns-clause-answer
 returns-clause-answer g c =
