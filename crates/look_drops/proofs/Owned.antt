@@ -18,7 +18,7 @@ use Rattle.mas_top_check.proofs.Verdicts.{not_own, own}
 use Rattle.look_again.specs.Before.{AreBefore}
 use Rattle.look_drops.specs.declared.fallen.RunFalls.{RunFalls}
 use Rattle.look_drops.specs.Fallen.{IsFallen, IsFallenIn}
-use Rattle.look_drops.specs.Stacks.{AreStacks, IsTold, IsToldIn}
+use Rattle.look_drops.specs.Stacks.{IsTold, IsToldIn}
 use Rattle.look_drops.specs.Texts.{agent_texts}
 
 -- of the first t turns of the run that the bytes tell these texts are seen, or the bytes are not its report

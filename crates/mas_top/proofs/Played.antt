@@ -1,6 +1,5 @@
 -- What is run of the files that are asked for.
-use Rattle.std.proofs.Common.{ℕ, ◌≡◌, ◌≤◌, inl, inr, Bool, List, Option, subst, refl}
-use Rattle.std.specs.Prelude.{Result, MatchResult}
+use Rattle.std.proofs.Common.{ℕ, ◌≡◌, ◌≤◌, inl, inr, Bool, List, Option, refl}
 use Rattle.asl_term.specs.declared.syntax.Filed.{Filed}
 use Rattle.asl_cycle.specs.Agent.{agent_kind}
 use Rattle.mas_world.specs.Worlds.{Used}
