@@ -11,6 +11,9 @@ use mas_top_files::files::{MOST_REPORT_BYTES, bytes_of};
 use mas_top_status::status::{Status, What};
 use std::alloc::Global;
 
+/// Of so many bytes of standard input at most a report is read. Where one more is handed in they are too many.
+pub const MOST_INPUT_BYTES: u64 = MOST_REPORT_BYTES;
+
 /// Standard input, where it is handed in and the word is `-`.
 fn input_for<'a>(word: &[u8], input: Option<&'a [u8]>) -> Option<&'a [u8]>
     ensures { option_map (λ b. b.now) result ≡ spec.input_for word.now (option_map (λ b. b.now) input.entry) }
