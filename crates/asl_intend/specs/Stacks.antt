@@ -1,5 +1,5 @@
 -- Stacks as lists of means, the top first.
-use Rattle.std.specs.Prelude.{◌≡◌, ◌≤◌, ℕ, Bool, true, false, ◌&&◌, ◌||◌, cond, List, [], ◌∷◌, ◌++◌, map, drop, slice_get, Option, None, Some, is_some}
+use Rattle.std.specs.Prelude.{◌≡◌, ◌≤◌, ℕ, nat_le, Bool, true, false, ◌&&◌, ◌||◌, cond, List, [], ◌∷◌, ◌++◌, map, drop, slice_get, Option, None, Some, is_some}
 use Rattle.std.specs.Option.{option_map}
 use Rattle.asl_term.specs.Trees.{size, depth}
 use Rattle.asl_term.specs.declared.syntax.LiteralOf.{LiteralOf}
@@ -94,6 +94,10 @@ BoundedAt t = is_bounded_at t ≡ true
 -- at most 1,000,000 nodes and 1,000 levels: a trigger with more is not built
 abbrev pub IsBuildable : Trigger → Type 0
 IsBuildable t = (size (term.Lit t.lit) ≤ 1000000) × (depth (term.Lit t.lit) ≤ 1000)
+
+-- whether it is so
+abbrev pub is_buildable : Trigger → Bool
+is_buildable t = nat_le (size (term.Lit t.lit)) 1000000 && nat_le (depth (term.Lit t.lit)) 1000
 
 -- a literal with more annotations behind its own
 abbrev pub with_annots : List Term → LiteralOf Term → LiteralOf Term

@@ -8,6 +8,7 @@ ghost use Rattle.asl_intend.specs.Stacks as stacks;
 use crate::goal::{can_name, some_match};
 use crate::unbuilt::matches_under;
 use asl_term::copying::copy_all;
+use asl_term::measure::{literal_depth, literal_size};
 use asl_term::sequence::Starved;
 use asl_term::syntax::{Formula, Formulas, Literal, Term, Trigger};
 use asl_term_queue::queue::Queue;
@@ -51,6 +52,13 @@ pub struct StackEntry {
 const TRIGGER_NODES: u64 = 1_000_000;
 
 const TRIGGER_LEVELS: u64 = 1_000;
+
+/// Whether a trigger that is built has no more nodes and levels than one that is to be built may have.
+pub fn is_buildable(t: &Trigger) -> bool
+    ensures { result ≡ stacks.is_buildable t.now }
+{
+    literal_size(&t.lit) <= TRIGGER_NODES && literal_depth(&t.lit) <= TRIGGER_LEVELS
+}
 
 impl StackEntry {
     /// Whether there is a first formula.

@@ -6,7 +6,7 @@ ghost use Rattle.asl_intend.specs.Entries as entries;
 ghost use Rattle.asl_intend.specs.EventTriggers as spec;
 ghost use Rattle.asl_intend.specs.Stacks as stacks;
 
-use crate::entry::StackEntry;
+use crate::entry::{StackEntry, is_buildable};
 use crate::goal::{names_goal, some_match};
 use crate::goal_match::{GoalMatch, built_match, entry_match};
 use crate::kept::{copy_later, kept_entry};
@@ -128,11 +128,19 @@ impl EventTrigger {
     }
 
     /// The trigger, built. One that has more than 1,000,000 nodes or 1,000 levels is not: the answer is that memory is short.
+    #[tactic(auto, using(crate::proofs::Buildable::is_small))]
     pub fn full(&self, alloc: Global) -> Result<Trigger, Starved>
-        ensures { IfOk result (λ r. r ≡ self.now) }
+        ensures value { IfOk result (λ r. r ≡ self.now) }
+        ensures small { IfOk result stacks.IsBuildable }
     {
         match &self.form {
-            Form::Built(t) => copy_trigger(alloc, t),
+            Form::Built(t) => {
+                if is_buildable(t) {
+                    copy_trigger(alloc, t)
+                } else {
+                    Err(Starved)
+                }
+            }
             Form::Kept(e, log) => e.full_trigger(alloc, log),
         }
     }
@@ -169,12 +177,21 @@ impl EventTrigger {
     }
 
     /// The same as `full`, of one that is given away.
+    #[tactic(auto, using(crate::proofs::Buildable::is_small))]
     pub fn into_full(self, alloc: Global) -> Result<Trigger, Starved>
-        ensures { IfOk result (λ r. r ≡ self) }
+        ensures value { IfOk result (λ r. r ≡ self) }
+        ensures small { IfOk result stacks.IsBuildable }
     {
         let EventTrigger { form } = self;
         match form {
-            Form::Built(t) => Ok(t),
+            Form::Built(t) => {
+                if is_buildable(&t) {
+                    Ok(t)
+                } else {
+                    drop(t);
+                    Err(Starved)
+                }
+            }
             Form::Kept(e, log) => {
                 let full = e.full_trigger(alloc, &log);
                 drop(e);

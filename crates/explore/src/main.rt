@@ -10,7 +10,7 @@ use asl_term::sequence::Starved;
 use mas_artifact::kinds::ArtifactKind;
 use mas_artifact::opening::all_kinds;
 use mas_explore_files::kinds::Kinds;
-use mas_explore_top::ends::{ExploreEnd, end_code, end_line};
+use mas_explore_top::ends::{ExploreEnd, end_code, end_line, starved};
 use mas_explore_top::top::explore_words;
 use mas_explore_top::watching::{Progress, Watch};
 use mas_io::real::{FileShelf, OutSink};
@@ -101,10 +101,19 @@ fn tell(rt: &HostRuntime, end: &ExploreEnd) {
     }
 }
 
+/// The end where the words could not be had: a word that is no text is a faulty command line.
+fn without_words(error: &io::Error) -> ExploreEnd {
+    if error.kind() == io::ErrorKind::OutOfMemory {
+        starved()
+    } else {
+        ExploreEnd::Usage
+    }
+}
+
 fn main(rt: HostRuntime) -> ExitCode {
     let end = match words_of(&rt) {
         Ok(words) => run(&rt, words.as_slice()),
-        Err(_) => ExploreEnd::Usage,
+        Err(error) => without_words(&error),
     };
     tell(&rt, &end);
     ExitCode::from(end_code(&end))

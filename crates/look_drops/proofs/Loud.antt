@@ -1,17 +1,17 @@
 -- A run of level rules with the options of a report.
 use Rattle.std.proofs.Common.{ℕ, ◌≡◌, List, Option, None, Some, refl, sym, subst, ap, ◌∙◌}
-use Rattle.std.specs.Prelude.{Result, Ok, Err, IfOk, MatchOption}
+use Rattle.std.specs.Prelude.{Result, Ok, Err, IfOk}
 use Rattle.asl_cycle.specs.Agent.{agent_kind}
 use Rattle.mas_world.specs.Worlds.{Used}
 use Rattle.mas_core.specs.Platform.{run}
 use Rattle.mas_report.specs.declared.options.Options.{Options}
 use Rattle.mas_report.specs.declared.reading.Told.{Told}
 use Rattle.mas_report.specs.Limits.{IsWithin}
-use Rattle.mas_report.specs.Reading.{Shows, ShowsNothing}
+use Rattle.mas_report.specs.Reading.{Shows}
 use Rattle.mas_report.proofs.Shown.{one_shown}
 use Rattle.mas_top_files.specs.declared.sources.Source.{Source}
 use Rattle.mas_top_opening.specs.Opening.{setup, opening}
-use Rattle.mas_top.specs.Checking.{IsAllowed}
+use Rattle.mas_top_check.specs.Checking.{IsAllowed, TellsRun, TellsNoRun}
 use Rattle.look_falls.specs.declared.falls.FallLine.{FallLine}
 use Rattle.look_again.specs.Falling.{HaveFallen}
 use Rattle.look_drops.specs.declared.fallen.RunFalls.{RunFalls}
@@ -21,8 +21,8 @@ within : (o : Options) → IsWithin o → IsWithin (loud o)
 within o h = record { cycles = h.cycles; lead = h.lead; depth = h.depth; tries = h.tries }
 
 -- the level has no limit
-pub loud_within : (o l : Options) → l ≡ loud o → IsWithin o → IsWithin l
-loud_within o l e h = subst IsWithin (sym e) (within o h)
+pub loud_within : (source : Source) (o l : Options) → l ≡ loud o → IsAllowed source o → IsWithin l
+loud_within source o l e h = subst IsWithin (sym e) (within o h.within)
 
 module _ (objects : List Used) (source : Source) (told : Told) (l : Options) where
   pub no_falls : l ≡ loud told.options → run agent_kind (opening (setup l objects) source) told.turns ≡ None → IsFallenBy objects source told None
@@ -42,16 +42,19 @@ module _ (objects : List Used) (source : Source) (told : Told) (l : Options) whe
 -- ---- what bytes tell
 
 module _ (objects : List Used) (source : Source) (bytes : List ℕ) where
-  pub none_shown : (r : Option Told) → r ≡ None → MatchOption r (ShowsNothing bytes) (Shows bytes) → IsFallen objects source bytes None
-  none_shown r e h =
-      let none = subst (λ (x : Option Told). MatchOption x (ShowsNothing bytes) (Shows bytes)) e h in
-      λ told s allowed. absurd (none told s)
+  pub none_shown : TellsNoRun source bytes → IsFallen objects source bytes None
+  none_shown n = λ told s allowed. absurd (n told (record { shows = s; allowed = allowed }))
 
   shown_by : (told : Told) (r : Option RunFalls) → Shows bytes told → IsFallenBy objects source told r → IsFallen objects source bytes r
   shown_by told None s h = λ other t. subst (λ (x : Told). IsFallenBy objects source x None) (one_shown bytes told other s t) h
   shown_by told (Some r) s h = record { told = told; shows = s; falls = h }
 
-  pub shown : {E : Type 0} (told : Told) (x : Result (Option RunFalls) E) → Shows bytes told → IfOk x (IsFallenBy objects source told) →
+  pub shown : {E : Type 0} (told : Told) (x : Result (Option RunFalls) E) → TellsRun source bytes told → IfOk x (IsFallenBy objects source told) →
       IfOk x (IsFallen objects source bytes)
-  shown told (Ok r) s h = shown_by told r s h
-  shown told (Err why) s h = tt
+  shown told (Ok r) k h = shown_by told r k.shows h
+  shown told (Err why) k h = tt
+
+  pub may_have : (told : Told) → TellsRun source bytes told → IsAllowed source told.options
+  may_have told k = k.allowed
+
+pub ruleset tell_falls = (none_shown, shown, may_have)

@@ -13,7 +13,7 @@ use Rattle.mas_top_files.specs.declared.sources.Source.{Source}
 use Rattle.mas_top_files.specs.Known.{known}
 use Rattle.mas_top_files.specs.Sources.{HasSource}
 use Rattle.mas_top_opening.specs.Opening.{setup, opening}
-use Rattle.mas_top.specs.Checking.{IsAllowed}
+use Rattle.mas_top_check.specs.Checking.{IsAllowed}
 use Rattle.look_again.specs.Falling.{HaveFallen}
 use Rattle.look_drops.specs.declared.fallen.RunFalls.{RunFalls}
 

@@ -8,7 +8,7 @@ use Rattle.mas_top_files.specs.declared.sources.Source.{Source}
 use Rattle.mas_top_files.specs.Known.{known}
 use Rattle.mas_top_files.specs.Sources.{HasSource}
 use Rattle.mas_top_opening.specs.Opening.{setup, opening}
-use Rattle.mas_top.specs.Checking.{IsOwn}
+use Rattle.mas_top_check.specs.Checking.{IsOwn}
 use Rattle.look_again.specs.Before.{AreBefore}
 use Rattle.look_drops.specs.Texts.{agent_texts}
 

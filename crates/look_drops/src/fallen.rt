@@ -4,7 +4,7 @@ ghost use Rattle.std.specs.Prelude.{◌≡◌, None, IfOk, MatchOption};
 ghost use Rattle.asl_cycle.specs.Agent.{agent_kind};
 ghost use Rattle.mas_core.specs.Platform.{run};
 ghost use Rattle.mas_report.specs.Limits.{IsWithin};
-ghost use Rattle.mas_report.specs.Reading.{Shows};
+ghost use Rattle.mas_top_check.specs.Checking.{IsAllowed};
 ghost use Rattle.mas_top_opening.specs.Fits.{CanRun};
 ghost use Rattle.mas_top_opening.specs.Opening.{objects_of, opening, setup};
 ghost use Rattle.look_again.specs.Falling.{HaveFallen};
@@ -17,8 +17,8 @@ use look_again::falling::falls_after;
 use look_falls::falls::FallLines;
 use mas_mind::mind::Level;
 use mas_report::options::Options;
-use mas_report::reading::{Told, read_report};
-use mas_top::checking::is_allowed;
+use mas_report::reading::Told;
+use mas_top_check::checking::told_in;
 use mas_top_files::sources::Source;
 use mas_top_opening::opening::{Opened, open_source};
 use mas_world::artifact::Artifact;
@@ -80,23 +80,19 @@ fn falls_of<A: Artifact>(
     }
 }
 
-/// The failures along the turns that a report tells, which tells this.
-#[tactic(auto, using(mas_top::proofs::Verdicts::allowed_within, crate::proofs::Loud::loud_within))]
+/// The failures along the turns that a report tells of a run that the source may have.
+#[tactic(auto, using(crate::proofs::Loud::loud_within))]
 fn fallen_told<A: Artifact>(
     alloc: Global,
     told: Told,
     source: Source,
     artifacts: Vec<A>,
 ) -> Result<Option<RunFalls>, Starved>
-    requires { CanRun (objects_of A.named A.table A.facts artifacts.items) source }
+    requires can { CanRun (objects_of A.named A.table A.facts artifacts.items) source }
+    requires allowed { IsAllowed source told.options }
     ensures { let objects = objects_of A.named A.table A.facts artifacts.items in
         IfOk result (spec.IsFallenBy objects source told) }
 {
-    if !is_allowed(&told.options, &source) {
-        drop(source);
-        drop(artifacts);
-        return Ok(None);
-    }
     let names = SharedNames::copy_of(alloc, &source.names)?;
     let found = falls_of(alloc, &loud(&told.options), source, artifacts, &told.turns)?;
     match found {
@@ -112,7 +108,7 @@ fn fallen_told<A: Artifact>(
 
 /// The failures of a source's agents along the turns that bytes tell, at level rules; none where they tell no turns and options that a run of the source may
 /// have, or one of the turns cannot be made.
-#[tactic(auto, using(mas_top::proofs::Verdicts::shows_by, crate::proofs::Loud::shown))]
+#[tactic(auto, using(crate::proofs::Loud::tell_falls))]
 pub fn fallen_at<A: Artifact>(
     alloc: Global,
     source: Source,
@@ -123,7 +119,7 @@ pub fn fallen_at<A: Artifact>(
     ensures { let objects = objects_of A.named A.table A.facts artifacts.items in
         IfOk result (spec.IsFallen objects source bytes.now) }
 {
-    match read_report(alloc, bytes.as_slice()) {
+    match told_in(alloc, bytes, &source) {
         Err(starved) => {
             drop(source);
             drop(artifacts);

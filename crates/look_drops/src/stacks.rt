@@ -3,7 +3,6 @@
 ghost use Rattle.std.specs.Prelude.{◌≡◌, ◌≤◌, IfOk, MatchOption, length, take};
 ghost use Rattle.asl_cycle.specs.Agent.{agent_kind};
 ghost use Rattle.mas_report.specs.Limits.{IsWithin};
-ghost use Rattle.mas_report.specs.Reading.{Shows};
 ghost use Rattle.mas_report.specs.Report.{IsAnyReport};
 ghost use Rattle.mas_report_schedule.specs.Schedule.{IsVersion, printed};
 ghost use Rattle.mas_top_opening.specs.Fits.{CanRun};
@@ -16,8 +15,8 @@ use crate::agent::AgentTexts;
 use asl_term::sequence::Starved;
 use asl_term::syntax::Text;
 use look_again::before::{TextsBefore, texts_along};
-use mas_report::reading::{Told, read_report};
-use mas_top::checking::is_allowed;
+use mas_report::reading::Told;
+use mas_top_check::checking::told_in;
 use mas_top_files::sources::Source;
 use mas_top_opening::opening::{Opened, open_source};
 use mas_world::artifact::Artifact;
@@ -66,36 +65,8 @@ fn texts_of<A: Artifact>(
     }
 }
 
-/// The texts before the marked turns of the run that the bytes tell, where they tell this.
-#[tactic(auto, using(mas_top::proofs::Verdicts::allowed_within))]
-fn stacks_told<A: Artifact>(
-    alloc: Global,
-    told: &Told,
-    source: Source,
-    artifacts: Vec<A>,
-    marks: &[bool],
-    bytes: &Text,
-) -> Result<Option<TextsBefore>, Starved>
-    requires can { CanRun (objects_of A.named A.table A.facts artifacts.items) source }
-    requires shows { Shows bytes.now told.now }
-    ensures { let objects = objects_of A.named A.table A.facts artifacts.items in
-        IfOk result (spec.IsTold objects source bytes.now marks.now) }
-{
-    if !is_allowed(&told.options, &source) {
-        drop(source);
-        drop(artifacts);
-        return Ok(None);
-    }
-    let t = told.turns.len();
-    let found = texts_of(alloc, told, source, artifacts, marks, bytes, t)?;
-    match found {
-        Some(texts) => Ok(Some(texts)),
-        None => Ok(None),
-    }
-}
-
 /// The texts before the marked turns of the run of a source whose report the bytes are; none where they are not.
-#[tactic(auto, using(mas_top::proofs::Verdicts::shows_by))]
+#[tactic(auto, using(mas_top_check::proofs::Verdicts::told, mas_top_check::proofs::Verdicts::no_own, crate::proofs::Owned::owned))]
 pub fn stacks_at<A: Artifact>(
     alloc: Global,
     source: Source,
@@ -107,7 +78,7 @@ pub fn stacks_at<A: Artifact>(
     ensures { let objects = objects_of A.named A.table A.facts artifacts.items in
         IfOk result (spec.IsTold objects source bytes.now marks.now) }
 {
-    match read_report(alloc, bytes.as_slice()) {
+    match told_in(alloc, bytes, &source) {
         Err(starved) => {
             drop(source);
             drop(artifacts);
@@ -118,6 +89,9 @@ pub fn stacks_at<A: Artifact>(
             drop(artifacts);
             Ok(None)
         }
-        Ok(Some(told)) => stacks_told(alloc, &told, source, artifacts, marks, bytes),
+        Ok(Some(told)) => {
+            let t = told.turns.len();
+            texts_of(alloc, &told, source, artifacts, marks, bytes, t)
+        }
     }
 }

@@ -11,12 +11,12 @@ use Rattle.mas_report.specs.Limits.{defaults}
 use Rattle.mas_report.specs.Reading.{Shows}
 use Rattle.mas_report.specs.Report.{IsAnyReport, Decided}
 use Rattle.mas_report.specs.declared.reading.Told.{Told}
-use Rattle.mas_report.proofs.Shown.{one_shown}
 use Rattle.mas_top_files.specs.declared.sources.Source.{Source}
 use Rattle.mas_top_files.specs.Known.{known}
 use Rattle.mas_top_files.specs.Sources.{HasSource}
 use Rattle.mas_top_opening.specs.Opening.{setup, opening}
-use Rattle.mas_top.specs.Checking.{IsAllowed, IsOwn}
+use Rattle.mas_top_check.specs.Checking.{IsAllowed}
+use Rattle.mas_top_check.proofs.Verdicts.{not_own}
 use Rattle.look_run.specs.Looks.{IsView}
 use Rattle.look_mind.specs.Looks.{IsLook, IsLookIn, IsShown, HasNoTurn, turn_of}
 use Rattle.look_mind.specs.declared.look.Look.{Look}
@@ -42,10 +42,6 @@ pub no_turn : (bytes : List ℕ) (told : Told) (turn : Option ℕ) (turns : ℕ)
 no_turn bytes told turn turns s e l = record { told = told; shows = s; number = e; past = l }
 
 module _ (objects : List Used) (source : Source) (bytes : List ℕ) (told : Told) (s : Shows bytes told) where
-  pub not_own : (IsAnyReport agent_kind told.version told.options (opening (setup told.options objects) source) bytes → ⊥) → IsOwn objects source bytes → ⊥
-  not_own n h =
-      n (subst (λ (x : Told). IsAnyReport agent_kind x.version x.options (opening (setup x.options objects) source) bytes) (one_shown bytes h.told told h.shows s) h.report)
-
   pub shown : (name : List ℕ) (turn : Option ℕ) (a t : ℕ) (w : List ℕ) → Decided (IsAllowed source told.options) true → place_of source.names name ≡ Some a →
       t ≡ turn_of turn (length told.turns) → t ≤ length told.turns → IsAnyReport agent_kind told.version told.options (opening (setup told.options objects) source) bytes →
       IsView agent_kind mind_parts (opening (setup told.options objects) source) told.turns name a t w → IsShown objects source bytes name turn w

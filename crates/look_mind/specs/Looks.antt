@@ -11,7 +11,7 @@ use Rattle.mas_top_files.specs.declared.sources.Source.{Source}
 use Rattle.mas_top_files.specs.Known.{known}
 use Rattle.mas_top_files.specs.Sources.{HasSource}
 use Rattle.mas_top_opening.specs.Opening.{setup, opening}
-use Rattle.mas_top.specs.Checking.{IsOwn}
+use Rattle.mas_top_check.specs.Checking.{IsOwn}
 use Rattle.look_run.specs.Looks.{IsView}
 use Rattle.look_mind.specs.Parts.{mind_parts}
 use Rattle.look_mind.specs.declared.look.Look.{Look}

@@ -11,7 +11,7 @@ use crate::look::{Look, look_at};
 use asl_term::syntax::Text;
 use mas_io::shelf::Shelf;
 use mas_report::options::default_options;
-use mas_top::playing::read_source;
+use mas_top_opening::reading::read_source;
 use mas_top_status::status::Status;
 use mas_world::artifact::Artifact;
 use std::alloc::Global;

@@ -19,7 +19,7 @@ use asl_term::sequence::Starved;
 use asl_term::syntax::Text;
 use look_run::along::look_along;
 use mas_report::reading::{Told, read_report};
-use mas_top::checking::is_allowed;
+use mas_top_check::checking::is_allowed;
 use mas_top_files::sources::Source;
 use mas_top_opening::opening::{Opened, open_source};
 use mas_world::artifact::Artifact;
@@ -92,7 +92,7 @@ fn turn_of(turn: Option<u64>, turns: u64) -> u64
 }
 
 /// The look at the agent of this number, where the bytes tell this.
-#[tactic(auto, using(mas_top::proofs::Verdicts::allowed_within, crate::proofs::Verdicts::told))]
+#[tactic(auto, using(mas_top_check::proofs::Verdicts::allowed_within, crate::proofs::Verdicts::told))]
 fn look_told<A: Artifact>(
     alloc: Global,
     told: &Told,
@@ -128,7 +128,7 @@ fn look_told<A: Artifact>(
 }
 
 /// The look at an agent of a source after the first turns of the run whose report the bytes are: after so many, or after all.
-#[tactic(auto, using(mas_top::proofs::Verdicts::shows_by))]
+#[tactic(auto, using(mas_top_check::proofs::Verdicts::shows_by))]
 pub fn look_at<A: Artifact>(
     alloc: Global,
     source: Source,

@@ -1,5 +1,5 @@
 -- Lists, as loops make them.
-use Rattle.std.proofs.Common.{◌≡◌, ℕ, Bool, not, ◌&&◌, List, [], ◌∷◌, ◌++◌, length, refl, sym, ap, ◌∙◌, append_assoc, arith}
+use Rattle.std.proofs.Common.{◌≡◌, ℕ, Bool, not, ◌&&◌, List, [], ◌∷◌, ◌++◌, length, drop, refl, sym, ap, ◌∙◌, append_assoc, arith}
 use Rattle.std.specs.Option.{option_to_list}
 use Rattle.std.proofs.lemmas.List.{append-nil}
 use Rattle.asl_term.specs.declared.syntax.LiteralOf.{LiteralOf}
@@ -10,7 +10,7 @@ use Rattle.asl_lexer.specs.declared.token.Place.{Place}
 use Rattle.asl_lexer.specs.Words.{word}
 use Rattle.look_names.specs.declared.clause.ReadClause.{ReadClause}
 use Rattle.look_names.specs.declared.goals.PlacedGoal.{PlacedGoal}
-use Rattle.look_names.specs.Goals.{goal_in, goals_in, is_bang, is_change, place_if, places_from, unplanned_one, unplanned_at}
+use Rattle.look_names.specs.Goals.{goal_in, goals_in, is_bang, is_change, place_if, places_from, next_place, unplanned_one, unplanned_at}
 
 pub goals_more : (front : List (LiteralOf Term)) (f : Formula) (fs : List Formula) (total : List (LiteralOf Term)) → front ++ goals_in (f ∷ fs) ≡ total →
     (front ++ option_to_list (goal_in f)) ++ goals_in fs ≡ total
@@ -28,17 +28,12 @@ pub places_all : (front : List Place) (change : Bool) (ts : List Tok) (total : L
 places_all front change [] total e h = sym (append-nil front) ∙ h
 places_all front change (t ∷ ts) total e h = absurd (omega arith)
 
-pub unplanned_more : (front : List PlacedGoal) (cs : List ReadClause) (p : Place) (ps : List Place) (g : LiteralOf Term) (gs : List (LiteralOf Term)) (total : List PlacedGoal) →
-    front ++ unplanned_at cs (p ∷ ps) (g ∷ gs) ≡ total → (front ++ unplanned_one cs p g) ++ unplanned_at cs ps gs ≡ total
-unplanned_more front cs p ps g gs total h = append_assoc front (unplanned_one cs p g) (unplanned_at cs ps gs) ∙ h
+pub unplanned_more : (front : List PlacedGoal) (cs : List ReadClause) (first : Place) (ps : List Place) (g : LiteralOf Term) (gs : List (LiteralOf Term)) (total : List PlacedGoal) →
+    front ++ unplanned_at cs first ps (g ∷ gs) ≡ total →
+    (front ++ unplanned_one cs (next_place first ps) g) ++ unplanned_at cs first (drop 1 ps) gs ≡ total
+unplanned_more front cs first ps g gs total h = append_assoc front (unplanned_one cs (next_place first ps) g) (unplanned_at cs first (drop 1 ps) gs) ∙ h
 
-pub unplanned_all : (front : List PlacedGoal) (cs : List ReadClause) (ps : List Place) (gs : List (LiteralOf Term)) (total : List PlacedGoal) → length ps ≡ 0 →
-    front ++ unplanned_at cs ps gs ≡ total → front ≡ total
-unplanned_all front cs [] gs total e h = sym (append-nil front) ∙ h
-unplanned_all front cs (p ∷ ps) gs total e h = absurd (omega arith)
-
-pub unplanned_short : (front : List PlacedGoal) (cs : List ReadClause) (ps : List Place) (gs : List (LiteralOf Term)) (total : List PlacedGoal) → length gs ≡ 0 →
-    front ++ unplanned_at cs ps gs ≡ total → front ≡ total
-unplanned_short front cs [] [] total e h = sym (append-nil front) ∙ h
-unplanned_short front cs (p ∷ ps) [] total e h = sym (append-nil front) ∙ h
-unplanned_short front cs ps (g ∷ gs) total e h = absurd (omega arith)
+pub unplanned_all : (front : List PlacedGoal) (cs : List ReadClause) (first : Place) (ps : List Place) (gs : List (LiteralOf Term)) (total : List PlacedGoal) → length gs ≡ 0 →
+    front ++ unplanned_at cs first ps gs ≡ total → front ≡ total
+unplanned_all front cs first ps [] total e h = sym (append-nil front) ∙ h
+unplanned_all front cs first ps (g ∷ gs) total e h = absurd (omega arith)

@@ -1,5 +1,6 @@
 -- The goals that a clause posts, where they stand, and those for which there is no plan.
-use Rattle.std.specs.Prelude.{Bool, true, false, not, ◌&&◌, if◌then◌else◌, List, [], ◌∷◌, ◌++◌, Option, Some, None}
+use Rattle.std.specs.Prelude.{◌≡◌, Bool, true, false, not, ◌&&◌, if◌then◌else◌, List, [], ◌∷◌, ◌++◌, map, drop, Option, Some, None}
+use Rattle.std.specs.List.{filter}
 use Rattle.std.specs.Option.{option_to_list}
 use Rattle.asl_term.specs.declared.syntax.LiteralOf.{LiteralOf}
 use Rattle.asl_term.specs.declared.syntax.Term.{Term}
@@ -80,12 +81,30 @@ placed p g = record { place = p; goal = g }
 abbrev pub unplanned_one : List ReadClause → Place → LiteralOf Term → List PlacedGoal
 unplanned_one cs p g = if has_plan cs true Achieve g then [] else placed p g ∷ []
 
+-- the next place, or the first of the clause where none is left
+abbrev pub next_place : Place → List Place → Place
+next_place first [] = first
+next_place first (p ∷ ps) = p
+
 -- the goals stand at the places in their order
-abbrev pub unplanned_at : List ReadClause → List Place → List (LiteralOf Term) → List PlacedGoal
-unplanned_at cs [] gs = []
-unplanned_at cs (p ∷ ps) [] = []
-unplanned_at cs (p ∷ ps) (g ∷ gs) = unplanned_one cs p g ++ unplanned_at cs ps gs
+abbrev pub unplanned_at : List ReadClause → Place → List Place → List (LiteralOf Term) → List PlacedGoal
+unplanned_at cs first ps [] = []
+unplanned_at cs first ps (g ∷ gs) = unplanned_one cs (next_place first ps) g ++ unplanned_at cs first (drop 1 ps) gs
+
+-- where a clause begins; a list of no tokens begins no clause
+abbrev pub first_place : List Tok → Place
+first_place [] = record { at = 0; line = 1; column = 1 }
+first_place (t ∷ ts) = place_of t
 
 -- the goals of a clause for which no clause of the source is a plan
 abbrev pub unplanned : List ReadClause → ReadClause → List PlacedGoal
-unplanned cs c = unplanned_at cs (goal_places c.toks) (goals_of c.said)
+unplanned cs c = unplanned_at cs (first_place c.toks) (goal_places c.toks) (goals_of c.said)
+
+-- ---- none is left out
+
+abbrev pub is_planless : List ReadClause → LiteralOf Term → Bool
+is_planless cs g = not (has_plan cs true Achieve g)
+
+-- these are all goals of the clause for which there is no plan, in their order
+abbrev pub AreAllPlanless : List ReadClause → ReadClause → List PlacedGoal → Type 0
+AreAllPlanless cs c told = map (λ p. p.goal) told ≡ filter (is_planless cs) (goals_of c.said)

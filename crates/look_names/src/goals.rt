@@ -1,6 +1,6 @@
 //! The goals that a clause posts, and where they stand.
 
-ghost use Rattle.std.specs.Prelude.{◌≡◌, ◌++◌, IfOk, OnOk};
+ghost use Rattle.std.specs.Prelude.{◌≡◌, ◌++◌, drop, IfOk, OnOk};
 ghost use Rattle.std.specs.Option.{option_to_list, option_copied};
 ghost use Rattle.look_names.specs.Goals as spec;
 
@@ -169,38 +169,79 @@ fn put_unplanned(
     })
 }
 
+/// The next place, or the first of the clause where none is left.
+fn next_place(first: Place, places: &[Place]) -> Place
+    ensures { result ≡ spec.next_place first places.now }
+{
+    match places {
+        [p, ..] => *p,
+        [] => first,
+    }
+}
+
+/// The places behind the next.
+fn further_places(places: &[Place]) -> &[Place]
+    ensures { result.now ≡ drop 1 places.now }
+{
+    match places {
+        [_, rest @ ..] => rest,
+        [] => places,
+    }
+}
+
 /// The goals at their places, those for which the source has no plan.
-#[tactic(auto, using(crate::proofs::Lists::unplanned_more, crate::proofs::Lists::unplanned_all, crate::proofs::Lists::unplanned_short))]
+#[tactic(auto, using(crate::proofs::Lists::unplanned_more, crate::proofs::Lists::unplanned_all))]
 fn unplanned_at(
     alloc: Global,
     cs: &[ReadClause],
+    first: Place,
     places: &[Place],
     goals: &[Literal],
 ) -> Result<PlacedGoals, Starved>
-    ensures { IfOk result (λ all. all ≡ spec.unplanned_at cs.now places.now goals.now) }
+    ensures { IfOk result (λ all. all ≡ spec.unplanned_at cs.now first places.now goals.now) }
 {
     let mut all = Seq::new(alloc);
     let mut ps = places;
     let mut gs = goals;
-    'goals: while let Some((p, left)) = ps.split_first() {
-        let Some((g, after)) = gs.split_first() else {
-            return Ok(all);
-        };
-        put_unplanned(alloc, cs, p, g, &mut all)?;
-        ps = left;
+    'goals: while let Some((g, after)) = gs.split_first() {
+        put_unplanned(alloc, cs, &next_place(first, ps), g, &mut all)?;
+        ps = further_places(ps);
         gs = after;
     }
     Ok(all)
 }
 
-/// The goals of a clause for which the source has no plan, with their places.
-pub fn unplanned(alloc: Global, cs: &[ReadClause], c: &ReadClause) -> Result<PlacedGoals, Starved>
+/// Where a clause begins; a list of no tokens begins no clause.
+fn first_place(toks: &[Tok]) -> Place
+    ensures { result ≡ spec.first_place toks.now }
+{
+    match toks {
+        [first, ..] => place_of(first),
+        [] => Place {
+            at: 0,
+            line: 1,
+            column: 1,
+        },
+    }
+}
+
+fn unplanned_in(alloc: Global, cs: &[ReadClause], c: &ReadClause) -> Result<PlacedGoals, Starved>
     ensures { IfOk result (λ all. all ≡ spec.unplanned cs.now c.now) }
 {
+    let first = first_place(c.toks.as_slice());
     let places = goal_places(alloc, c.toks.as_slice())?;
     let goals = goals_of(alloc, &c.said)?;
-    let all = unplanned_at(alloc, cs, places.as_slice(), goals.as_slice());
+    let all = unplanned_at(alloc, cs, first, places.as_slice(), goals.as_slice());
     drop(goals);
     drop(places);
     all
+}
+
+/// The goals of a clause for which the source has no plan, with their places. None of them is left out.
+pub fn unplanned(alloc: Global, cs: &[ReadClause], c: &ReadClause) -> Result<PlacedGoals, Starved>
+    ensures placed { IfOk result (λ all. all ≡ spec.unplanned cs.now c.now) }
+    ensures whole { IfOk result (spec.AreAllPlanless cs.now c.now) }
+{
+    let all = unplanned_in(alloc, cs, c)?;
+    Ok(all)
 }

@@ -2,3 +2,4 @@ pub mod Walking
 pub mod Reported
 pub mod Owned
 pub mod Paged
+pub mod Rowed

@@ -1,4 +1,5 @@
 pub mod Parts
 pub mod Along
 pub mod Own
+pub mod Rows
 pub mod Page

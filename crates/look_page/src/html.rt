@@ -29,7 +29,7 @@ fn whole_page<'a>() -> Choice<'a>
 
 /// The page of a report of all its agents and turns, with these changes.
 pub fn page_of(alloc: Global, bytes: &[u8], told: &MindChanges) -> Result<Text, Fault>
-    ensures { IfOk result (IsPageOf bytes.now) }
+    ensures { IfOk result (IsPageOf bytes.now told.now) }
 {
     let lines = mind_lines(alloc, told)?;
     let minds = Minds {

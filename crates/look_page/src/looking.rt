@@ -3,9 +3,9 @@
 ghost use Rattle.std.specs.Prelude.{◌≡◌, ◌≤◌, IfOk, MatchOption, length, take};
 ghost use Rattle.asl_cycle.specs.Agent.{agent_kind};
 ghost use Rattle.mas_report.specs.Limits.{IsWithin};
-ghost use Rattle.mas_report.specs.Reading.{Shows};
 ghost use Rattle.mas_report.specs.Report.{IsAnyReport};
 ghost use Rattle.mas_report_schedule.specs.Schedule.{IsVersion, printed};
+ghost use Rattle.mas_top_check.specs.Checking.{TellsRun};
 ghost use Rattle.mas_top_opening.specs.Fits.{CanRun};
 ghost use Rattle.mas_top_opening.specs.Opening.{objects_of, opening, setup};
 ghost use Rattle.look_page.specs.Along.{AreChanges};
@@ -16,8 +16,8 @@ use crate::agent::AgentParts;
 use crate::along::{Change, changes_along};
 use asl_term::sequence::{Seq, Starved};
 use asl_term::syntax::{Numbers, Text};
-use mas_report::reading::{Told, read_report};
-use mas_top::checking::is_allowed;
+use mas_report::reading::Told;
+use mas_top_check::checking::told_in;
 use mas_top_files::sources::Source;
 use mas_top_opening::opening::{Opened, open_source};
 use mas_world::artifact::Artifact;
@@ -83,8 +83,8 @@ fn changes_of<A: Artifact>(
     }
 }
 
-/// What changes along the run that the bytes tell, where they tell this.
-#[tactic(auto, using(mas_top::proofs::Verdicts::allowed_within))]
+/// What changes along the run of the source that the bytes tell.
+#[tactic(auto, using(mas_top_check::proofs::Verdicts::told))]
 fn told_of<A: Artifact>(
     alloc: Global,
     told: Told,
@@ -93,15 +93,10 @@ fn told_of<A: Artifact>(
     bytes: &Text,
 ) -> Result<Option<MindChanges>, Starved>
     requires can { CanRun (objects_of A.named A.table A.facts artifacts.items) source }
-    requires shows { Shows bytes.now told }
+    requires tells { TellsRun source bytes.now told }
     ensures { let objects = objects_of A.named A.table A.facts artifacts.items in
         IfOk result (spec.IsTold objects source bytes.now) }
 {
-    if !is_allowed(&told.options, &source) {
-        drop(source);
-        drop(artifacts);
-        return Ok(None);
-    }
     let t = MOST_TURNS.min(told.turns.len());
     let found = changes_of(alloc, &told, source, artifacts, bytes, t)?;
     match found {
@@ -114,7 +109,7 @@ fn told_of<A: Artifact>(
 }
 
 /// What changes along the run of a source whose report the bytes are; none where they are not.
-#[tactic(auto, using(mas_top::proofs::Verdicts::shows_by))]
+#[tactic(auto, using(mas_top_check::proofs::Verdicts::no_own))]
 pub fn changes_at<A: Artifact>(
     alloc: Global,
     source: Source,
@@ -125,7 +120,7 @@ pub fn changes_at<A: Artifact>(
     ensures { let objects = objects_of A.named A.table A.facts artifacts.items in
         IfOk result (spec.IsTold objects source bytes.now) }
 {
-    match read_report(alloc, bytes.as_slice()) {
+    match told_in(alloc, bytes, &source) {
         Err(starved) => {
             drop(source);
             drop(artifacts);

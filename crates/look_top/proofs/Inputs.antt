@@ -3,13 +3,13 @@ use Rattle.std.proofs.Common.{◌≡◌, ◌<◌, ℕ, List, length, Option, Non
 use Rattle.std.specs.Prelude.{Result, MatchResult}
 use Rattle.asl_term.specs.declared.syntax.Filed.{Filed}
 use Rattle.mas_io.specs.declared.shelf.Fetched.TheVariants.{Bytes}
-use Rattle.mas_top_files.specs.Files.{Has, IsUnfetched}
+use Rattle.mas_top_files.specs.Files.{Has, IsUnfetched, most_report_bytes}
 use Rattle.mas_top_status.specs.declared.status.What.TheVariants as what
 use Rattle.mas_top_status.specs.declared.status.Status.{Status}
 use Rattle.mas_top_status.specs.declared.status.Status.TheVariants.{Limit, Memory}
-use Rattle.look_top.specs.Reports.{most_bytes, input_for, IsInput, IsNoInput, AreBytes, LackBytes, HasReport, LacksReport}
+use Rattle.look_top.specs.Reports.{input_for, IsInput, IsNoInput, AreBytes, LackBytes, HasReport, LacksReport}
 
-pub too_many : (given : List ℕ) (status : Status) → status ≡ Limit what.File most_bytes → most_bytes < length given → IsNoInput given status
+pub too_many : (given : List ℕ) (status : Status) → status ≡ Limit what.File most_report_bytes → most_report_bytes < length given → IsNoInput given status
 too_many given status e l = inl (e, l)
 
 pub no_memory : (given : List ℕ) (status : Status) → status ≡ Memory → IsNoInput given status
@@ -31,7 +31,7 @@ by_file input held word before after r e m =
     subst (λ (g : Option (List ℕ)). MatchResult r (AreBytes held word g) (LackBytes held word g before after)) e m
 
 pub of_file : (held : Option (List Filed)) (name word : List ℕ) (before after : ℕ) (r : Result (List ℕ) Status) → name ≡ word →
-    MatchResult r (λ bytes. Has most_bytes held name (Bytes bytes)) (IsUnfetched most_bytes name held before after) →
+    MatchResult r (λ bytes. Has most_report_bytes held name (Bytes bytes)) (IsUnfetched most_report_bytes name held before after) →
     MatchResult r (AreBytes held word None) (LackBytes held word None before after)
 of_file held name word before after r e m =
-    subst (λ (x : List ℕ). MatchResult r (λ bytes. Has most_bytes held x (Bytes bytes)) (IsUnfetched most_bytes x held before after)) e m
+    subst (λ (x : List ℕ). MatchResult r (λ bytes. Has most_report_bytes held x (Bytes bytes)) (IsUnfetched most_report_bytes x held before after)) e m

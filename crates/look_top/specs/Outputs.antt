@@ -43,13 +43,13 @@ TellsLook look (Err (Ended status)) = status ≡ Memory
 TellsLook look (Err (Unfit line)) = is_shown look ≡ false
 
 -- what is written of changes along the run that these bytes are the report of; None where they are none
-abbrev pub TellsPage : List ℕ → Result Output LookFault → Type 0
-TellsPage bytes (Ok o) = (o.found ≡ false) × IsPageOf bytes o.text
-TellsPage bytes (Err why) = IsUnfit why
+abbrev pub TellsPage : List ℕ → MindChanges → Result Output LookFault → Type 0
+TellsPage bytes changes (Ok o) = (o.found ≡ false) × IsPageOf bytes changes o.text
+TellsPage bytes changes (Err why) = IsUnfit why
 
 abbrev pub TellsChanges : List ℕ → Option MindChanges → Result Output LookFault → Type 0
 TellsChanges bytes None r = IsErrAnd r IsUnfit
-TellsChanges bytes (Some changes) r = TellsPage bytes r
+TellsChanges bytes (Some changes) r = TellsPage bytes changes r
 
 -- what is written of what a run dropped; None where the bytes are not the report of one
 abbrev pub TellsDrops : Option Output → Result Output LookFault → Type 0
@@ -107,11 +107,11 @@ module _ (objects : List Used) (input : Option (List ℕ)) (held : Option (List 
     pub has : HasReport input held report bytes
     pub is : IsToldIn objects held project bytes changes
 
-  -- the report is that of the project, and this is the page of it
+  -- the report is that of the project, and this is the page of it, with the changes of its run
   pub record IsPaged (project report text : List ℕ) : Type 0 where
     pub changes : MindChanges
     pub is : IsChanged project report (Some changes)
-    pub shown : IsPageOf is.bytes text
+    pub shown : IsPageOf is.bytes changes text
 
   -- it is not that of the project, or no page is made of it
   pub record IsUnpaged (project report : List ℕ) : Type 0 where

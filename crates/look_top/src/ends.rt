@@ -31,8 +31,17 @@ impl Drop for LookEnd {
 }
 
 /// The end where standard input cannot be read.
-pub fn unread() -> LookEnd {
+pub fn unread() -> LookEnd
+    ensures { result ≡ LookEnd.Refused (LookFault.Ended Status.ReadFault) }
+{
     LookEnd::Refused(LookFault::Ended(Status::ReadFault))
+}
+
+/// The end where there is no memory.
+pub fn starved() -> LookEnd
+    ensures { result ≡ LookEnd.Refused (LookFault.Ended Status.Memory) }
+{
+    LookEnd::Refused(LookFault::Ended(Status::Memory))
 }
 
 /// The status with which the process ends.

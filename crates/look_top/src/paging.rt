@@ -31,7 +31,7 @@ fn page_text(
     bytes: &Text,
     told: &MindChanges,
 ) -> Result<Output, LookFault>
-    ensures { spec.TellsPage bytes.now result }
+    ensures { spec.TellsPage bytes.now told.now result }
 {
     match page_of(alloc, bytes.as_slice(), told) {
         Ok(text) => Ok(Output { text, found: false }),

@@ -7,12 +7,12 @@ use asl_term::copying::text_of;
 use asl_term::sequence::Starved;
 use asl_term::syntax::Text;
 use mas_io::shelf::Shelf;
-use mas_top_files::files::bytes_of;
+use mas_top_files::files::{MOST_REPORT_BYTES, bytes_of};
 use mas_top_status::status::{Status, What};
 use std::alloc::Global;
 
-/// The most bytes of a report.
-const MOST_BYTES: u64 = 268_435_456;
+/// Of so many bytes of standard input at most a report is read. Where one more is handed in they are too many.
+pub const MOST_INPUT_BYTES: u64 = MOST_REPORT_BYTES;
 
 /// Standard input, where it is handed in and the word is `-`.
 fn input_for<'a>(word: &[u8], input: Option<&'a [u8]>) -> Option<&'a [u8]>
@@ -35,10 +35,10 @@ fn input_for<'a>(word: &[u8], input: Option<&'a [u8]>) -> Option<&'a [u8]>
 fn input_bytes(alloc: Global, bytes: &[u8]) -> Result<Text, Status>
     ensures { MatchResult result (spec.IsInput bytes.now) (spec.IsNoInput bytes.now) }
 {
-    if bytes.len() as u64 > MOST_BYTES {
+    if bytes.len() as u64 > MOST_REPORT_BYTES {
         return Err(Status::Limit {
             what: What::File,
-            count: MOST_BYTES,
+            count: MOST_REPORT_BYTES,
         });
     }
     match text_of(alloc, bytes) {
@@ -56,7 +56,7 @@ fn file_bytes<S: Shelf>(alloc: Global, word: &[u8], shelf: &mut S) -> Result<Tex
         MatchResult result (spec.AreBytes held word.now None) (spec.LackBytes held word.now None (S.faults shelf.old) (S.faults shelf.new)) }
 {
     match text_of(alloc, word) {
-        Ok(name) => bytes_of(alloc, &name, MOST_BYTES, shelf),
+        Ok(name) => bytes_of(alloc, &name, MOST_REPORT_BYTES, shelf),
         Err(Starved) => Err(Status::Memory),
     }
 }

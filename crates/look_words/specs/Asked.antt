@@ -130,6 +130,28 @@ abbrev pub asked : List (List ℕ) → Option Asked
 asked [] = None
 asked (word ∷ words) = asked_behind word words
 
+-- ---- standard input
+
+-- the report that is asked for, where one is
+abbrev pub report_of : Asked → Option (List ℕ)
+report_of help = None
+report_of version = None
+report_of (places project) = None
+report_of (hints project) = None
+report_of (messages report csv) = Some report
+report_of (mind m) = Some m.report
+report_of (page project report) = Some report
+report_of (drops d) = Some d.report
+
+abbrev pub is_input : Option (List ℕ) → Bool
+is_input None = false
+is_input (Some report) = bytes_eq report (codes "-")
+
+-- the report is that of standard input
+abbrev pub reads_input : Option Asked → Bool
+reads_input None = false
+reads_input (Some a) = is_input (report_of a)
+
 -- ---- how the code holds it
 
 abbrev pub minding_of : code_mind.MindWords → Minding

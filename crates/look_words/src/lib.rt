@@ -6,6 +6,7 @@
 #![tactic(auto)]
 
 pub mod apps;
+pub mod input;
 pub mod taken;
 pub mod turns;
 pub mod words;

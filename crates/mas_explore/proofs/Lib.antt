@@ -1,3 +1,4 @@
 pub mod Members
 pub mod Searching
+pub mod Times
 pub mod Lists

@@ -1,6 +1,8 @@
 //! All outcomes.
 
-ghost use Rattle.std.specs.Prelude.{◌≡◌, ◌∷◌, ◌&&◌, [], true, All, IfOk, IfSome, length, ◌<◌, ◌≤◌};
+ghost use Rattle.std.specs.Prelude.{◌≡◌, ◌∷◌, ◌&&◌, [], All, IfOk, IfSome, length, ◌<◌, ◌≤◌};
+ghost use Rattle.std.specs.List.{list_any};
+ghost use Rattle.std.specs.Str.{bytes_eq};
 ghost use Rattle.mas_free.specs.Covers.{IsStart, free_opening};
 ghost use Rattle.mas_explore.specs.Listings as spec;
 
@@ -16,16 +18,11 @@ use mas_free::steady::Steady;
 use mas_free::view::View;
 use std::alloc::Global;
 
-/// Whether an outcome is listed. It may be taken for one that is not.
+/// Whether an outcome is listed.
 fn is_listed(list: &[Shown], text: &Text) -> bool
-    ensures { result ≡ true → spec.IsListed list.now text.now }
+    ensures { result ≡ list_any (λ e. bytes_eq e.text text.now) list.now }
 {
-    for e in list {
-        if same_text(&e.text, text) {
-            return true;
-        }
-    }
-    false
+    list.iter().any(|e| same_text(&e.text, text))
 }
 
 /// The outcome of this text at a state, where the plan of that state is a run with it.
@@ -83,7 +80,48 @@ fn both(a: bool, b: bool) -> bool
     a && b
 }
 
-/// Lists the outcomes of these states: whether all of them are listed then.
+/// Lists the outcomes of these states: whether all of them are known to be listed then.
+fn list_each<M: Steady, S: Space<M>, R: Runs<M>>(
+    alloc: Global,
+    space: &S,
+    runs: &R,
+    view: View,
+    rests: &[u64],
+    list: &mut Seq<Shown>,
+) -> Result<bool, Starved>
+    requires there { All (λ r. r < length (S.met space.now)) rests.now }
+    requires none { list.old ≡ [] }
+    ensures { IfOk result (spec.HasListedEach M.kind view (R.start runs.now) (S.met space.now) rests.now list.new) }
+{
+    let mut whole = true;
+    for r in rests {
+        let listed = list_one(alloc, space, runs, view, *r, list)?;
+        whole = both(whole, listed);
+    }
+    Ok(whole)
+}
+
+/// Whether the outcomes of all these states are listed.
+fn are_listed<M: Steady, S: Space<M>>(
+    alloc: Global,
+    space: &S,
+    view: View,
+    rests: &[u64],
+    list: &[Shown],
+) -> Result<bool, Starved>
+    requires { All (λ r. r < length (S.met space.now)) rests.now }
+    ensures { IfOk result (spec.AreAllListed M.kind view (S.met space.now) rests.now list.now) }
+{
+    for r in rests {
+        let text = space.outcome(alloc, *r, view)?;
+        if !is_listed(list, &text) {
+            return Ok(false);
+        }
+    }
+    Ok(true)
+}
+
+/// Lists the outcomes of these states: whether all of them are listed then. One for which its own state has shown no run may have come by another.
 fn list_all<M: Steady, S: Space<M>, R: Runs<M>>(
     alloc: Global,
     space: &S,
@@ -96,12 +134,12 @@ fn list_all<M: Steady, S: Space<M>, R: Runs<M>>(
     requires none { list.old ≡ [] }
     ensures { IfOk result (spec.HasListedAll M.kind view (R.start runs.now) (S.met space.now) rests.now list.new) }
 {
-    let mut whole = true;
-    for r in rests {
-        let listed = list_one(alloc, space, runs, view, *r, list)?;
-        whole = both(whole, listed);
+    let whole = list_each(alloc, space, runs, view, rests, list)?;
+    if whole {
+        return Ok(true);
     }
-    Ok(whole)
+    let listed = are_listed(alloc, space, view, rests, list.as_slice())?;
+    Ok(listed)
 }
 
 /// How far a list goes, where all states were followed or not, and the outcomes of all at rest were listed or not.
@@ -127,6 +165,7 @@ pub fn explore<M: Steady, S: Space<M>, R: Runs<M>>(
     requires start { IsStart M.kind (R.start runs.now) }
     requires first { S.met space.old ≡ free_opening (R.start runs.now) ∷ [] }
     ensures sound { IfOk result (λ f. spec.AreShown M.kind view (R.start runs.now) f.list) }
+    ensures distinct { IfOk result (λ f. spec.AreDistinct f.list) }
     ensures extent { IfOk result (λ f. spec.Reaches M.kind view (R.start runs.now) most f f.extent) }
     ensures states { IfOk result (λ f. f.states ≡ length (S.met space.new)) }
 {

@@ -67,7 +67,7 @@ pub holds_of_runs : {V : Type 0} (k : Kind V) → HoldsOfRuns k
 holds_of_runs k v s most q f reach e cycles lead schedule p r =
     let h = holds_by (first_from q 0 f.list) f.extent e in
     let F = λ (x : Extent). Reaches k v s most f x in
-    let whole : IsWhole k v s f.list = subst F h.1 reach in
+    let whole : IsWhole k v s f.list = (subst F h.1 reach).0 in
     let listed = whole cycles lead schedule p r in
     ap (is_against q) (sym listed.text_is) ∙ none_from q 0 f.list h.0 listed.among.place listed.entry listed.among.at
 

@@ -7,7 +7,7 @@ use Rattle.mas_free.specs.declared.view.View.{View}
 use Rattle.mas_free.specs.Covers.{Start}
 use Rattle.mas_explore.specs.declared.listing.Shown.{Shown}
 use Rattle.mas_explore.specs.declared.listing.Listing.{Listing}
-use Rattle.mas_explore.specs.Listings.{AreShown, Reaches}
+use Rattle.mas_explore.specs.Listings.{AreDistinct, AreShown, Reaches}
 use Rattle.mas_explore_listing.specs.declared.answers.Question.{Question}
 use Rattle.mas_explore_listing.specs.declared.answers.Answer.{Answer}
 use Rattle.mas_explore_listing.specs.declared.answers.Answer.TheVariants.{Holds, Fails, Unknown}
@@ -26,10 +26,11 @@ abbrev pub told : Options → Listing → Option Question → Told
 told o f None = record { text = listing_text o f; code = 0 }
 told o f (Some q) = record { text = answered_text o f q (answer q f); code = answer_code (answer q f) }
 
--- what is told is that of outcomes in the order of their texts, each with a run from the start, and all of them where the list is called whole
+-- what is told is that of outcomes in the order of their texts, none twice, each with a run from the start, and all of them where the list is called whole
 pub record IsTold {V : Type 0} (k : Kind V) (v : View) (s : Start V) (most : ℕ) (o : Options) (q : Option Question) (t : Told) : Type 0 where
   pub found : Listing
   pub sound : AreShown k v s found.list
+  pub distinct : AreDistinct found.list
   pub extent : Reaches k v s most found found.extent
   pub sorted : IsSortedByKey (λ (e : Shown). e.text) text_order found.list
   pub is : t ≡ told o found q

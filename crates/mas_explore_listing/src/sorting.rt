@@ -3,7 +3,7 @@
 ghost use Rattle.std.specs.Prelude.{◌≡◌, ◌≤◌, ◌∷◌, [], length, IfOk};
 ghost use Rattle.std.specs.List.Sorted.{IsPermutation, IsSortedByKey};
 ghost use Rattle.mas_free.specs.Covers.{IsStart, free_opening};
-ghost use Rattle.mas_explore.specs.Listings.{AreShown, Reaches};
+ghost use Rattle.mas_explore.specs.Listings.{AreDistinct, AreShown, Reaches};
 ghost use Rattle.mas_explore.specs.declared.listing.Shown.{Shown};
 ghost use Rattle.mas_explore_listing.specs.Text.{text_order};
 
@@ -39,6 +39,7 @@ pub fn sorted_outcomes<M: Steady, S: Space<M>, R: Runs<M>>(
     requires start { IsStart M.kind (R.start runs.now) }
     requires first { S.met space.old ≡ free_opening (R.start runs.now) ∷ [] }
     ensures sound { IfOk result (λ f. AreShown M.kind view (R.start runs.now) f.list) }
+    ensures distinct { IfOk result (λ f. AreDistinct f.list) }
     ensures extent { IfOk result (λ f. Reaches M.kind view (R.start runs.now) most f f.extent) }
     ensures sorted { IfOk result (λ f. IsSortedByKey (λ (e : Shown). e.text) text_order f.list) }
     ensures states { IfOk result (λ f. f.states ≡ length (S.met space.new)) }

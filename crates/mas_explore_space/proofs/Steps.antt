@@ -5,8 +5,8 @@ use Rattle.std.proofs.lemmas.Option.{same_Some, none-some, slice_get_within, sli
 use Rattle.mas_mind.specs.Minds.{Kind}
 use Rattle.mas_free.specs.declared.view.View.{View}
 use Rattle.mas_free.specs.Free.{Free, move}
-use Rattle.mas_free.specs.Covers.{Start, HasLike}
-use Rattle.mas_explore.specs.Searches.{Keeps, LeadsInto, HasFollowed}
+use Rattle.mas_free.specs.Covers.{Start, IsMember, HasLike}
+use Rattle.mas_explore.specs.Searches.{IsReached, AreReached, moved_on, Keeps, LeadsInto, HasFollowed}
 use Rattle.mas_explore_tables.specs.Tables.{IsGrown, HasEntered}
 use Rattle.mas_explore_tables.proofs.Entering.{IsNew, get-split}
 use Rattle.mas_explore_space.specs.declared.held.Held.{Held}
@@ -65,6 +65,12 @@ module _ {V : Type 0} (k : Kind V) (v : View) (s : Start V) (old new : Held) (ro
   here : RowHolds k s old state row (free_of k s old row)
   here = free_holds k s old state row (space.each state row at)
 
+  -- a row that was there stands for a state that was
+  was-reached : (first : Free V) → AreReached k v first (met_of k s old rows) → Grows k s old new → (i : ℕ) (r : Row) → slice_get rows i ≡ Some r → IsReached k v first (free_of k s new r)
+  was-reached first all g i r q =
+      let P = λ (f : Free V). IsReached k v first f in
+      subst P (same-free i r g q) (all (free_of k s old r) (record { place = i; at = map-at (free_of k s old) rows i r q }))
+
   leads-none : (met : List (Free V)) (f : Free V) → move k f a ≡ None → LeadsInto k v met (move k f a) false
   leads-none met f e = (let P = λ (o : Option (Free V)). LeadsInto k v met o false in subst P (sym e) tt)
 
@@ -75,6 +81,10 @@ module _ {V : Type 0} (k : Kind V) (v : View) (s : Start V) (old new : Held) (ro
         met = record { fits = h.grown.fits; each = λ i r q. stands-on i r g q };
         followed = record {
           keeps = keeps rows g (omega arith) (λ i r q. q);
+          reached = λ first all f m.
+              (let x = mapped-at (free_of k s new) rows m.place f m.at in
+              let P = λ (h : Free V). IsReached k v first h in
+              subst P x.is (was-reached first all g m.place x.item x.at));
           leads = λ f q. (let M = λ (z : Free V). move k z a ≡ None in leads-none (met_of k s new rows) f (subst M (state-is f q) (h.moves (free_of k s old row) here)));
         };
       }
@@ -114,6 +124,30 @@ module _ {V : Type 0} (k : Kind V) (v : View) (s : Start V) (old new : Held) (ro
           is = c.is;
         }
 
+    -- nothing is reached but what was, and a state like that to which the move leads
+    module _ (first : Free V) (all : AreReached k v first (met_of k s old rows)) where
+      new-reached : IsReached k v first (free_of k s new other)
+      new-reached =
+          let f = free_of k s old row in
+          let c = like f refl in
+          let P = λ (h : Free V). IsReached k v first h in
+          let from : IsReached k v first f = all f (record { place = state; at = map-at (free_of k s old) rows state row at }) in
+          subst P (row_free k s new (state + 1) other c.like c.holds) (moved_on f (comes f refl).next c.like a from (comes f refl).moved c.is)
+
+      row-split : (i : ℕ) (r : Row) → (slice_get rows i ≡ Some r) ⊎ IsNew rows other r i → IsReached k v first (free_of k s new r)
+      row-split i r (inl w) = was-reached first all h.grown.grows i r w
+      row-split i r (inr w) = (let P = λ (z : Row). IsReached k v first (free_of k s new z) in subst P (sym w.value) new-reached)
+
+      row-reached : IsGrown rows rows' other → (i : ℕ) (r : Row) → slice_get rows' i ≡ Some r → IsReached k v first (free_of k s new r)
+      row-reached (inl e) i r q = (let P = λ (xs : List Row). slice_get xs i ≡ Some r in was-reached first all h.grown.grows i r (subst P e q))
+      row-reached (inr e) i r q = (let P = λ (xs : List Row). slice_get xs i ≡ Some r in row-split i r (get-split rows other r i (subst P e q)))
+
+      all-reached : AreReached k v first (met_of k s new rows')
+      all-reached f m =
+          let x = mapped-at (free_of k s new) rows' m.place f m.at in
+          let P = λ (h : Free V). IsReached k v first h in
+          subst P x.is (row-reached entered.grown m.place x.item x.at)
+
     pub goes_on : (came came' : List Came) → HasStepped k v s (record { held = old; rows = rows; came = came }) (record { held = new; rows = rows'; came = came' }) state a true
     goes_on came came' =
         let g = h.grown.grows in
@@ -121,6 +155,7 @@ module _ {V : Type 0} (k : Kind V) (v : View) (s : Start V) (old new : Held) (ro
           met = record { fits = h.grown.fits; each = each entered.grown };
           followed = record {
             keeps = keeps rows' g (longer rows rows' other entered.grown) (λ i r q. entered.stay i r q);
+            reached = λ first all. all-reached first all;
             leads = λ f q. leads-some (met_of k s new rows') f (comes f (state-is f q)).next (comes f (state-is f q)).moved (has-like f (state-is f q));
           };
         }

@@ -18,6 +18,13 @@ pub enum ExploreEnd {
     Usage,
 }
 
+/// The end where there is no memory.
+pub fn starved() -> ExploreEnd
+    ensures { result ≡ ExploreEnd.Refused Status.Memory }
+{
+    ExploreEnd::Refused(Status::Memory)
+}
+
 /// The status with which the process ends.
 pub fn end_code(end: &ExploreEnd) -> u8
     ensures { result ≡ spec.end_code end.now }

@@ -13,7 +13,7 @@ use mas_explore_files::kinds::Kinds;
 use mas_explore_files::origin::SourceOrigin;
 use mas_io::shelf::Shelf;
 use mas_report::options::Options;
-use mas_top::playing::read_source;
+use mas_top_opening::reading::read_source;
 use mas_top_status::status::Status;
 use mas_world::artifact::Artifact;
 use std::alloc::Global;

@@ -95,6 +95,9 @@ module _ (names : List (List ℕ)) (start : World) (links : List (Link Doing)) (
 pub item_is : (w v : World) (xs : List World) (n : ℕ) → slice_get xs n ≡ Some w → slice_get xs n ≡ Some v → w ≡ v
 item_is w v xs n e f = same_Some w v (sym e ∙ f)
 
+done-failed : Done ≡ Failed → ⊥
+done-failed e = cc
+
 module _ (names : List (List ℕ)) (start : World) where
   pub does_as : (links : List (Link Doing)) (from : ℕ) (d : Doing) (w v : World) (f : Feedback) → slice_get (worlds_in names start links) from ≡ Some w → (f, v) ≡ after names w d →
       (f ≡ Failed → v ≡ w) → DoesAs names start links from d f
@@ -111,8 +114,16 @@ module _ (names : List (List ℕ)) (start : World) where
     grows = grows_same names start links h;
     feedback = λ w q. x.told w q;
     leads = λ w q. q ∙ ap Some (sym (x.still refl w q));
+    kept = λ _. refl;
+    unchanged = λ _. refl;
   }
 
   pub acted_done : (old new : List (Link Doing)) (from n : ℕ) (d : Doing) → DoesAs names start old from d Done → HasLinked names start old new from d n →
       HasActed names start old new from d.agent d.action (record { world = n; feedback = Done })
-  acted_done old new from n d x l = record { grows = l.grows; feedback = λ w q. x.told w q; leads = λ w q. l.leads w q }
+  acted_done old new from n d x l = record {
+    grows = l.grows;
+    feedback = λ w q. x.told w q;
+    leads = λ w q. l.leads w q;
+    kept = λ e. absurd (done-failed e);
+    unchanged = λ e. absurd (done-failed e);
+  }

@@ -52,7 +52,7 @@ pub record DoesAs (names : List (List ℕ)) (start : World) (links : List (Link 
   pub told : (w : World) → slice_get (worlds_in names start links) from ≡ Some w → feedback ≡ (after names w d).0
   pub still : feedback ≡ Failed → (w : World) → slice_get (worlds_in names start links) from ≡ Some w → done_on names w d ≡ w
 
--- there are numbers of what the action made of the world
+-- there are numbers of what the action made of the world; where it was not done the world keeps its number, and there is no new one
 pub record HasActed (names : List (List ℕ)) (start : World) (old new : List (Link Doing))
     (from agent : ℕ) (action : LiteralOf Term) (r : Acted) : Type 0 where
   pub grows : Grows names start old new
@@ -60,6 +60,8 @@ pub record HasActed (names : List (List ℕ)) (start : World) (old new : List (L
       r.feedback ≡ (acted w (name_of names agent) action).0
   pub leads : (w : World) → slice_get (worlds_in names start old) from ≡ Some w →
       slice_get (worlds_in names start new) r.world ≡ Some (acted w (name_of names agent) action).1
+  pub kept : r.feedback ≡ Failed → r.world ≡ from
+  pub unchanged : r.feedback ≡ Failed → new ≡ old
 
 abbrev pub IsSeen : List (List ℕ) → World → List (Link Doing) → ℕ → ℕ → List (LiteralOf Term) → Type 0
 IsSeen names start links n agent percepts = (w : World) → slice_get (worlds_in names start links) n ≡ Some w → percepts ≡ seen w (name_of names agent)

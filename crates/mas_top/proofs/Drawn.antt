@@ -11,13 +11,13 @@ use Rattle.mas_top_files.specs.declared.sources.Source.{Source}
 use Rattle.mas_top_status.specs.declared.status.Status.{Status}
 use Rattle.mas_top_status.specs.declared.status.Status.TheVariants.{Ok, No, Usage, Missing, ReadFault, WriteFault, Refused, Limit, Budget, Memory, DiskFault}
 use Rattle.mas_top_status.specs.Statuses.{whole}
-use Rattle.mas_top_files.specs.Files.{HasFile, IsRefusal}
+use Rattle.mas_top_files.specs.Files.{HasFile, IsRefusal, most_report_bytes}
 use Rattle.mas_top_files.specs.Known.{known}
 use Rattle.mas_top_files.specs.Sources.{FirstRefused}
 use Rattle.mas_top_files.proofs.Unless.{unless}
 use Rattle.mas_top_files.proofs.Single.{with_file, one_source, not_refused, not_refused_file}
 use Rattle.mas_top_opening.specs.Opening.{Setup, opening}
-use Rattle.mas_top.specs.Runs.{How, by_workers, by_file, Wanted, Given, given, most_bytes, IsFollowed, HasWay, HasGiven, schedules, FileRefused, NoneRefused}
+use Rattle.mas_top.specs.Runs.{How, by_workers, by_file, Wanted, Given, given, IsFollowed, HasWay, HasGiven, schedules, FileRefused, NoneRefused}
 use Rattle.mas_top.specs.Ways.{Way, alone, shared, along, IsScheduled}
 use Rattle.mas_top.specs.Caused.{Texts, ForFiles, FileCaused}
 use Rattle.mas_top.specs.Headline.{IsRunReportOf, IsHeadline, PrintsSchedule, IsComplete}
@@ -63,7 +63,7 @@ same_way u files source (by_file name) shared b h g = absurd h
 same_way u files source (by_file name) (along x) alone h g = absurd g
 same_way u files source (by_file name) (along x) shared h g = absurd g
 same_way u files source (by_file name) (along x) (along y) h g =
-    let w = with_file most_bytes files name (λ b. IsFollowed u source b x) (λ b. IsFollowed u source b y) h g in
+    let w = with_file most_report_bytes files name (λ b. IsFollowed u source b x) (λ b. IsFollowed u source b y) h g in
     ap along (one_schedule h.bytes x y h.are.is w.is)
 
 same_given : (u : Setup) (files : List Filed) (wanted : Wanted) (a b : Given) → HasGiven u (Some files) wanted a → HasGiven u (Some files) wanted b → a ≡ b
@@ -91,8 +91,8 @@ schedule_not u files source name (by_workers count) way before after status e h 
 schedule_not u files source name (by_file n) alone before after status e h f c = absurd h
 schedule_not u files source name (by_file n) shared before after status e h f c = absurd h
 schedule_not u files source name (by_file n) (along names) before after status e h f c =
-    let g : HasFile most_bytes (Some files) name (λ x. IsFollowed u source x names) =
-    subst (λ x. HasFile most_bytes (Some files) x (λ y. IsFollowed u source y names)) (file_same n name e) h in
+    let g : HasFile most_report_bytes (Some files) name (λ x. IsFollowed u source x names) =
+    subst (λ x. HasFile most_report_bytes (Some files) x (λ y. IsFollowed u source y names)) (file_same n name e) h in
     not_refused_file (schedules u source) files name before after status (λ x. IsFollowed u source x names) g (followed_accepted u source g.bytes names g.are) f c
 
 pub file_not : (u : Setup) (files : List Filed) (wanted : Wanted) (g : Given) (before after : ℕ) (status : Status) → HasGiven u (Some files) wanted g →

@@ -1,8 +1,6 @@
 pub mod Runs
 pub mod Played
 pub mod Caused
-pub mod Verdicts
-pub mod Claims
 pub mod Followed
 pub mod Refusals
 pub mod Drawn

@@ -1,6 +1,5 @@
 -- What is run of the files that are asked for.
-use Rattle.std.proofs.Common.{ℕ, ◌≡◌, ◌≤◌, inl, inr, Bool, List, Option, subst, refl}
-use Rattle.std.specs.Prelude.{Result, MatchResult}
+use Rattle.std.proofs.Common.{ℕ, ◌≡◌, ◌≤◌, inl, inr, Bool, List, Option, refl}
 use Rattle.asl_term.specs.declared.syntax.Filed.{Filed}
 use Rattle.asl_cycle.specs.Agent.{agent_kind}
 use Rattle.mas_world.specs.Worlds.{Used}
@@ -10,7 +9,7 @@ use Rattle.mas_io.specs.declared.shelf.Fetched.TheVariants.{Bytes}
 use Rattle.mas_report_schedule.specs.Reading.{IsSchedule}
 use Rattle.mas_top_files.specs.declared.sources.Source.{Source}
 use Rattle.mas_top_status.specs.declared.status.Status.{Status}
-use Rattle.mas_top_files.specs.Files.{Has, HasFile, IsRefusal, unfetched, IsUnfetched}
+use Rattle.mas_top_files.specs.Files.{Has, HasFile, IsRefusal, unfetched, IsUnfetched, most_report_bytes}
 use Rattle.mas_top_files.specs.Known.{known}
 use Rattle.mas_top_files.specs.Sources.{HasSource, FirstRefused, AreRefused}
 use Rattle.mas_top_files.proofs.Fetched.{refused_by, refusal_from}
@@ -18,7 +17,7 @@ use Rattle.mas_top_files.proofs.Unless.{unless, unless_as}
 use Rattle.mas_report.specs.declared.options.Options.{Options}
 use Rattle.mas_top_opening.specs.Opening.{Setup, setup, opening}
 use Rattle.mas_top_opening.proofs.Able.{can_run}
-use Rattle.mas_top.specs.Runs.{by_workers, by_file, Wanted, wanted, given, most_bytes, IsStopped, IsUnfollowed, schedule_status, schedules, FileRefused, GivenRefused}
+use Rattle.mas_top.specs.Runs.{by_workers, by_file, Wanted, wanted, given, IsStopped, IsUnfollowed, schedule_status, schedules, FileRefused, GivenRefused}
 use Rattle.mas_top.specs.declared.playing.ScheduleFault.{ScheduleFault}
 use Rattle.mas_top.specs.Ways.{along, way_of}
 use Rattle.mas_top.specs.Caused.{ForFiles}
@@ -41,19 +40,12 @@ pub unread : (u : Setup) (source : Source) (name : List ℕ) (held : Option (Lis
 unread u source name held before after status h = unfetched h
 
 pub replayed_file : (u : Setup) (source : Source) (held : Option (List Filed)) (name bytes : List ℕ) (spent : Bool) (w : List ℕ) → Has 268435456 held name (Bytes bytes) →
-    ForSchedule u source bytes spent w → HasFile most_bytes held name (λ b. ForSchedule u source b spent w)
+    ForSchedule u source bytes spent w → HasFile most_report_bytes held name (λ b. ForSchedule u source b spent w)
 replayed_file u source held name bytes spent w h r = record { bytes = bytes; has = h; are = r }
 
 pub not_replayed : (u : Setup) (source : Source) (name : List ℕ) (held : Option (List Filed)) (before after : ℕ) (bytes : List ℕ) (why : ScheduleFault) (status : Status) →
     Has 268435456 held name (Bytes bytes) → IsUnfollowed u source bytes why → status ≡ schedule_status name why → IsRefusal (schedules u source) name held before after status
 not_replayed u source = refused_by (schedules u source)
-
--- the names of the artifacts under another name
-pub known_as : (names : List (List ℕ)) (objects : List Used) (cycles : ℕ) (held : Option (List Filed)) (word : List ℕ) (before after : ℕ) (result : Result Source Status) →
-    names ≡ known objects → MatchResult result (HasSource names cycles held word) (AreRefused names cycles held word before after) →
-    MatchResult result (HasSource (known objects) cycles held word) (AreRefused (known objects) cycles held word before after)
-known_as names objects cycles held word before after result e h =
-    subst (λ n. MatchResult result (HasSource n cycles held word) (AreRefused n cycles held word before after)) e h
 
 -- ---- what is asked for
 
@@ -63,7 +55,7 @@ pub ran : (o : Options) (objects : List Used) (held : Option (List Filed)) (word
 ran o objects held word source workers spent w h r = record { given = given source (way_of workers); has = record { source = h; way = refl }; is = r }
 
 pub replayed : (o : Options) (objects : List Used) (held : Option (List Filed)) (word : List ℕ) (source : Source) (name : List ℕ) (spent : Bool) (w : List ℕ) →
-    HasSource (known objects) o.cycles held word source → HasFile most_bytes held name (λ b. ForSchedule (setup o objects) source b spent w) →
+    HasSource (known objects) o.cycles held word source → HasFile most_report_bytes held name (λ b. ForSchedule (setup o objects) source b spent w) →
     ForFiles (IsRunReportOf (setup o objects)) (setup o objects) held (wanted word (by_file name)) spent w
 replayed o objects held word source name spent w h r =
     record {

@@ -20,10 +20,10 @@ use Rattle.mas_top_record.specs.Disks.{state_of}
 use Rattle.mas_top_record.specs.Keeping.{IsSafe, IsUntouched}
 use Rattle.mas_top.specs.Recording.{Recorded, wanted_of, Lent, lent, IsSafelyLeft, RecordCaused, KeepsPrinted, IsRecordComplete}
 use Rattle.mas_top.specs.Ways.{way_of}
-use Rattle.mas_top.specs.Checking.{Judges, IsClaimComplete}
+use Rattle.mas_top_check.specs.Checking.{Judges, IsClaimComplete}
 use Rattle.mas_top.specs.Demo.{IsDemoComplete}
 use Rattle.mas_top.proofs.Demos.{demo_complete}
-use Rattle.mas_top.proofs.Claims.{judged_claim, complete_claim}
+use Rattle.mas_top_check.proofs.Claims.{judged_claim, complete_claim}
 use Rattle.mas_top.proofs.Drawn.{headline_file, schedule_file, complete_file}
 use Rattle.mas_top.proofs.Recorded.{headline_record, keeps_printed, complete_record}
 

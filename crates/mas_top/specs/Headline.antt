@@ -20,7 +20,7 @@ use Rattle.mas_top_words.specs.Asked as words
 use Rattle.mas_top_words.specs.Plain.{AskForNothing, AskOnlyFor}
 use Rattle.mas_world.specs.Worlds.{Used}
 use Rattle.mas_report.specs.Limits.{defaults}
-use Rattle.mas_top.specs.Checking.{whether, anew, Claim, claim, ClaimCaused}
+use Rattle.mas_top_check.specs.Checking.{whether, anew, Claim, claim, ClaimCaused}
 use Rattle.mas_top.specs.Demo.{DemoCaused}
 use Rattle.mas_top_record.specs.declared.keep.Keeping.TheVariants.{Anew, On}
 use Rattle.mas_top_opening.specs.Opening.{Setup, setup, opening}

@@ -13,12 +13,13 @@ use Rattle.mas_io.specs.Causes.{Rose}
 use Rattle.mas_top_files.specs.declared.sources.Source.{Source}
 use Rattle.mas_top_status.specs.declared.status.Status.{Status}
 use Rattle.mas_top_status.specs.declared.status.Status.TheVariants.{Memory}
+use Rattle.mas_top_files.specs.Files.{most_report_bytes}
 use Rattle.mas_top_files.specs.Laws.{Surely}
 use Rattle.mas_report.specs.Limits.{IsWithin}
 use Rattle.mas_report.specs.Report.{latest, IsReport, IsRenewal}
-use Rattle.mas_top.specs.Checking.{IsOwn}
+use Rattle.mas_top_check.specs.Checking.{IsOwn}
 use Rattle.mas_top_opening.specs.Opening.{Setup, opening}
-use Rattle.mas_top.specs.Runs.{most_bytes, Wanted, Given, given, IsFollowed, HasGiven, FileRefused}
+use Rattle.mas_top.specs.Runs.{Wanted, Given, given, IsFollowed, HasGiven, FileRefused}
 use Rattle.mas_top.specs.Headline.{IsReportOf, IsRunReportOf}
 use Rattle.mas_top.specs.Ways.{along}
 
@@ -40,7 +41,7 @@ OneRefusal =
 pub record IsRepeatable (u : Setup) (source : Source) (spent : Bool) (w : List ℕ) : Type 0 where
   pub front : List ℕ
   pub ends : w ≡ front ++ schedule_text latest (printed w)
-  pub short : length (schedule_text latest (printed w)) ≤ most_bytes
+  pub short : length (schedule_text latest (printed w)) ≤ most_report_bytes
   pub followed : IsFollowed u source (schedule_text latest (printed w)) (printed w)
   pub again : (other : Bool) (v : List ℕ) → IsRunReportOf u other (given source (along (printed w))) v → (v ≡ w) × (other ≡ spent)
 

@@ -2,7 +2,6 @@ pub mod Ways
 pub mod Runs
 pub mod Caused
 pub mod Demo
-pub mod Checking
 pub mod Recording
 pub mod Headline
 pub mod Playing

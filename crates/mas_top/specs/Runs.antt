@@ -12,7 +12,7 @@ use Rattle.mas_top_files.specs.declared.sources.Source.{Source}
 use Rattle.mas_top_status.specs.declared.status.Reason.TheVariants as reason
 use Rattle.mas_top_status.specs.declared.status.Status.{Status}
 use Rattle.mas_top_status.specs.declared.status.Status.TheVariants.{Refused, Memory}
-use Rattle.mas_top_files.specs.Files.{HasFile, Reader, IsRefusal}
+use Rattle.mas_top_files.specs.Files.{HasFile, Reader, IsRefusal, most_report_bytes}
 use Rattle.mas_top_files.specs.Known.{known}
 use Rattle.mas_top_files.specs.Laws.{Surely}
 use Rattle.mas_top_files.specs.Sources.{HasSource, FirstRefused, UnlessMemory}
@@ -44,10 +44,6 @@ pub record Given : Type 0 where
 abbrev pub given : Source → Way → Given
 given source way = record { source = source; way = way }
 
--- the most bytes of the file of a schedule or of a report
-abbrev pub most_bytes : ℕ
-most_bytes = 268435456
-
 -- the bytes are a schedule of these numbers, along which the source runs to its end
 pub record IsFollowed (u : Setup) (source : Source) (bytes names : List ℕ) : Type 0 where
   pub is : IsSchedule bytes names
@@ -58,7 +54,7 @@ abbrev pub HasWay : Setup → Option (List Filed) → Source → How → Way →
 HasWay u held source (by_workers count) way = way ≡ way_of count
 HasWay u held source (by_file name) alone = ⊥
 HasWay u held source (by_file name) shared = ⊥
-HasWay u held source (by_file name) (along names) = HasFile most_bytes held name (λ bytes. IsFollowed u source bytes names)
+HasWay u held source (by_file name) (along names) = HasFile most_report_bytes held name (λ bytes. IsFollowed u source bytes names)
 
 -- the files describe this
 pub record HasGiven (u : Setup) (held : Option (List Filed)) (wanted : Wanted) (g : Given) : Type 0 where
@@ -87,7 +83,7 @@ schedule_status name (fault.Play (play.Unended agent)) = Refused name agent reas
 
 -- the reader of a schedule along which this source is run
 abbrev pub schedules : Setup → Source → Reader
-schedules u source = record { most = most_bytes; Fault = ScheduleFault; faulty = IsUnfollowed u source; status_of = schedule_status }
+schedules u source = record { most = most_report_bytes; Fault = ScheduleFault; faulty = IsUnfollowed u source; status_of = schedule_status }
 
 -- the source is described, and the file of the schedule is refused
 pub record ScheduleRefused (u : Setup) (held : Option (List Filed)) (wanted : Wanted) (before after : ℕ) (status : Status) : Type 0 where

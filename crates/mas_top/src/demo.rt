@@ -12,7 +12,6 @@ ghost use Rattle.mas_top_opening.specs.Fits.{CanRun};
 ghost use Rattle.mas_top_opening.specs.Opening.{objects_of, opening, setup};
 ghost use Rattle.mas_top.specs.Ways.{way_of};
 
-use crate::playing::read_source;
 use asl_term::copying::text_of;
 use asl_term::sequence::Starved;
 use asl_term::syntax::Text;
@@ -27,6 +26,7 @@ use mas_top_demo::files::demo_files;
 use mas_top_demo::lines::demo_lines;
 use mas_top_files::sources::Source;
 use mas_top_opening::opening::{Opened, open_source};
+use mas_top_opening::reading::read_source;
 use mas_top_status::status::Status;
 use mas_world::artifact::Artifact;
 use std::alloc::Global;

@@ -7,7 +7,6 @@
 //! Must not: touch a real file or standard output, decide a rule of the language, start a thread of its own, know which artifacts there are.
 #![tactic(auto)]
 
-pub mod checking;
 pub mod demo;
 pub mod laws;
 pub mod linting;

@@ -2,16 +2,14 @@
 
 ghost use Rattle.std.specs.Prelude.{◌≡◌, ◌≤◌, IfErr, IfOk, MatchResult};
 ghost use Rattle.mas_report.specs.Limits.{IsFrom, IsWithin};
-ghost use Rattle.mas_top_files.specs.Files.{HasFile, IsRefusal};
-ghost use Rattle.mas_top_files.specs.Known.{known};
-ghost use Rattle.mas_top_files.specs.Sources.{AreRefused, HasSource};
+ghost use Rattle.mas_top_files.specs.Files.{HasFile, IsRefusal, most_report_bytes};
 ghost use Rattle.mas_top.specs.Caused.{ForFiles};
 ghost use Rattle.mas_top_opening.specs.Fits.{CanRun};
 ghost use Rattle.mas_top.specs.Headline.{IsRunReportOf};
 ghost use Rattle.mas_top_opening.specs.Opening.{objects_of, setup};
 ghost use Rattle.mas_top.specs.Playing.{ForSchedule};
 ghost use Rattle.mas_top.specs.Runs as spec;
-ghost use Rattle.mas_top.specs.Runs.{wanted, how_of, CanBe, GivenRefused, most_bytes, schedules};
+ghost use Rattle.mas_top.specs.Runs.{wanted, how_of, CanBe, GivenRefused, schedules};
 
 use crate::running::{replay_source, run_source};
 use asl_term::copying::text_of;
@@ -23,18 +21,15 @@ use mas_pool_task::gate::Gate;
 use mas_report::options::Options;
 use mas_report::output::Output;
 use mas_report_schedule::reading::{LineFault, read_schedule};
-use mas_top_files::files::bytes_of;
-use mas_top_files::known::known_names;
-use mas_top_files::sources::{Source, sources};
+use mas_top_files::files::{MOST_REPORT_BYTES, bytes_of};
+use mas_top_files::sources::Source;
+use mas_top_opening::reading::read_source;
 use mas_top_status::status::{Reason, Status};
 use mas_top_words::asked::Pool;
 use mas_world::artifact::Artifact;
 use std::alloc::Global;
 use std::sync::Wait;
 use std::thread::Threads;
-
-/// The most bytes of the file of a schedule or of a report.
-pub const MOST_BYTES: u64 = 268_435_456;
 
 /// How a project is run: by so many workers from a pool, or along the schedule of the file of this name.
 #[derive(Clone, Copy)]
@@ -133,11 +128,11 @@ fn replay_file<S: Shelf, A: Artifact>(
     ensures answer { let held = S.holds shelf.old in
         let u = setup o.now (objects_of A.named A.table A.facts artifacts.items) in
         MatchResult result
-        (λ out. HasFile most_bytes held name.now (λ bytes. ForSchedule u source bytes out.spent out.text))
+        (λ out. HasFile most_report_bytes held name.now (λ bytes. ForSchedule u source bytes out.spent out.text))
         (IsRefusal (schedules u source) name.now held (S.faults shelf.old) (S.faults shelf.new)) }
 {
     let file = text_of(alloc, name)?;
-    match bytes_of(alloc, &file, MOST_BYTES, shelf) {
+    match bytes_of(alloc, &file, MOST_REPORT_BYTES, shelf) {
         Err(status) => {
             drop(source);
             drop(artifacts);
@@ -148,27 +143,6 @@ fn replay_file<S: Shelf, A: Artifact>(
             Err(why) => Err(schedule_status(alloc, name, why)?),
         },
     }
-}
-
-/// What the files describe that a word asks for, where there are these artifacts, or why one of them is refused.
-pub fn read_source<S: Shelf, A: Artifact>(
-    alloc: Global,
-    cycles: u64,
-    word: &Text,
-    artifacts: &Vec<A>,
-    shelf: &mut S,
-) -> Result<Source, Status>
-    requires { cycles ≤ 1000000 }
-    ensures same { S.holds shelf.new ≡ S.holds shelf.old }
-    ensures later { S.faults shelf.old ≤ S.faults shelf.new }
-    ensures answer { let held = S.holds shelf.old in
-        let names = known (objects_of A.named A.table A.facts artifacts.now.items) in
-        MatchResult result
-        (HasSource names cycles held word.now)
-        (AreRefused names cycles held word.now (S.faults shelf.old) (S.faults shelf.new)) }
-{
-    let known = known_names(alloc, artifacts.as_slice())?;
-    sources(alloc, &known, cycles, word, shelf)
 }
 
 /// The report of the run that is asked for, or why a file is refused.

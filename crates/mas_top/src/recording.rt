@@ -15,7 +15,6 @@ ghost use Rattle.mas_top_opening.specs.Opening.{objects_of, opening, setup};
 ghost use Rattle.mas_top.specs.Recording as spec;
 ghost use Rattle.mas_top.specs.Recording.{lent, recorded_of};
 
-use crate::playing::read_source;
 use asl_term::copying::text_of;
 use asl_term::syntax::Text;
 use mas_io::shelf::Shelf;
@@ -27,6 +26,7 @@ use mas_report::options::Options;
 use mas_report::output::Output;
 use mas_top_files::sources::Source;
 use mas_top_opening::opening::{Opened, open_source};
+use mas_top_opening::reading::read_source;
 use mas_top_record::keep::{Keeping, keep_run};
 use mas_top_record::laws::untouched;
 use mas_top_status::status::{Status, whole};

@@ -20,6 +20,10 @@ use Rattle.mas_top_files.specs.Faults.{text_status, world_status, project_status
 abbrev pub most_bytes : ℕ
 most_bytes = 1048576
 
+-- the most bytes of the file of a report or of a schedule
+abbrev pub most_report_bytes : ℕ
+most_report_bytes = 268435456
+
 -- the shelf, where it tells what it holds, answers this where the file of the name may have so many bytes
 abbrev pub Has : ℕ → Option (List Filed) → List ℕ → Fetched → Type 0
 Has most held name answer = IfSome held (λ files. answer ≡ fetched files name most)

@@ -23,6 +23,9 @@ use std::alloc::Global;
 /// The most bytes of the file of a project, a world or an agent.
 const MOST_BYTES: u64 = 1_048_576;
 
+/// The most bytes of the file of a report or of a schedule.
+pub const MOST_REPORT_BYTES: u64 = 268_435_456;
+
 /// The bytes of the file of this name, at most so many, or why they are not there.
 pub fn bytes_of<S: Shelf>(
     alloc: Global,

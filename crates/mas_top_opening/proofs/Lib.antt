@@ -1,3 +1,4 @@
 pub mod Opened
 pub mod Starts
 pub mod Able
+pub mod Known

@@ -1,6 +1,6 @@
 use Rattle.std.proofs.Common.{subst}
-use Rattle.mas_top.specs.Checking.{IsOwn}
-use Rattle.mas_top.proofs.Verdicts.{shows_none_by}
+use Rattle.mas_top_check.specs.Checking.{IsOwn}
+use Rattle.mas_top_check.proofs.Verdicts.{shows_none_by}
 use Rattle.mas_top_opening.specs.Opening.{objects_of}
 use Rattle.look_mind.proofs.look.look_at.Goals as goal
 

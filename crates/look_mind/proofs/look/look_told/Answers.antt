@@ -1,7 +1,7 @@
 use Rattle.std.proofs.Common.{◌≤◌, ◌∙◌, ap, subst}
 use Rattle.mas_report.specs.Report.{Decided}
-use Rattle.mas_top.specs.Checking.{IsAllowed}
-use Rattle.mas_top.proofs.Verdicts.{known_version, last_told, not_allowed}
+use Rattle.mas_top_check.specs.Checking.{IsAllowed}
+use Rattle.mas_top_check.proofs.Verdicts.{known_version, last_told, not_allowed}
 use Rattle.mas_top_opening.specs.Opening.{objects_of}
 use Rattle.look_mind.specs.Looks.{turn_of}
 use Rattle.look_mind.proofs.Verdicts.{shown}

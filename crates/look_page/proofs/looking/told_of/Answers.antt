@@ -1,37 +1,20 @@
-use Rattle.std.proofs.Common.{◌∙◌, ap, min, subst}
-use Rattle.mas_report.specs.Report.{Decided}
-use Rattle.mas_top.specs.Checking.{IsAllowed}
-use Rattle.mas_top.proofs.Verdicts.{known_version, last_told, not_allowed}
+use Rattle.std.proofs.Common.{◌∙◌, ap, min}
+use Rattle.mas_top_check.proofs.Verdicts.{not_own}
 use Rattle.mas_top_opening.specs.Opening.{objects_of}
-use Rattle.look_mind.proofs.Verdicts.{not_own}
 use Rattle.look_page.specs.Own.{most_turns}
 use Rattle.look_page.proofs.Owned.{owned}
 use Rattle.look_page.proofs.looking.told_of.Goals as goal
-
-pub returns-then-not-is_allowed : goal.returns-then-not-is_allowed
-returns-then-not-is_allowed g c =
-    let a = c.args in
-    let objects = objects_of g.A.Artifact.named g.A.Artifact.table g.A.Artifact.facts a.artifacts.items in
-    not_allowed objects a.source a.bytes.now a.told c.requires.shows
-    (subst (Decided (IsAllowed a.source a.told.options)) c.if-not-is_allowed.true c.is_allowed.ensures)
-
-pub changes_of-requires-clause-known : goal.changes_of-requires-clause-known
-changes_of-requires-clause-known g c = known_version c.args.bytes.now c.args.told c.requires.shows
-
-pub changes_of-requires-clause-last : goal.changes_of-requires-clause-last
-changes_of-requires-clause-last g c = last_told c.args.bytes.now c.args.told c.requires.shows
 
 pub returns-in-Some : goal.returns-in-Some
 returns-in-Some g c =
     let a = c.args in
     let objects = objects_of g.A.Artifact.named g.A.Artifact.table g.A.Artifact.facts a.artifacts.items in
     let seen = rw c.in-Some.is at c.in_ok-found.ensures in
-    owned objects a.source a.bytes.now a.told c.min-t.result c.in-Some.changes c.requires.shows
-    (subst (Decided (IsAllowed a.source a.told.options)) c.if-not-is_allowed.false c.is_allowed.ensures)
+    owned objects a.source a.bytes.now a.told c.min-t.result c.in-Some.changes c.requires.tells
     (c.min-t.ensures ∙ ap (min most_turns) c.len.ensures) seen.0 seen.1
 
 pub returns-in-None : goal.returns-in-None
 returns-in-None g c =
     let a = c.args in
     let objects = objects_of g.A.Artifact.named g.A.Artifact.table g.A.Artifact.facts a.artifacts.items in
-    not_own objects a.source a.bytes.now a.told c.requires.shows (rw c.in-None.is at c.in_ok-found.ensures)
+    not_own objects a.source a.bytes.now a.told c.requires.tells.shows (rw c.in-None.is at c.in_ok-found.ensures)

@@ -6,7 +6,7 @@ pub returns-then-i-count : goal.returns-then-i-count
 returns-then-i-count g c =
     let e = c.count.ensures in
     let t = c.if-i-count.true in
-    all_searched g.M.Mind.kind c.args.view _ _ _ c.loop-i.i c.args.most c.loop-i.invariant (omega arith)
+    all_searched g.M.Mind.kind c.args.view _ _ _ c.loop-i.i c.args.most c.loop-i.invariant (omega arith) (omega arith)
 
 pub loop-i-preserved : goal.loop-i-preserved
 loop-i-preserved g c =
