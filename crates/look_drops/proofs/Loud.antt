@@ -56,5 +56,3 @@ module _ (objects : List Used) (source : Source) (bytes : List ℕ) where
 
   pub may_have : (told : Told) → TellsRun source bytes told → IsAllowed source told.options
   may_have told k = k.allowed
-
-pub ruleset tell_falls = (none_shown, shown, may_have)

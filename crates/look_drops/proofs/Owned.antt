@@ -14,7 +14,7 @@ use Rattle.mas_top_files.specs.Known.{known}
 use Rattle.mas_top_files.specs.Sources.{HasSource}
 use Rattle.mas_top_opening.specs.Opening.{setup, opening}
 use Rattle.mas_top_check.specs.Checking.{TellsRun}
-use Rattle.mas_top_check.proofs.Verdicts.{not_own, own}
+use Rattle.mas_top_check.proofs.Verdicts.{not_own}
 use Rattle.look_again.specs.Before.{AreBefore}
 use Rattle.look_drops.specs.declared.fallen.RunFalls.{RunFalls}
 use Rattle.look_drops.specs.Fallen.{IsFallen, IsFallenIn}
@@ -22,7 +22,7 @@ use Rattle.look_drops.specs.Stacks.{IsTold, IsToldIn}
 use Rattle.look_drops.specs.Texts.{agent_texts}
 
 -- of the first t turns of the run that the bytes tell these texts are seen, or the bytes are not its report
-abbrev IsSeen : List Used → Source → List ℕ → Told → List Bool → ℕ → Option (List (List (List ℕ))) → Type 0
+abbrev pub IsSeen : List Used → Source → List ℕ → Told → List Bool → ℕ → Option (List (List (List ℕ))) → Type 0
 IsSeen objects source bytes told marks t r =
     let p = opening (setup told.options objects) source in
     MatchOption r (IsAnyReport agent_kind told.version told.options p bytes → ⊥)
@@ -33,7 +33,7 @@ owned_by : (objects : List Used) (source : Source) (bytes : List ℕ) (told : To
 owned_by objects source bytes told marks t None k e h = not_own objects source bytes told k.shows h
 owned_by objects source bytes told marks t (Some cs) k e h =
     let P = λ (turns : List ℕ). AreBefore agent_kind agent_texts (opening (setup told.options objects) source) turns marks cs in
-    record { own = own objects source bytes told k h.0; texts = subst P (take_all t told.turns (omega (arith, e))) h.1 }
+    record { own = record { told = told; shows = k.shows; allowed = k.allowed; report = h.0 }; texts = subst P (take_all t told.turns (omega (arith, e))) h.1 }
 
 pub owned : {E : Type 0} (objects : List Used) (source : Source) (bytes : List ℕ) (told : Told) (marks : List Bool) (t : ℕ)
     (r : Result (Option (List (List (List ℕ)))) E) → TellsRun source bytes told → t ≡ length told.turns → IfOk r (IsSeen objects source bytes told marks t) →

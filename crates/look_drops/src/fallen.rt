@@ -108,7 +108,7 @@ fn fallen_told<A: Artifact>(
 
 /// The failures of a source's agents along the turns that bytes tell, at level rules; none where they tell no turns and options that a run of the source may
 /// have, or one of the turns cannot be made.
-#[tactic(auto, using(crate::proofs::Loud::tell_falls))]
+#[tactic(auto, using(crate::proofs::Loud::may_have))]
 pub fn fallen_at<A: Artifact>(
     alloc: Global,
     source: Source,

@@ -66,7 +66,7 @@ fn texts_of<A: Artifact>(
 }
 
 /// The texts before the marked turns of the run of a source whose report the bytes are; none where they are not.
-#[tactic(auto, using(mas_top_check::proofs::Verdicts::told, mas_top_check::proofs::Verdicts::no_own, crate::proofs::Owned::owned))]
+#[tactic(auto, using(mas_top_check::proofs::Verdicts::told, mas_top_check::proofs::Verdicts::no_own))]
 pub fn stacks_at<A: Artifact>(
     alloc: Global,
     source: Source,

@@ -12,7 +12,6 @@ use Rattle.mas_top_files.specs.Known.{known}
 use Rattle.mas_top_files.specs.Sources.{HasSource}
 use Rattle.mas_top_opening.specs.Opening.{setup, opening}
 use Rattle.mas_top_check.specs.Checking.{TellsRun}
-use Rattle.mas_top_check.proofs.Verdicts.{own}
 use Rattle.look_change.specs.declared.change.ChangedLine.{ChangedLine}
 use Rattle.look_page.specs.Along.{AreChanges}
 use Rattle.look_page.specs.Own.{AreOwnChanges, IsTold, IsToldIn, most_turns}
@@ -24,7 +23,7 @@ pub owned : (objects : List Used) (source : Source) (bytes : List ℕ) (told : T
     AreChanges agent_kind agent_texts (opening (setup told.options objects) source) (take t told.turns) cs →
     AreOwnChanges objects source bytes (record { turns = told.turns; changes = cs })
 owned objects source bytes told t cs k e report changes = record {
-  own = own objects source bytes told k report;
+  own = record { told = told; shows = k.shows; allowed = k.allowed; report = report };
   turns = refl;
   changes = subst (λ n. AreChanges agent_kind agent_texts (opening (setup told.options objects) source) (take n told.turns) cs) e changes;
 }

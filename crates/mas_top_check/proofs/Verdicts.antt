@@ -88,6 +88,13 @@ module _ (source : Source) (said bytes : List ℕ) (r : Option Told) (same : sai
 
 pub ruleset tells = (no_run, tells_run, forbids_run)
 
+-- by what was found
+pub found_run : (source : Source) (bytes : List ℕ) (t : Told) (r : Option Told) → r ≡ Some t → MatchOption r (TellsNoRun source bytes) (TellsRun source bytes) → TellsRun source bytes t
+found_run source bytes t r e h = subst (λ (x : Option Told). MatchOption x (TellsNoRun source bytes) (TellsRun source bytes)) e h
+
+pub found_none : (source : Source) (bytes : List ℕ) (r : Option Told) → r ≡ None → MatchOption r (TellsNoRun source bytes) (TellsRun source bytes) → TellsNoRun source bytes
+found_none source bytes r e h = subst (λ (x : Option Told). MatchOption x (TellsNoRun source bytes) (TellsRun source bytes)) e h
+
 pub tells_within : (source : Source) (bytes : List ℕ) (t : Told) → TellsRun source bytes t → IsWithin t.options
 tells_within source bytes t k = k.allowed.within
 
@@ -108,10 +115,6 @@ pub not_own : (objects : List Used) (source : Source) (bytes : List ℕ) (t : To
 not_own objects source bytes t s n h =
     n (subst (λ (x : Told). IsAnyReport agent_kind x.version x.options (opening (setup x.options objects) source) bytes) (told_is objects source bytes t s h) h.report)
 
-pub own : (objects : List Used) (source : Source) (bytes : List ℕ) (t : Told) → TellsRun source bytes t →
-    IsAnyReport agent_kind t.version t.options (opening (setup t.options objects) source) bytes → IsOwn objects source bytes
-own objects source bytes t k r = record { told = t; shows = k.shows; allowed = k.allowed; report = r }
-
 -- such bytes are a report, and this is written, or they are none
 abbrev pub IsRun : ReportClaim → List Used → Source → Told → List ℕ → Option (List ℕ) → Type 0
 IsRun asks objects source t bytes answer =
@@ -121,7 +124,7 @@ IsRun asks objects source t bytes answer =
 own_by : (asks : ReportClaim) (objects : List Used) (source : Source) (bytes : List ℕ) (t : Told) (answer : Option (List ℕ)) → TellsRun source bytes t →
     IsRun asks objects source t bytes answer → IsJudged asks objects source bytes answer
 own_by asks objects source bytes t None k r = not_own objects source bytes t k.shows r
-own_by asks objects source bytes t (Some w) k r = record { own = own objects source bytes t k r.0; says = r.1 }
+own_by asks objects source bytes t (Some w) k r = record { own = record { told = t; shows = k.shows; allowed = k.allowed; report = r.0 }; says = r.1 }
 
 pub own_answer : {E : Type 0} (asks : ReportClaim) (objects : List Used) (source : Source) (bytes : List ℕ) (t : Told) (answer : Result (Option (List ℕ)) E) →
     TellsRun source bytes t → IfOk answer (IsRun asks objects source t bytes) → IfOk answer (IsJudged asks objects source bytes)

@@ -142,7 +142,7 @@ fn answer_of<A: Artifact>(
 
 /// What is written where the bytes are the report of the options and the schedule in them, of a run of the source; None where
 /// they are not.
-#[tactic(auto, using(crate::proofs::Verdicts::told, crate::proofs::Verdicts::no_own, crate::proofs::Verdicts::own_answer))]
+#[tactic(auto, using(crate::proofs::Verdicts::told, crate::proofs::Verdicts::no_own))]
 fn answer<A: Artifact>(
     alloc: Global,
     asks: ReportClaim,

@@ -1,9 +1,12 @@
 use Rattle.std.proofs.Common.{◌∙◌, ap, min}
-use Rattle.mas_top_check.proofs.Verdicts.{not_own}
+use Rattle.mas_top_check.proofs.Verdicts.{not_own, tells_turns}
 use Rattle.mas_top_opening.specs.Opening.{objects_of}
 use Rattle.look_page.specs.Own.{most_turns}
 use Rattle.look_page.proofs.Owned.{owned}
 use Rattle.look_page.proofs.looking.told_of.Goals as goal
+
+pub changes_of-requires-clause-last : goal.changes_of-requires-clause-last
+changes_of-requires-clause-last g c = tells_turns c.args.source c.args.bytes.now c.args.told c.requires.tells
 
 pub returns-in-Some : goal.returns-in-Some
 returns-in-Some g c =
