@@ -2,3 +2,4 @@ pub mod Refused
 pub mod Apart
 pub mod Arithmetic
 pub mod Stays
+pub mod Settling
