@@ -11,6 +11,7 @@ ghost use Rattle.asl_unify.specs.Puts.{IsSubst};
 ghost use Rattle.asl_unify.specs.Renamed.{renamed_literal};
 ghost use Rattle.asl_unify_early.specs.inner.Clashes as spec;
 
+use crate::heads::head_args_pairs;
 use asl_term::sequence::{Seq, Starved};
 use asl_term::syntax::{Listing, Literal, Term};
 use asl_unify::cursors::{Portion, no_portion};
@@ -111,7 +112,7 @@ pub fn match_pairs(alloc: Global, p: &Literal, q: &Literal, s: &Subst) -> Result
     matching::match_pairs(alloc, p, q, s)
 }
 
-/// The same with a literal that is renamed by a number first.
+/// The same with a literal that is renamed by a number first: of its arguments alone, where the other one has no annotations.
 pub fn renamed_pairs(
     alloc: Global,
     p: &Literal,
@@ -126,6 +127,9 @@ pub fn renamed_pairs(
     s.pairs();
     if never_match(p, q) {
         return Ok(Seq::new(alloc));
+    }
+    if p.annots.as_slice().is_empty() && same_frames(p, q) {
+        return head_args_pairs(alloc, p.args.as_slice(), q.args.as_slice(), number, s);
     }
     let head = rename_literal(alloc, q, number)?;
     let found = matching::match_pairs(alloc, p, &head, s);

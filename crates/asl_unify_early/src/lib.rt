@@ -1,5 +1,5 @@
 //! Early answers of `asl_unify`, before a term is built, renamed or copied: relations of numbers, operations in goals, heads that
-//! clash, and literals without an operation.
+//! clash or bind alone, and literals without an operation.
 //!
 //! May stand on: asl_term, asl_unify
 //!
@@ -8,5 +8,6 @@
 
 pub mod clashes;
 pub mod goals;
+pub mod heads;
 pub mod numbers;
 pub mod plain;
