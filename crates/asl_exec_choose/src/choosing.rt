@@ -18,9 +18,9 @@ use asl_resolve::actions::Actions;
 use asl_resolve::answers::Answer;
 use asl_resolve::first::first;
 use asl_term::sequence::{Seq, Starved};
-use asl_term::syntax::{Formula, Formulas, Plan, Trigger};
+use asl_term::syntax::{Expr, Formula, Formulas, Plan, Trigger};
 use asl_unify::rename::{rename_expr, rename_formula, rename_literal};
-use asl_unify::subst::Subst;
+use asl_unify::subst::{Subst, copy_subst};
 use std::alloc::Global;
 
 fn rename_trigger(alloc: Global, t: &Trigger, number: u64) -> Result<Trigger, Starved>
@@ -38,6 +38,7 @@ fn rename_body(alloc: Global, body: &[Formula], number: u64) -> Result<Formulas,
     ensures { IfOk result (λ r. r ≡ map (renamed_formula number) body.now) }
 {
     let mut r = Seq::new(alloc);
+    r.reserve_exact(body.len() as u64)?;
     for f in body {
         r.push(rename_formula(alloc, f, number)?)?;
     }
@@ -53,7 +54,7 @@ pub fn rename_means(alloc: Global, plan: &Plan, number: u64) -> Result<Means, St
     Ok(Means { trigger, body })
 }
 
-/// What the search for the context of a plan answers.
+/// What the search for the context of a plan answers. A context that is true is found at once.
 fn sought<B: BeliefBase, A: Actions>(
     alloc: Global,
     k: &Surroundings<A>,
@@ -66,6 +67,13 @@ fn sought<B: BeliefBase, A: Actions>(
     ensures answer { IfOk result (λ r. r ≡ spec.sought (seen_around A.solve k.now B.rules p.now) (seen B.beliefs p.now) number plan.now s.now) }
     ensures number { IfOk result (λ r. NextAtMost (p.now.number + k.now.budgets.tries) r) }
 {
+    if let Expr::True = &plan.context {
+        let subst = copy_subst(alloc, s)?;
+        return Ok(Answer::Found {
+            subst,
+            next: p.number,
+        });
+    }
     let context = rename_expr(alloc, &plan.context, number)?;
     let answer = first(
         alloc, &p.beliefs, &k.actions, &context, s, p.number, &k.budgets,

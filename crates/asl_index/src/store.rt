@@ -130,6 +130,18 @@ impl Store {
         }
     }
 
+    /// The k-th of these, and how many there are: one look-up for both.
+    pub fn pick(&self, g: &Literal, k: u64) -> (Option<&Literal>, u64)
+        ensures belief { option_copied result.0 ≡ slice_get (filter (same_frame g.now) (kept self.now)) k }
+        ensures count { result.1 ≡ length (filter (same_frame g.now) (kept self.now)) }
+    {
+        let (place, count) = self.frames.pick(g, k);
+        match place {
+            Some(slot) => (self.at(slot), count),
+            None => (None, count),
+        }
+    }
+
     /// The first of these, from the k-th on, that may match by its first argument; how many there are where none may, and `k` itself
     /// where it is not less. Those that are passed over have no match with the goal.
     pub fn next(&self, g: &Literal, k: u64) -> u64

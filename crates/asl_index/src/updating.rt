@@ -186,13 +186,17 @@ fn are_at(percepts: &[Literal], store: &Store, ps: &[u64]) -> bool
 }
 
 /// The same, by the places of what was perceived where they are noted.
-fn are_perceived(percepts: &[Literal], store: &Store, mark: &Term) -> bool
-    requires { mark.now ≡ sources.source_percept }
-    ensures { result ≡ laws.are_perceived percepts.now (kept store.now) }
+fn are_perceived(alloc: Global, percepts: &[Literal], store: &Store) -> Result<bool, Starved>
+    ensures { IfOk result (λ r. r ≡ laws.are_perceived percepts.now (kept store.now)) }
 {
     match store.noted() {
-        Some(ps) => are_at(percepts, store, ps.as_slice()),
-        None => pass_over(percepts, store, mark),
+        Some(ps) => Ok(are_at(percepts, store, ps.as_slice())),
+        None => {
+            let mark = source_percept(alloc)?;
+            let known = pass_over(percepts, store, &mark);
+            drop(mark);
+            Ok(known)
+        }
     }
 }
 
@@ -202,10 +206,8 @@ pub fn are_known(alloc: Global, store: &mut Store, percepts: &[Literal]) -> Resu
     ensures known { IfOk result (λ r. r ≡ laws.are_perceived percepts.now (kept store.old)) }
     ensures same { store.new ≡ store.old }
 {
-    let mark = source_percept(alloc)?;
     store.note(alloc);
-    let known = are_perceived(percepts, store, &mark);
-    drop(mark);
+    let known = are_perceived(alloc, percepts, store)?;
     Ok(known)
 }
 

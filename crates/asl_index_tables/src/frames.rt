@@ -183,6 +183,17 @@ impl Frames {
         }
     }
 
+    /// The k-th of them, and how many there are: one look-up for both.
+    pub fn pick(&self, l: &Literal, k: u64) -> (Option<u64>, u64)
+        ensures place { result.0 ≡ slice_get (filed self.now l.now.neg l.now.functor (length l.now.args)) k }
+        ensures count { result.1 ≡ length (filed self.now l.now.neg l.now.functor (length l.now.args)) }
+    {
+        match self.find(l) {
+            Some(places) => (places.at(k).copied(), places.len()),
+            None => (None, 0),
+        }
+    }
+
     /// The first of them, from the k-th on, of which the number of the first argument may agree with that of a literal, where
     /// these numbers are noted by place; how many there are where there is none, and `k` itself where it is not less.
     pub fn next(&self, l: &Literal, firsts: &[u64], k: u64) -> u64

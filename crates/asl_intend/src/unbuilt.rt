@@ -16,6 +16,7 @@ ghost use Rattle.asl_intend.specs.Stacks.{any_match, with_annots};
 ghost use Rattle.asl_intend.specs.Unbuilt as spec;
 
 use asl_term::compare::same_var;
+use asl_term::name::name_of;
 use asl_term::sequence::{Seq, Starved};
 use asl_term::syntax::{Literal, LiteralOf, Term, Terms, Var};
 use asl_unify::layers::same_frames;
@@ -33,7 +34,7 @@ fn free_name(alloc: Global, v: &Var) -> Result<Var, Starved>
     name.push(b'v')?;
     name.append(v.name.as_slice())?;
     Ok(Var {
-        name,
+        name: name_of(alloc, name.as_slice())?,
         number: v.number,
     })
 }
@@ -42,8 +43,7 @@ fn free_name(alloc: Global, v: &Var) -> Result<Var, Starved>
 fn pair_name(alloc: Global, number: u64) -> Result<Var, Starved>
     ensures { IfOk result (λ r. r ≡ spec.pair_name number) }
 {
-    let mut name = Seq::new(alloc);
-    name.push(b'p')?;
+    let name = name_of(alloc, b"p")?;
     Ok(Var { name, number })
 }
 

@@ -9,6 +9,7 @@ use crate::lexeme::Lexeme;
 use crate::meaning::{Joint, Meaning, Prefix, truth};
 use asl_lexer::token::Sign;
 use asl_term::copying::copy_text;
+use asl_term::name::name_of;
 use asl_term::sequence::Starved;
 use asl_term::syntax::{Op, RelOp, Term, Text, Var};
 use std::alloc::Global;
@@ -281,7 +282,7 @@ pub fn variable(alloc: Global, name: &Text) -> Result<Term, Starved>
     ensures { IfOk result (λ t. t ≡ spec.variable name.now) }
 {
     Ok(Term::Var(Var {
-        name: copy_text(alloc, name)?,
+        name: name_of(alloc, name.as_slice())?,
         number: 0,
     }))
 }

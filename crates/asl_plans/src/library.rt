@@ -15,9 +15,8 @@ use asl_index_tables::keys::Keys;
 use asl_term::sequence::{Seq, Starved};
 use asl_term::syntax::{Kind, Literal, Plan, Plans, Trigger};
 use asl_unify::layers::same_frames;
-use asl_unify::matching::first_match;
-use asl_unify::rename::rename_literal;
-use asl_unify::subst::{Subst, no_subst};
+use asl_unify::subst::Subst;
+use asl_unify_early::clashes::renamed_first;
 use std::alloc::Global;
 use std::marker::Model;
 
@@ -96,9 +95,7 @@ fn first_way(
     if !same_frames(&plan.lit, &event.lit) {
         return Ok(None);
     }
-    let lit = rename_literal(alloc, &plan.lit, number)?;
-    let found = first_match(alloc, &lit, &event.lit, &no_subst(alloc))?;
-    Ok(found)
+    renamed_first(alloc, &plan.lit, number, &event.lit)
 }
 
 /// Puts the plan at a place last among the choices, with its first match, where it has one.

@@ -1,3 +1,4 @@
+pub mod Kept
 pub mod formers
 pub mod Spare
 pub mod Layers

@@ -5,6 +5,7 @@ ghost use Rattle.std.specs.Str.{bytes_eq};
 ghost use Rattle.asl_term.specs.Same.{all_same, same_tree};
 ghost use Rattle.asl_term.specs.Trees as vars;
 
+use crate::name::same_name;
 use crate::syntax::{Op, Term, Text, Var};
 
 /// Whether two texts are the same, byte by byte.
@@ -21,7 +22,7 @@ pub fn same_var(a: &Var, b: &Var) -> bool
     ensures same { IsTrue result ↔ (a.now ≡ b.now) }
     ensures value { result ≡ vars.same_var a.now b.now }
 {
-    a.number == b.number && same_text(&a.name, &b.name)
+    a.number == b.number && same_name(&a.name, &b.name)
 }
 
 fn same_op(a: Op, b: Op) -> bool

@@ -3,6 +3,7 @@
 ghost use Rattle.std.specs.Prelude.{◌≡◌, IfOk};
 
 use crate::boxed::Boxed;
+use crate::name::copy_name;
 use crate::sequence::{Seq, Starved};
 use crate::syntax::{
     Arg, ArgOf, Args, ArithOf, Call, CallOf, Expr, Formula, Formulas, ListingOf, Literal,
@@ -32,7 +33,7 @@ pub fn copy_var(alloc: Global, v: &Var) -> Result<Var, Starved>
     ensures { IfOk result (λ r. r ≡ v.now) }
 {
     Ok(Var {
-        name: copy_text(alloc, &v.name)?,
+        name: copy_name(alloc, &v.name)?,
         number: v.number,
     })
 }

@@ -11,6 +11,7 @@ pub mod compare_expr;
 pub mod copying;
 pub mod expr_measure;
 pub mod measure;
+pub mod name;
 pub mod names;
 pub mod printing;
 pub mod printing_expr;

@@ -8,6 +8,7 @@ ghost use Rattle.asl_term.specs.declared.syntax.Expr.TheVariants as expr;
 ghost use Rattle.asl_term.specs.Halves.{is_conjunction};
 
 use crate::boxed::Boxed;
+use crate::name::Name;
 use crate::sequence::Seq;
 
 /// A text, as its bytes.
@@ -37,7 +38,7 @@ pub type Files = Seq<Filed>;
 /// A variable. Its number is 0 in a source, and that of a renaming else. The k-th unnamed variable of a
 /// clause has the name `_`, a space and k.
 pub struct Var {
-    pub name: Text,
+    pub name: Name,
     pub number: u64,
 }
 

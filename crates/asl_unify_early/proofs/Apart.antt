@@ -25,7 +25,7 @@ use Rattle.asl_unify.specs.Unifiers.{UnifiesAll}
 use Rattle.asl_unify.specs.Matches.{matches, annots, on_unified}
 use Rattle.asl_unify.specs.Cursors.{annots_left, matches_left}
 use Rattle.asl_unify.specs.Renamed.{numbered, renamed, renamed_literal}
-use Rattle.asl_unify_early.specs.inner.Clashes.{lists_clash, layers_clash, HasClash, NeverMatch}
+use Rattle.asl_unify_early.specs.inner.Clashes.{lists_clash, layers_clash, HasClash, NeverMatch, NeverMatched}
 use Rattle.asl_unify.proofs.Views.{made_out}
 use Rattle.asl_unify.proofs.Unified.{unified_general}
 use Rattle.asl_unify_early.proofs.Refused.{lits_apart, nums_apart, bare_apart}
@@ -140,3 +140,10 @@ clashes p q h = (
   λ n. no_match p (renamed_literal n q) (no_place p.args (map (renamed n) q.args) h.place h.left (renamed n h.right) h.at_left
       (get_map (renamed n) q.args h.place h.right h.at_right) (apart n h.left h.right h.clash)),
 )
+
+-- nor is there one the other way round, where the second is renamed
+pub clashes_turned : (p q : LiteralOf Term) → HasClash q.args p.args → NeverMatched p q
+clashes_turned p q h n s i =
+    let none = no_match (renamed_literal n p) q (no_place (map (renamed n) p.args) q.args h.place (renamed n h.right) h.left
+    (get_map (renamed n) p.args h.place h.right h.at_right) h.at_left (λ t d. apart n h.left h.right h.clash t (sym d))) s i in
+    none.0

@@ -1,3 +1,4 @@
 pub mod Clashes
 pub mod Numbers
 pub mod Plain
+pub mod Heads

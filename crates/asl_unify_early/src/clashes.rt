@@ -1,7 +1,7 @@
 //! Matches of a goal with a belief and with the head of a rule. The head is not renamed, and nothing is unified, where the topmost
 //! layers of two arguments show that there is no match.
 
-ghost use Rattle.std.specs.Prelude.{◌≡◌, ◌++◌, [], true, length, IfOk};
+ghost use Rattle.std.specs.Prelude.{◌≡◌, ◌++◌, [], true, length, slice_get, IfOk};
 ghost use Rattle.std.specs.List.{AllByRecursion};
 ghost use Rattle.asl_term.specs.declared.syntax.Term.{out-Term};
 ghost use Rattle.asl_unify.specs.Compare.{same_head};
@@ -11,12 +11,13 @@ ghost use Rattle.asl_unify.specs.Puts.{IsSubst};
 ghost use Rattle.asl_unify.specs.Renamed.{renamed_literal};
 ghost use Rattle.asl_unify_early.specs.inner.Clashes as spec;
 
+use crate::heads::head_args_pairs;
 use asl_term::sequence::{Seq, Starved};
 use asl_term::syntax::{Listing, Literal, Term};
 use asl_unify::cursors::{Portion, no_portion};
 use asl_unify::layers::same_frames;
 use asl_unify::rename::rename_literal;
-use asl_unify::subst::{PairLists, Subst};
+use asl_unify::subst::{PairLists, Subst, no_subst};
 use asl_unify::{cursors, matching};
 use std::alloc::Global;
 
@@ -111,7 +112,7 @@ pub fn match_pairs(alloc: Global, p: &Literal, q: &Literal, s: &Subst) -> Result
     matching::match_pairs(alloc, p, q, s)
 }
 
-/// The same with a literal that is renamed by a number first.
+/// The same with a literal that is renamed by a number first: of its arguments alone, where the other one has no annotations.
 pub fn renamed_pairs(
     alloc: Global,
     p: &Literal,
@@ -126,6 +127,9 @@ pub fn renamed_pairs(
     s.pairs();
     if never_match(p, q) {
         return Ok(Seq::new(alloc));
+    }
+    if p.annots.as_slice().is_empty() && same_frames(p, q) {
+        return head_args_pairs(alloc, p.args.as_slice(), q.args.as_slice(), number, s);
     }
     let head = rename_literal(alloc, q, number)?;
     let found = matching::match_pairs(alloc, p, &head, s);
@@ -175,5 +179,35 @@ pub fn renamed_portion(
     let head = rename_literal(alloc, q, number)?;
     let found = cursors::match_portion(alloc, p, &head, s, at);
     drop(head);
+    found
+}
+
+/// Whether a literal has no match with another one, whatever number its variables get, by the topmost layers of their arguments.
+fn never_matched(p: &Literal, q: &Literal) -> bool
+    ensures { result ≡ true → spec.NeverMatched p.now q.now }
+{
+    let xs = q.args.as_slice();
+    let ys = p.args.as_slice();
+    if xs.len() != ys.len() {
+        return false;
+    }
+    has_clash(xs, ys)
+}
+
+/// The first match of a literal, renamed by a number, with another one under no substitution, if there is one.
+pub fn renamed_first(
+    alloc: Global,
+    p: &Literal,
+    number: u64,
+    q: &Literal,
+) -> Result<Option<Subst>, Starved>
+    ensures { IfOk result (λ r. r ≡ slice_get (matches (renamed_literal number p.now) q.now []) 0) }
+{
+    if never_matched(p, q) {
+        return Ok(None);
+    }
+    let renamed = rename_literal(alloc, p, number)?;
+    let found = matching::first_match(alloc, &renamed, q, &no_subst(alloc));
+    drop(renamed);
     found
 }

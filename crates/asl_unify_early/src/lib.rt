@@ -1,5 +1,5 @@
-//! Early answers of `asl_unify`, before a term is built, renamed or copied: relations of numbers, heads that clash, and literals without an
-//! operation.
+//! Early answers of `asl_unify`, before a term is built, renamed or copied: relations of numbers, operations in goals, heads that
+//! clash or bind alone, and literals without an operation.
 //!
 //! May stand on: asl_term, asl_unify
 //!
@@ -7,5 +7,7 @@
 #![tactic(auto)]
 
 pub mod clashes;
+pub mod goals;
+pub mod heads;
 pub mod numbers;
 pub mod plain;

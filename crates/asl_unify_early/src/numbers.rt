@@ -43,7 +43,7 @@ fn computed(op: Op, m: i64, n: i64) -> Option<i64>
 }
 
 /// The number of a sum, a difference or a product of two such operands.
-fn result_of(a: &Arith, s: &Subst) -> Option<i64>
+pub fn result_of(a: &Arith, s: &Subst) -> Option<i64>
     requires { IsSubst s.now }
     ensures { IfSome result (λ n. BecomesNumber s.now (term.Op a.now) n) }
 {

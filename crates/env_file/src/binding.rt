@@ -7,7 +7,7 @@ ghost use Rattle.env_file.specs.Binding as spec;
 
 use crate::statement::{Effect, Part, WrittenAct};
 use asl_term::compare::same_var;
-use asl_term::copying::{copy_literal, copy_text, copy_var};
+use asl_term::copying::{copy_literal, copy_var, text_of};
 use asl_term::sequence::{Seq, Starved};
 use asl_term::syntax::{Literal, RelOp, Relation, Term, Text, Var};
 use asl_term::variables::{Vars, variables};
@@ -112,7 +112,7 @@ fn first_free(alloc: Global, bound: &[Var], vs: &[Var]) -> Result<Option<Text>, 
     let mut rest = vs;
     'variables: while let Some((v, after)) = rest.split_first() {
         if !is_bound(bound, v) {
-            return Ok(Some(copy_text(alloc, &v.name)?));
+            return Ok(Some(text_of(alloc, v.name.as_slice())?));
         }
         rest = after;
     }

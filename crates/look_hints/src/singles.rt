@@ -4,7 +4,7 @@ use crate::hint::{Code, Hint, Hints, hint_at, noted, noted_if, span_of};
 use asl_lexer::token::{Sign, Word};
 use asl_parser::sentence::Sentence;
 use asl_parser_tree::plain::{is_plain, is_plain_literal};
-use asl_term::copying::text_of;
+use asl_term::name::name_of;
 use asl_term::printing_expr::print_formula;
 use asl_term::sequence::{Seq, Starved};
 use asl_term::syntax::{ArgOf, Call, Expr, Formula, Literal, Plan, Term, Text, Var};
@@ -159,7 +159,7 @@ fn valueless_note(
         return Ok(None);
     };
     let x = Var {
-        name: text_of(alloc, name)?,
+        name: name_of(alloc, name)?,
         number: 0,
     };
     let note = valueless(alloc, p, &x);

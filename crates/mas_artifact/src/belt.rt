@@ -11,6 +11,7 @@ use crate::frames::{is_call, unary};
 use asl_term::boxed::Boxed;
 use asl_term::compare::equal_all;
 use asl_term::copying::{copy, copy_all, text_of};
+use asl_term::name::name_of;
 use asl_term::sequence::{Seq, Starved};
 use asl_term::syntax::{ListingOf, Literal, Literals, Term, Terms, Text, Var};
 use asl_unify::subst::no_subst;
@@ -152,7 +153,7 @@ fn asked_literal(alloc: Global, t: &Term) -> Result<Literal, Starved>
 {
     let mut items = Seq::new(alloc);
     items.push(copy(alloc, t)?)?;
-    let name = text_of(alloc, b"L")?;
+    let name = name_of(alloc, b"L")?;
     let tail = Boxed::new(alloc, Term::Var(Var { name, number: 0 }))?;
     unary(
         alloc,

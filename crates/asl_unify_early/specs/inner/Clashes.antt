@@ -46,3 +46,7 @@ HasNoMatch p q = (s : List Pair) → IsSubst s → (matches p q s ≡ []) × ((a
 -- a literal has no match with another one, as it is and whatever number its variables get
 abbrev pub NeverMatch : LiteralOf Term → LiteralOf Term → Type 0
 NeverMatch p q = HasNoMatch p q × ((number : ℕ) → HasNoMatch p (renamed_literal number q))
+
+-- a literal has no match with another one, whatever number its variables get
+abbrev pub NeverMatched : LiteralOf Term → LiteralOf Term → Type 0
+NeverMatched p q = (number : ℕ) (s : List Pair) → IsSubst s → matches (renamed_literal number p) q s ≡ []
