@@ -5,7 +5,8 @@ use crate::phrase::Phrase;
 use crate::reading::read;
 use asl_lexer::token::Word;
 use asl_term::copying::text_of;
-use asl_term::sequence::Starved;
+use asl_term::printing::write_number;
+use asl_term::sequence::{Seq, Starved};
 use asl_term::syntax::Text;
 use std::alloc::Global;
 
@@ -31,6 +32,22 @@ pub enum FixKind {
     Instead,
     Relation,
     Extra,
+}
+
+/// All of these, one behind the other.
+pub fn joined(alloc: Global, parts: &[&[u8]]) -> Result<Text, Starved> {
+    let mut text = Seq::new(alloc);
+    for part in parts {
+        text.append(*part)?;
+    }
+    Ok(text)
+}
+
+/// `L:C`
+pub fn put_place(alloc: Global, line: u64, column: u64, out: &mut Text) -> Result<(), Starved> {
+    write_number(alloc, line, out)?;
+    out.push(b':')?;
+    write_number(alloc, column, out)
 }
 
 /// A change: what is put, for which pair of signs or behind which line and column.

@@ -1,6 +1,7 @@
 //! Sentences, put together of their parts.
 
 use crate::excerpt::put_shown;
+use crate::mending::put_place;
 use crate::table::Arity;
 use asl_term::printing::write_number;
 use asl_term::sequence::{Seq, Starved};
@@ -18,13 +19,6 @@ pub enum Phrase<'a> {
     Place(u64, u64),
     /// How many arguments an internal action takes.
     Arguments(Arity),
-}
-
-/// `L:C`
-pub fn put_place(alloc: Global, line: u64, column: u64, out: &mut Text) -> Result<(), Starved> {
-    write_number(alloc, line, out)?;
-    out.push(b':')?;
-    write_number(alloc, column, out)
 }
 
 fn put_arguments(alloc: Global, arity: Arity, out: &mut Text) -> Result<(), Starved> {
@@ -65,13 +59,4 @@ pub fn sentence(alloc: Global, phrases: &[Phrase<'_>]) -> Result<Text, Starved> 
         put_phrase(alloc, *phrase, &mut out)?;
     }
     Ok(out)
-}
-
-/// All of these, one behind the other.
-pub fn joined(alloc: Global, parts: &[&[u8]]) -> Result<Text, Starved> {
-    let mut text = Seq::new(alloc);
-    for part in parts {
-        text.append(*part)?;
-    }
-    Ok(text)
 }

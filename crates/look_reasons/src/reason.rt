@@ -2,8 +2,8 @@
 
 use crate::bytes::byte_at;
 use crate::mark::{Mark, between, spliced};
-use crate::mending::{Fix, FixKind, Piece, expected, fix_phrases, is_pair, mend};
-use crate::phrase::{Phrase, joined, put_phrase, sentence};
+use crate::mending::{Fix, FixKind, Piece, expected, fix_phrases, is_pair, joined, mend};
+use crate::phrase::{Phrase, put_phrase, sentence};
 use crate::reading::{Halt, Part, Reading, Sort, read};
 use crate::repair::repaired;
 use crate::rules::{OTHERWISE, RULES, Rule, Say, Span, Test};

@@ -18,7 +18,7 @@ use look_pieces::spoilt::{piece_end, with_bytes};
 use look_reasons::bytes::{Mended, Spoilt};
 use look_reasons::excerpt::shown;
 use look_reasons::mark::{Mark, is_atom, is_sign, marks_of};
-use look_reasons::phrase::put_place;
+use look_reasons::mending::put_place;
 use look_reasons::reason::{Reason, reason_at};
 use mas_project::fault::ProjectFault;
 use mas_project::names::MOST_AGENTS;
