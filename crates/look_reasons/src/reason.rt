@@ -337,13 +337,13 @@ fn bytes_at(a: &Around<'_>, span: Span) -> (usize, usize) {
 }
 
 /// The first rule that fits.
-fn rule_at(a: &Around<'_>) -> Rule {
+fn rule_at(a: &Around<'_>) -> &'static Rule {
     for rule in &RULES {
         if fits(a, rule) {
-            return *rule;
+            return rule;
         }
     }
-    OTHERWISE
+    &OTHERWISE
 }
 
 /// Whether a change is of use for a reason of this code.
@@ -479,7 +479,7 @@ fn reason_for(
     let (at, end) = bytes_at(&a, rule.span);
     let text = said_at(alloc, &a, rule.words)?;
     let mut notes = Seq::new(alloc);
-    put_change(alloc, &a, &rule, &mut notes)?;
+    put_change(alloc, &a, rule, &mut notes)?;
     put_clause(alloc, &a, at, &mut notes)?;
     Ok(Reason {
         at,

@@ -85,7 +85,6 @@ pub enum Span {
 }
 
 /// What is told where all of these tests hold: a stable word for it, the reason and a note.
-#[derive(Clone, Copy)]
 pub struct Rule {
     pub tests: &'static [Test],
     pub span: Span,
