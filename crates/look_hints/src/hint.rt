@@ -4,7 +4,7 @@ use asl_lexer::token::Place;
 use asl_term::sequence::{Seq, Starved};
 use asl_term::syntax::Text;
 use look_reasons::mark::Mark;
-use look_reasons::mending::joined;
+use look_reasons::phrase::joined;
 use look_reasons::reason::Reason;
 use std::alloc::Global;
 

@@ -10,7 +10,7 @@ use asl_term::sequence::{Seq, Starved};
 use asl_term::syntax::{ArgOf, Call, Expr, Formula, Literal, Plan, Term, Text, Var};
 use asl_term::variables::occurs;
 use look_reasons::mark::{Mark, is_sign};
-use look_reasons::mending::joined;
+use look_reasons::phrase::joined;
 use std::alloc::Global;
 
 /// Whether a variable has this one token in its clause, and no `_` in front.

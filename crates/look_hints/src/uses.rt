@@ -9,7 +9,7 @@ use asl_parser::sentence::Sentence;
 use asl_term::sequence::Starved;
 use asl_term::syntax::{ArgOf, Call, Expr, Formula, Literal, Plan};
 use look_reasons::mark::Mark;
-use look_reasons::mending::joined;
+use look_reasons::phrase::joined;
 use std::alloc::Global;
 
 /// What a literal is for.

@@ -9,7 +9,7 @@ use asl_term::syntax::Text;
 use std::alloc::Global;
 
 /// What is at fault.
-#[derive(Clone, Copy)]
+#[derive(Clone, Copy, PartialEq, Eq)]
 pub enum Flaw {
     Byte,
     /// A byte in a string.
@@ -67,11 +67,28 @@ const OPEN_QUOTE: &[u8] = b"\xe2\x80\x9c";
 
 const CLOSE_QUOTE: &[u8] = b"\xe2\x80\x9d";
 
-/// The place of the first such byte from a place on, before a line feed; else the end of the line.
-fn find_in_line(bytes: &[u8], from: usize, byte: u8) -> usize {
+/// Bytes that are taken together.
+#[derive(Clone, Copy)]
+enum Run {
+    Line,
+    Digits,
+    /// Bytes of no ASCII.
+    Letters,
+}
+
+fn is_in(run: Run, byte: u8) -> bool {
+    match run {
+        Run::Line => byte != b'\n',
+        Run::Digits => byte.is_ascii_digit(),
+        Run::Letters => byte >= 128,
+    }
+}
+
+/// The place behind a run of bytes.
+fn run_end(bytes: &[u8], from: usize, run: Run) -> usize {
     let mut at = from;
     for b in between(bytes, from, bytes.len()) {
-        if *b == byte || *b == b'\n' {
+        if !is_in(run, *b) {
             return at;
         }
         at = at.saturating_add(1);
@@ -80,7 +97,7 @@ fn find_in_line(bytes: &[u8], from: usize, byte: u8) -> usize {
 }
 
 pub fn line_end(bytes: &[u8], from: usize) -> usize {
-    find_in_line(bytes, from, b'\n')
+    run_end(bytes, from, Run::Line)
 }
 
 pub fn byte_at(bytes: &[u8], at: usize) -> u8 {
@@ -92,18 +109,6 @@ pub fn byte_at(bytes: &[u8], at: usize) -> u8 {
 
 pub fn begins(bytes: &[u8], at: usize, with: &[u8]) -> bool {
     between(bytes, at, bytes.len()).starts_with(with)
-}
-
-/// The place behind the digits.
-fn digits_end(bytes: &[u8], from: usize) -> usize {
-    let mut at = from;
-    for b in between(bytes, from, bytes.len()) {
-        if *b < b'0' || *b > b'9' {
-            return at;
-        }
-        at = at.saturating_add(1);
-    }
-    at
 }
 
 fn is_quote(bytes: &[u8], at: usize) -> bool {
@@ -132,18 +137,6 @@ fn quote_end(bytes: &[u8], at: usize) -> usize {
     behind_in_line(bytes, inside, b"\"").unwrap_or(inside)
 }
 
-/// The place behind the bytes of no ASCII.
-fn letters_end(bytes: &[u8], from: usize) -> usize {
-    let mut at = from;
-    for b in between(bytes, from, bytes.len()) {
-        if *b < 128 {
-            return at;
-        }
-        at = at.saturating_add(1);
-    }
-    at
-}
-
 /// Where the bytes end that a byte in no token belongs to.
 fn byte_end(bytes: &[u8], at: usize) -> usize {
     let next = at.saturating_add(1);
@@ -161,7 +154,7 @@ fn byte_end(bytes: &[u8], at: usize) -> usize {
         return quote_end(bytes, at);
     }
     if byte >= 128 {
-        return letters_end(bytes, next);
+        return run_end(bytes, next, Run::Letters);
     }
     next
 }
@@ -179,58 +172,31 @@ fn is_quoted(raw: &[u8]) -> bool {
     is_quote(raw, 0) && closed && raw.len() > 3
 }
 
-/// As many such bytes.
-fn filled(alloc: Global, byte: u8, count: usize) -> Result<Text, Starved> {
-    let mut text = Seq::new(alloc);
-    for _ in 0..count {
-        text.push(byte)?;
-    }
-    Ok(text)
+/// What bytes are taken for.
+#[derive(Clone, Copy)]
+enum Fill {
+    Byte(u8),
+    /// A string.
+    String,
+    /// Blanks for all but line feeds.
+    Blank,
 }
 
-fn quoted(alloc: Global, count: usize) -> Result<Text, Starved> {
-    let mut text = text_of(alloc, b"\"")?;
-    for _ in 2..count {
-        text.push(b'x')?;
+fn filled(fill: Fill, byte: u8, is_edge: bool) -> u8 {
+    match fill {
+        Fill::Byte(b) => b,
+        Fill::String => if is_edge { b'"' } else { b'x' },
+        Fill::Blank => if byte == b'\n' { b'\n' } else { b' ' },
     }
-    text.push(b'"')?;
-    Ok(text)
 }
 
 /// What bytes outside strings are taken for, and whether that is meant.
-fn meant(alloc: Global, raw: &[u8], behind: u8) -> Result<(Text, bool), Starved> {
-    if is_quoted(raw) {
-        return Ok((quoted(alloc, raw.len())?, true));
-    }
-    if raw == b"/".as_slice() {
-        return Ok((text_of(alloc, b"*")?, true));
-    }
-    if raw == b"\\".as_slice() && behind == b'=' {
-        return Ok((text_of(alloc, b"=")?, true));
-    }
-    let blank = begins(raw, 0, b"%") || raw == MARK;
-    Ok((filled(alloc, b' ', raw.len())?, blank))
-}
-
-/// Blanks for all bytes but line feeds.
-fn blanked(alloc: Global, raw: &[u8]) -> Result<Text, Starved> {
-    let mut text = Seq::new(alloc);
-    for b in raw {
-        text.push(if *b == b'\n' { b'\n' } else { b' ' })?;
-    }
-    Ok(text)
-}
-
-/// A fault, and what stands in its place.
-struct Patch {
-    fault: Spoilt,
-    fill: Text,
-}
-
-/// By hand, so that who lets one go proves nothing of its parts.
-impl Drop for Patch {
-    fn drop(self) {
-        let Patch { fault: _, fill: _ } = self;
+fn meant(raw: &[u8], behind: u8) -> (Fill, bool) {
+    match raw {
+        b"/" => (Fill::Byte(b'*'), true),
+        b"\\" if behind == b'=' => (Fill::Byte(b'='), true),
+        _ if is_quoted(raw) => (Fill::String, true),
+        _ => (Fill::Byte(b' '), begins(raw, 0, b"%") || raw == MARK),
     }
 }
 
@@ -242,56 +208,69 @@ fn is_inside(alloc: Global, bytes: &[u8], at: usize) -> Result<bool, Starved> {
     }
 }
 
-fn patch_of(flaw: Flaw, at: usize, end: usize, mended: bool, fill: Text) -> Patch {
-    Patch {
-        fault: Spoilt {
-            flaw,
-            at,
-            end,
-            mended,
-        },
-        fill,
-    }
+/// A fault, and what stands in its place.
+type Patch = (Spoilt, Fill);
+
+fn patch_of(flaw: Flaw, at: usize, end: usize, fill: Fill, mended: bool) -> Patch {
+    let fault = Spoilt {
+        flaw,
+        at,
+        end,
+        mended,
+    };
+    (fault, fill)
 }
 
-fn byte_patch(alloc: Global, bytes: &[u8], at: usize) -> Result<Patch, Starved> {
-    if is_inside(alloc, bytes, at)? {
-        let end = at.saturating_add(1);
-        return Ok(patch_of(Flaw::Inside, at, end, true, text_of(alloc, b"x")?));
+fn byte_patch(bytes: &[u8], at: usize, inside: bool) -> Patch {
+    if inside {
+        return patch_of(
+            Flaw::Inside,
+            at,
+            at.saturating_add(1),
+            Fill::Byte(b'x'),
+            true,
+        );
     }
     let end = byte_end(bytes, at).min(bytes.len());
-    let (fill, mended) = meant(alloc, between(bytes, at, end), byte_at(bytes, end))?;
-    Ok(patch_of(Flaw::Byte, at, end, mended, fill))
+    let (fill, mended) = meant(between(bytes, at, end), byte_at(bytes, end));
+    patch_of(Flaw::Byte, at, end, fill, mended)
 }
 
 fn patch_for(alloc: Global, bytes: &[u8], why: LexFault) -> Result<Patch, Starved> {
     match why {
         LexFault::Memory => Err(Starved),
-        LexFault::BadByte(at) => byte_patch(alloc, bytes, at as usize),
+        LexFault::BadByte(at) => {
+            let at = at as usize;
+            Ok(byte_patch(bytes, at, is_inside(alloc, bytes, at)?))
+        }
         LexFault::OpenString(at) => {
-            let at = at as usize;
-            let end = line_end(bytes, at);
-            let fill = filled(alloc, b' ', end.saturating_sub(at))?;
-            Ok(patch_of(Flaw::String, at, end, false, fill))
+            let end = line_end(bytes, at as usize);
+            Ok(patch_of(Flaw::String, at as usize, end, Fill::Byte(b' '), false))
         }
-        LexFault::OpenComment(at) => {
-            let at = at as usize;
-            let fill = blanked(alloc, between(bytes, at, bytes.len()))?;
-            Ok(patch_of(Flaw::Comment, at, bytes.len(), false, fill))
-        }
+        LexFault::OpenComment(at) => Ok(patch_of(
+            Flaw::Comment,
+            at as usize,
+            bytes.len(),
+            Fill::Blank,
+            false,
+        )),
         LexFault::NumberRange(at) => {
-            let at = at as usize;
-            let end = digits_end(bytes, at);
-            let fill = filled(alloc, b'0', end.saturating_sub(at))?;
-            Ok(patch_of(Flaw::Number, at, end, true, fill))
+            let end = run_end(bytes, at as usize, Run::Digits);
+            Ok(patch_of(Flaw::Number, at as usize, end, Fill::Byte(b'0'), true))
         }
     }
 }
 
-fn patched(alloc: Global, bytes: &[u8], p: &Patch) -> Result<Text, Starved> {
-    let mut text = text_of(alloc, between(bytes, 0, p.fault.at))?;
-    text.append(p.fill.as_slice())?;
-    text.append(between(bytes, p.fault.end, bytes.len()))?;
+fn patched(alloc: Global, bytes: &[u8], fault: Spoilt, fill: Fill) -> Result<Text, Starved> {
+    let mut text = Seq::new(alloc);
+    let last = fault.end.saturating_sub(1);
+    for (at, b) in bytes.iter().enumerate() {
+        if at < fault.at || at > last {
+            text.push(*b)?;
+        } else {
+            text.push(filled(fill, *b, at == fault.at || at == last))?;
+        }
+    }
     Ok(text)
 }
 
@@ -309,9 +288,9 @@ pub fn mended_of(alloc: Global, bytes: &[u8]) -> Result<Mended, Starved> {
                 });
             }
             Err(why) => {
-                let p = patch_for(alloc, text.as_slice(), why)?;
-                faults.push(p.fault)?;
-                text = patched(alloc, text.as_slice(), &p)?;
+                let (fault, fill) = patch_for(alloc, text.as_slice(), why)?;
+                faults.push(fault)?;
+                text = patched(alloc, text.as_slice(), fault, fill)?;
             }
         }
     }

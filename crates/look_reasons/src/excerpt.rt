@@ -32,13 +32,8 @@ fn sign_at(bytes: &[u8]) -> Option<(char, usize)> {
     None
 }
 
-fn digit(n: u8) -> char {
-    let n = n % 16;
-    if n < 10 {
-        char::from(b'0' + n)
-    } else {
-        char::from(b'a' + (n - 10))
-    }
+fn digit(n: u8) -> u8 {
+    b"0123456789abcdef"[(n % 16) as usize]
 }
 
 fn is_shown(sign: char) -> bool {
@@ -46,13 +41,12 @@ fn is_shown(sign: char) -> bool {
     n == 9 || (n >= 32 && !(n >= 127 && n < 160) && n != 0xfeff)
 }
 
-/// The signs of bytes: a byte that is no UTF-8 as `\xNN`, a control sign as `?`.
-fn signs_of(alloc: Global, bytes: &[u8]) -> Result<Vec<char>, Starved> {
-    let mut signs = Vec::new(alloc);
+/// Puts the signs of bytes: a byte that is no UTF-8 as `\xNN`, a control sign as `?`.
+fn put_signs(bytes: &[u8], signs: &mut Vec<char>) -> Result<(), Starved> {
     let mut rest = bytes;
     for _ in 0..bytes.len() {
         let Some((byte, after)) = rest.split_first() else {
-            return Ok(signs);
+            return Ok(());
         };
         match sign_at(rest) {
             Some((sign, len)) => {
@@ -60,18 +54,20 @@ fn signs_of(alloc: Global, bytes: &[u8]) -> Result<Vec<char>, Starved> {
                 rest = between(rest, len, rest.len());
             }
             None => {
-                signs.push('\\')?;
-                signs.push('x')?;
-                signs.push(digit(*byte / 16))?;
-                signs.push(digit(*byte))?;
+                let high = digit(*byte / 16);
+                let low = digit(*byte);
+                for b in [b'\\', b'x', high, low] {
+                    signs.push(char::from(b))?;
+                }
                 rest = after;
             }
         }
     }
-    Ok(signs)
+    Ok(())
 }
 
-pub fn put_signs(alloc: Global, signs: &[char], out: &mut Text) -> Result<(), Starved> {
+/// Puts signs as UTF-8.
+fn put_text(alloc: Global, signs: &[char], out: &mut Text) -> Result<(), Starved> {
     let mut text = String::new(alloc);
     for sign in signs {
         text.push(*sign)?;
@@ -79,62 +75,18 @@ pub fn put_signs(alloc: Global, signs: &[char], out: &mut Text) -> Result<(), St
     out.append(text.as_bytes())
 }
 
+/// Puts bytes of a source as they are shown.
+pub fn put_shown(alloc: Global, bytes: &[u8], out: &mut Text) -> Result<(), Starved> {
+    let mut signs = Vec::new(alloc);
+    put_signs(bytes, &mut signs)?;
+    put_text(alloc, signs.as_slice(), out)
+}
+
 /// Bytes of a source as they are shown.
 pub fn shown(alloc: Global, bytes: &[u8]) -> Result<Text, Starved> {
     let mut out = Seq::new(alloc);
-    let signs = signs_of(alloc, bytes)?;
-    put_signs(alloc, signs.as_slice(), &mut out)?;
+    put_shown(alloc, bytes, &mut out)?;
     Ok(out)
-}
-
-/// A line in three parts: what stands before the place, what is marked, and what is behind.
-struct Parts {
-    head: Vec<char>,
-    marked: Vec<char>,
-    tail: Vec<char>,
-}
-
-/// By hand, so that who lets one go proves nothing of its parts.
-impl Drop for Parts {
-    fn drop(self) {
-        let Parts {
-            head: _,
-            marked: _,
-            tail: _,
-        } = self;
-    }
-}
-
-/// Some signs, behind others.
-fn with_signs(alloc: Global, front: &[u8], signs: &[char]) -> Result<Vec<char>, Starved> {
-    let mut all = signs_of(alloc, front)?;
-    for sign in signs {
-        all.push(*sign)?;
-    }
-    Ok(all)
-}
-
-/// The parts, of a long line shortened.
-fn shortened(alloc: Global, p: Parts) -> Result<Parts, Starved> {
-    let all = p.head.len().saturating_add(p.marked.len());
-    if all.saturating_add(p.tail.len()) <= WIDE {
-        return Ok(p);
-    }
-    let from = p.head.len().saturating_sub(KEPT);
-    let head = if p.head.len() > BEFORE {
-        with_signs(alloc, b".. ", &p.head.as_slice()[from..])?
-    } else {
-        with_signs(alloc, b"", p.head.as_slice())?
-    };
-    let most = p.marked.len().min(MARKED);
-    let marked = with_signs(alloc, b"", &p.marked.as_slice()[..most])?;
-    let left = WIDE.saturating_sub(head.len().saturating_add(most));
-    let kept = p.tail.len().min(left);
-    let mut tail = with_signs(alloc, b"", &p.tail.as_slice()[..kept])?;
-    for sign in [' ', '.', '.'] {
-        tail.push(sign)?;
-    }
-    Ok(Parts { head, marked, tail })
 }
 
 /// A line without its carriage returns at the end.
@@ -171,26 +123,70 @@ fn put_wide(alloc: Global, n: u64, out: &mut Text) -> Result<(), Starved> {
     out.append(digits.as_slice())
 }
 
-fn put_caret(p: &Parts, out: &mut Text) -> Result<(), Starved> {
+/// A line in three parts: what stands before the place, what is marked, and what is behind.
+#[derive(Clone, Copy)]
+struct Parts<'a> {
+    head: &'a [char],
+    marked: &'a [char],
+    tail: &'a [char],
+    /// What stands for what is left out before the head, and behind the tail.
+    before: &'static [u8],
+    behind: &'static [u8],
+}
+
+/// The parts of a line of which the signs from one place to another are marked, of a long line shortened.
+fn parts_of(signs: &[char], from: usize, to: usize) -> Parts<'_> {
+    let (front, tail) = signs.split_at(to.min(signs.len()));
+    let (head, marked) = front.split_at(from.min(front.len()));
+    if signs.len() <= WIDE {
+        return Parts {
+            head,
+            marked,
+            tail,
+            before: b"",
+            behind: b"",
+        };
+    }
+    let (before, kept): (&'static [u8], &[char]) = if head.len() > BEFORE {
+        (b".. ", &head[head.len() - KEPT..])
+    } else {
+        (b"", head)
+    };
+    let most = marked.len().min(MARKED);
+    let wide = kept.len().saturating_add(before.len()).saturating_add(most);
+    Parts {
+        head: kept,
+        marked: &marked[..most],
+        tail: &tail[..tail.len().min(WIDE.saturating_sub(wide))],
+        before,
+        behind: b" ..",
+    }
+}
+
+fn put_line(alloc: Global, line: u64, p: &Parts<'_>, out: &mut Text) -> Result<(), Starved> {
+    put_wide(alloc, line, out)?;
+    out.append(b" | ")?;
+    out.append(p.before)?;
+    for signs in [p.head, p.marked, p.tail] {
+        put_text(alloc, signs, out)?;
+    }
+    out.append(p.behind)?;
+    trim(out);
+    out.push(b'\n')
+}
+
+fn put_caret(p: &Parts<'_>, out: &mut Text) -> Result<(), Starved> {
     out.append(b"      | ")?;
-    for sign in p.head.as_slice() {
+    for _ in p.before {
+        out.push(b' ')?;
+    }
+    for sign in p.head {
         out.push(if *sign == '\t' { b'\t' } else { b' ' })?;
     }
     for _ in 0..p.marked.len().max(1) {
         out.push(b'^')?;
     }
     out.push(b'\n')
-}
-
-fn put_parts(alloc: Global, line: u64, p: &Parts, out: &mut Text) -> Result<(), Starved> {
-    put_wide(alloc, line, out)?;
-    out.append(b" | ")?;
-    put_signs(alloc, p.head.as_slice(), out)?;
-    put_signs(alloc, p.marked.as_slice(), out)?;
-    put_signs(alloc, p.tail.as_slice(), out)?;
-    trim(out);
-    out.push(b'\n')?;
-    put_caret(p, out)
 }
 
 /// Which bytes are marked: they stand in this line and begin in this column.
@@ -210,11 +206,13 @@ pub fn put_excerpt(alloc: Global, bytes: &[u8], m: Marked, out: &mut Text) -> Re
     let from = before.min(line.len());
     let len = m.end.saturating_sub(m.at).max(1);
     let to = from.saturating_add(len).min(line.len());
-    let parts = Parts {
-        head: signs_of(alloc, between(line, 0, from))?,
-        marked: signs_of(alloc, between(line, from, to))?,
-        tail: signs_of(alloc, between(line, to, line.len()))?,
-    };
-    let parts = shortened(alloc, parts)?;
-    put_parts(alloc, m.line, &parts, out)
+    let mut signs = Vec::new(alloc);
+    put_signs(between(line, 0, from), &mut signs)?;
+    let first = signs.len();
+    put_signs(between(line, from, to), &mut signs)?;
+    let last = signs.len();
+    put_signs(between(line, to, line.len()), &mut signs)?;
+    let parts = parts_of(signs.as_slice(), first, last);
+    put_line(alloc, m.line, &parts, out)?;
+    put_caret(&parts, out)
 }

@@ -4,7 +4,6 @@ use crate::mark::is_relation;
 use crate::reading::{Halt, Left, Mode, Part, Reading, Want};
 use crate::table::{Arity, arity_of, takes_formula};
 use asl_lexer::token::{Sign, Word};
-use asl_term::sequence::Starved;
 
 /// Whether an expression was a term, or may be one.
 fn is_term(left: Left) -> bool {
@@ -32,92 +31,100 @@ fn inside(mode: Mode) -> Mode {
     }
 }
 
-fn is_plain_term(left: Left) -> bool {
-    matches!(left, Left::Term)
-}
-
 fn is_truth(left: Left) -> bool {
     matches!(left, Left::True | Left::False)
 }
 
-fn more_or(r: &mut Reading<'_>, mode: Mode) -> Result<(), Starved> {
-    if is_formula(mode) && !is_plain_term(r.left) && r.is_sign(Sign::Bar) {
+/// Goes over an operator, where it stands here: wants its other side, which makes this of both, and then more of the kind.
+fn operator(r: &mut Reading<'_>, stands: bool, side: Want, left: Left, more: Want) {
+    if stands {
         r.go();
-        r.want(Want::OrDone(mode))?;
-        return r.want(Want::And(Mode::Formula));
+        r.want(more);
+        r.want(Want::Set(left));
+        r.want(side);
     }
-    Ok(())
 }
 
-fn more_and(r: &mut Reading<'_>, mode: Mode) -> Result<(), Starved> {
+fn more_or(r: &mut Reading<'_>, mode: Mode) {
+    let stands = is_formula(mode) && !matches!(r.left, Left::Term) && r.is_sign(Sign::Bar);
+    operator(
+        r,
+        stands,
+        Want::And(Mode::Formula),
+        Left::Logic,
+        Want::MoreOr(mode),
+    );
+}
+
+fn more_and(r: &mut Reading<'_>, mode: Mode) {
     let guard = is_guard(mode);
     let goes = is_formula(mode) || (guard && !is_truth(r.left));
-    if goes && !is_plain_term(r.left) && r.is_sign(Sign::Ampersand) {
-        r.go();
-        r.want(Want::AndDone(mode))?;
-        let next = if guard { Mode::Guard } else { Mode::Formula };
-        return r.want(Want::Not(next));
-    }
-    Ok(())
+    let stands = goes && !matches!(r.left, Left::Term) && r.is_sign(Sign::Ampersand);
+    let side = Want::Not(if guard { Mode::Guard } else { Mode::Formula });
+    operator(r, stands, side, Left::Logic, Want::MoreAnd(mode));
 }
 
-fn not(r: &mut Reading<'_>, mode: Mode) -> Result<(), Starved> {
+fn more_sum(r: &mut Reading<'_>) {
+    let sign = matches!(r.word(), Word::Sign(Sign::Plus | Sign::Minus));
+    let stands = sign && !r.plain && is_term(r.left);
+    operator(
+        r,
+        stands,
+        Want::Product(Mode::Term),
+        Left::Term,
+        Want::MoreSum,
+    );
+}
+
+fn more_product(r: &mut Reading<'_>) {
+    let sign = matches!(r.word(), Word::Sign(Sign::Star) | Word::Div | Word::Mod);
+    let stands = sign && !r.plain && is_term(r.left);
+    operator(
+        r,
+        stands,
+        Want::Prime(Mode::Term),
+        Left::Term,
+        Want::MoreProduct,
+    );
+}
+
+fn not(r: &mut Reading<'_>, mode: Mode) {
     let guard = is_guard(mode);
-    if matches!(r.word(), Some(Word::Not)) && (guard || is_formula(mode)) {
-        r.go();
-        r.want(Want::Set(Left::Logic))?;
-        if guard {
-            return r.want(Want::GuardNot);
-        }
-        return r.want(Want::Not(Mode::Formula));
+    if !matches!(r.word(), Word::Not) || !(guard || is_formula(mode)) {
+        r.want(Want::Related(mode));
+        return;
     }
-    r.want(Want::Related(mode))
+    r.go();
+    r.want(Want::Set(Left::Logic));
+    r.want(if guard {
+        Want::GuardNot
+    } else {
+        Want::Not(Mode::Formula)
+    });
 }
 
-fn guard_not(r: &mut Reading<'_>) -> Result<(), Starved> {
-    if r.is_sign(Sign::Open) {
-        r.open()?;
-        r.want(Want::Close(Sign::Close, Halt::Bracket))?;
-        return r.want(Want::GuardNot);
+fn guard_not(r: &mut Reading<'_>) {
+    if !r.is_sign(Sign::Open) {
+        r.want(Want::Literal(Part::Context));
+        return;
     }
-    r.want(Want::Literal(Part::Context))
+    r.open();
+    r.want(Want::Close(Sign::Close, Halt::Bracket));
+    r.want(Want::GuardNot);
 }
 
-fn more_related(r: &mut Reading<'_>, mode: Mode) -> Result<(), Starved> {
-    let related = match r.word() {
-        Some(word) => is_relation(word),
-        None => false,
-    };
-    if !matches!(mode, Mode::Term) && is_term(r.left) && related {
+fn more_related(r: &mut Reading<'_>, mode: Mode) {
+    if !matches!(mode, Mode::Term) && is_term(r.left) && is_relation(r.word()) {
         r.go();
-        r.want(Want::Set(Left::Relation))?;
-        return r.want(Want::Sum(Mode::Term));
+        r.want(Want::Set(Left::Relation));
+        r.want(Want::Sum(Mode::Term));
+        return;
     }
-    let unfit = is_plain_term(r.left) || (matches!(mode, Mode::Guard) && is_truth(r.left));
-    if matches!(mode, Mode::Formula | Mode::Guard) && unfit {
+    let guard = matches!(mode, Mode::Guard);
+    let unfit = matches!(r.left, Left::Term) || (guard && is_truth(r.left));
+    if unfit && (guard || matches!(mode, Mode::Formula)) {
         r.stop(Halt::Relation);
     }
-    Ok(())
-}
-
-fn more_sum(r: &mut Reading<'_>) -> Result<(), Starved> {
-    let sign = r.is_sign(Sign::Plus) || r.is_sign(Sign::Minus);
-    if is_term(r.left) && !r.plain && sign {
-        r.go();
-        r.want(Want::SumDone)?;
-        return r.want(Want::Product(Mode::Term));
-    }
-    Ok(())
-}
-
-fn more_product(r: &mut Reading<'_>) -> Result<(), Starved> {
-    let sign = r.is_sign(Sign::Star) || matches!(r.word(), Some(Word::Div | Word::Mod));
-    if is_term(r.left) && !r.plain && sign {
-        r.go();
-        r.want(Want::ProductDone)?;
-        return r.want(Want::Prime(Mode::Term));
-    }
-    Ok(())
 }
 
 /// The end of a term of one token.
@@ -134,35 +141,22 @@ fn variable(r: &mut Reading<'_>) {
     }
 }
 
-fn minus(r: &mut Reading<'_>) -> Result<(), Starved> {
+fn minus(r: &mut Reading<'_>) {
     r.go();
-    if matches!(r.word(), Some(Word::Number)) {
+    if matches!(r.word(), Word::Number) {
         over(r, Left::Term);
-        return Ok(());
-    }
-    if r.plain {
+    } else if r.plain {
         r.stop(Halt::NoArithmetic);
-        return Ok(());
+    } else {
+        r.want(Want::Set(Left::Term));
+        r.want(Want::Prime(Mode::Term));
     }
-    r.want(Want::Set(Left::Term))?;
-    r.want(Want::Prime(Mode::Term))
 }
 
-fn signed_prime(r: &mut Reading<'_>, mode: Mode, sign: Sign) -> Result<(), Starved> {
-    match sign {
-        Sign::Tilde => literal(r, part_in(mode)),
-        Sign::OpenSquare => r.want(Want::List),
-        Sign::Minus => minus(r),
-        Sign::Open => {
-            r.open()?;
-            r.want(Want::Close(Sign::Close, Halt::Bracket))?;
-            r.want(Want::Or(inside(mode)))
-        }
-        _ => {
-            no_prime(r, mode);
-            Ok(())
-        }
-    }
+fn bracket(r: &mut Reading<'_>, mode: Mode) {
+    r.open();
+    r.want(Want::Close(Sign::Close, Halt::Bracket));
+    r.want(Want::Or(inside(mode)));
 }
 
 fn no_prime(r: &mut Reading<'_>, mode: Mode) {
@@ -182,222 +176,209 @@ fn part_in(mode: Mode) -> Part {
     }
 }
 
-fn prime(r: &mut Reading<'_>, mode: Mode) -> Result<(), Starved> {
+fn prime(r: &mut Reading<'_>, mode: Mode) {
     match r.word() {
-        Some(Word::Number | Word::Str) => {
-            over(r, Left::Term);
-            Ok(())
+        Word::Number | Word::Str => over(r, Left::Term),
+        Word::Var => variable(r),
+        Word::Inner if !is_guard(mode) && !matches!(mode, Mode::Term) => inner(r, mode),
+        Word::True => over(r, Left::True),
+        Word::False => over(r, Left::False),
+        Word::Atom | Word::Not | Word::Div | Word::Mod | Word::Sign(Sign::Tilde) => {
+            literal(r, part_in(mode))
         }
-        Some(Word::Var) => {
-            variable(r);
-            Ok(())
-        }
-        Some(Word::Inner) if !is_guard(mode) && !matches!(mode, Mode::Term) => inner(r, mode),
-        Some(Word::True) => {
-            over(r, Left::True);
-            Ok(())
-        }
-        Some(Word::False) => {
-            over(r, Left::False);
-            Ok(())
-        }
-        Some(Word::Atom | Word::Not | Word::Div | Word::Mod) => literal(r, part_in(mode)),
-        Some(Word::Sign(sign)) => signed_prime(r, mode, sign),
-        _ => {
-            no_prime(r, mode);
-            Ok(())
+        Word::Sign(Sign::OpenSquare) => list(r),
+        Word::Sign(Sign::Minus) => minus(r),
+        Word::Sign(Sign::Open) => bracket(r, mode),
+        _ => no_prime(r, mode),
+    }
+}
+
+/// What the internal action at a place takes.
+fn arity_at(r: &mut Reading<'_>, place: usize) -> Option<Arity> {
+    let m = r.marks.get(place)?;
+    match arity_of(r.alloc, m.text) {
+        Ok(arity) => arity,
+        Err(_) => {
+            r.spent = true;
+            None
         }
     }
 }
 
-fn arity_at(r: &Reading<'_>, place: usize) -> Result<Option<Arity>, Starved> {
-    match r.marks.get(place) {
-        Some(m) => arity_of(r.alloc, m.text),
-        None => Ok(None),
-    }
+fn stop_at_count(r: &mut Reading<'_>, place: usize, arity: Arity) {
+    r.counted = Some(place);
+    r.arity = arity;
+    r.stop(Halt::Count);
 }
 
-fn inner(r: &mut Reading<'_>, mode: Mode) -> Result<(), Starved> {
+fn inner(r: &mut Reading<'_>, mode: Mode) {
     let place = r.at;
-    let Some(arity) = arity_at(r, place)? else {
+    let Some(arity) = arity_at(r, place) else {
         r.stop(Halt::NoInner);
-        return Ok(());
+        return;
     };
     if is_formula(mode) && !arity.pure {
         r.stop(Halt::NotPure);
-        return Ok(());
+        return;
     }
-    r.go();
-    r.left = Left::Inner;
+    over(r, Left::Inner);
     let opens = r.is_sign(Sign::Open);
     if (opens && matches!(arity.high, Some(0))) || (!opens && arity.low > 0) {
-        r.stop(Halt::Count(place));
-        return Ok(());
+        stop_at_count(r, place, arity);
+    } else if opens {
+        r.open();
+        r.want(Want::Given(place, arity, 0));
     }
-    if opens {
-        r.open()?;
-        return r.want(Want::Given(place, 0));
+}
+
+/// Whether the internal action at a place takes a formula behind so many arguments.
+fn is_formula_given(r: &mut Reading<'_>, place: usize, before: usize) -> bool {
+    let Some(m) = r.marks.get(place) else {
+        return false;
+    };
+    match takes_formula(r.alloc, m.text, before) {
+        Ok(takes) => takes,
+        Err(_) => {
+            r.spent = true;
+            false
+        }
     }
-    Ok(())
 }
 
 /// The next argument of an internal action.
-fn given(r: &mut Reading<'_>, place: usize, before: usize) -> Result<(), Starved> {
-    let formula = match r.marks.get(place) {
-        Some(m) => takes_formula(r.alloc, m.text, before)?,
-        None => false,
-    };
-    r.want(Want::MoreGiven(place, before.saturating_add(1)))?;
-    if formula {
-        r.want(Want::Or(Mode::Formula))
+fn given(r: &mut Reading<'_>, place: usize, arity: Arity, before: usize) {
+    let formula = is_formula_given(r, place, before);
+    r.want(Want::MoreGiven(place, arity, before.saturating_add(1)));
+    r.want(if formula {
+        Want::Or(Mode::Formula)
     } else {
-        r.want(Want::Sum(Mode::Term))
-    }
+        Want::Sum(Mode::Term)
+    });
 }
 
-fn more_given(r: &mut Reading<'_>, place: usize, count: usize) -> Result<(), Starved> {
-    let Some(arity) = arity_at(r, place)? else {
-        r.stop(Halt::NoInner);
-        return Ok(());
-    };
-    if r.is_sign(Sign::Comma) {
-        if arity.high == Some(count) {
-            r.stop(Halt::Count(place));
-            return Ok(());
-        }
+fn more_given(r: &mut Reading<'_>, place: usize, arity: Arity, count: usize) {
+    let many = r.is_sign(Sign::Comma) && arity.high == Some(count);
+    if many || (r.is_sign(Sign::Close) && count < arity.low) {
+        stop_at_count(r, place, arity);
+    } else if r.is_sign(Sign::Comma) {
         r.go();
-        return r.want(Want::Given(place, count));
-    }
-    if r.is_sign(Sign::Close) && count < arity.low {
-        r.stop(Halt::Count(place));
+        r.want(Want::Given(place, arity, count));
     } else {
         r.close(Sign::Close, Halt::Argument);
         r.left = Left::Inner;
     }
-    Ok(())
 }
 
-fn literal(r: &mut Reading<'_>, part: Part) -> Result<(), Starved> {
+fn literal(r: &mut Reading<'_>, part: Part) {
     let negative = r.is_sign(Sign::Tilde);
     if negative {
         r.go();
     }
-    if !matches!(r.word(), Some(Word::Atom)) {
+    if !matches!(r.word(), Word::Atom) {
+        r.part = part;
         r.stop(match part {
             Part::Argument => Halt::Term,
-            other => Halt::Literal(other),
+            _ => Halt::Literal,
         });
-        return Ok(());
+        return;
     }
     r.go();
-    r.want(Want::Annotations(negative))?;
+    r.want(Want::Annotations(negative));
     if r.is_sign(Sign::Open) {
-        r.open()?;
-        return r.want(Want::Terms(Sign::Close, Halt::Argument));
+        r.open();
+        r.want(Want::Terms(Sign::Close, Halt::Argument));
     }
-    Ok(())
 }
 
-fn annotations(r: &mut Reading<'_>, negative: bool) -> Result<(), Starved> {
+fn annotations(r: &mut Reading<'_>, negative: bool) {
     if r.is_sign(Sign::OpenSquare) && !r.world {
-        r.open()?;
-        r.want(Want::Set(Left::Marked))?;
-        return r.want(Want::Terms(Sign::CloseSquare, Halt::Annotation));
+        r.open();
+        r.want(Want::Set(Left::Marked));
+        r.want(Want::Terms(Sign::CloseSquare, Halt::Annotation));
+        return;
     }
     r.left = if negative {
         Left::Marked
     } else {
         Left::Literal
     };
-    Ok(())
 }
 
-fn more_terms(r: &mut Reading<'_>, sign: Sign, halt: Halt) -> Result<(), Starved> {
+fn more_terms(r: &mut Reading<'_>, sign: Sign, halt: Halt) {
     if r.is_sign(Sign::Comma) {
         r.go();
-        return r.want(Want::Terms(sign, halt));
+        r.want(Want::Terms(sign, halt));
+    } else {
+        r.close(sign, halt);
     }
-    r.close(sign, halt);
-    Ok(())
 }
 
-fn list(r: &mut Reading<'_>) -> Result<(), Starved> {
-    r.open()?;
+fn list(r: &mut Reading<'_>) {
+    r.open();
     if r.is_sign(Sign::CloseSquare) {
         r.close(Sign::CloseSquare, Halt::List);
         r.left = Left::Term;
-        return Ok(());
+        return;
     }
-    r.want(Want::MoreList)?;
-    r.want(Want::Sum(Mode::Term))
+    r.want(Want::MoreList);
+    r.want(Want::Sum(Mode::Term));
 }
 
-fn tail(r: &mut Reading<'_>) -> Result<(), Starved> {
-    r.want(Want::Set(Left::Term))?;
-    r.want(Want::Close(Sign::CloseSquare, Halt::ListEnd))?;
-    if matches!(r.word(), Some(Word::Var)) && !r.ground {
-        r.go();
-        return Ok(());
+fn tail(r: &mut Reading<'_>) {
+    r.go();
+    r.want(Want::Set(Left::Term));
+    r.want(Want::Close(Sign::CloseSquare, Halt::ListEnd));
+    match r.word() {
+        Word::Var if !r.ground => r.go(),
+        Word::Sign(Sign::OpenSquare) => r.want(Want::List),
+        _ => r.stop(Halt::Tail),
     }
-    if r.is_sign(Sign::OpenSquare) {
-        return r.want(Want::List);
-    }
-    r.stop(Halt::Tail);
-    Ok(())
 }
 
-fn more_list(r: &mut Reading<'_>) -> Result<(), Starved> {
-    if r.is_sign(Sign::Comma) {
-        r.go();
-        r.want(Want::MoreList)?;
-        return r.want(Want::Sum(Mode::Term));
+fn more_list(r: &mut Reading<'_>) {
+    match r.word() {
+        Word::Sign(Sign::Comma) => {
+            r.go();
+            r.want(Want::MoreList);
+            r.want(Want::Sum(Mode::Term));
+        }
+        Word::Sign(Sign::Bar) => tail(r),
+        _ => {
+            r.want(Want::Set(Left::Term));
+            r.want(Want::Close(Sign::CloseSquare, Halt::List));
+        }
     }
-    if r.is_sign(Sign::Bar) {
-        r.go();
-        return tail(r);
-    }
-    r.want(Want::Set(Left::Term))?;
-    r.want(Want::Close(Sign::CloseSquare, Halt::List))
-}
-
-fn set(r: &mut Reading<'_>, left: Left, next: Want) -> Result<(), Starved> {
-    r.left = left;
-    r.want(next)
 }
 
 /// Wants a first one, and then more.
-fn then(r: &mut Reading<'_>, first: Want, more: Want) -> Result<(), Starved> {
-    r.want(more)?;
-    r.want(first)
+fn then(r: &mut Reading<'_>, first: Want, more: Want) {
+    r.want(more);
+    r.want(first);
 }
 
-fn formula_step(r: &mut Reading<'_>, want: Want) -> Result<(), Starved> {
+fn formula_step(r: &mut Reading<'_>, want: Want) {
     match want {
         Want::Or(mode) => then(r, Want::And(mode), Want::MoreOr(mode)),
         Want::MoreOr(mode) => more_or(r, mode),
-        Want::OrDone(mode) => set(r, Left::Logic, Want::MoreOr(mode)),
         Want::And(mode) => then(r, Want::Not(mode), Want::MoreAnd(mode)),
         Want::MoreAnd(mode) => more_and(r, mode),
-        Want::AndDone(mode) => set(r, Left::Logic, Want::MoreAnd(mode)),
         Want::Not(mode) => not(r, mode),
         Want::GuardNot => guard_not(r),
         Want::Related(mode) => then(r, Want::Sum(mode), Want::MoreRelated(mode)),
         Want::MoreRelated(mode) => more_related(r, mode),
-        _ => Ok(()),
+        _ => {}
     }
 }
 
-fn term_step(r: &mut Reading<'_>, want: Want) -> Result<(), Starved> {
+pub fn step(r: &mut Reading<'_>, want: Want) {
     match want {
         Want::Sum(mode) => then(r, Want::Product(mode), Want::MoreSum),
         Want::MoreSum => more_sum(r),
-        Want::SumDone => set(r, Left::Term, Want::MoreSum),
         Want::Product(mode) => then(r, Want::Prime(mode), Want::MoreProduct),
         Want::MoreProduct => more_product(r),
-        Want::ProductDone => set(r, Left::Term, Want::MoreProduct),
         Want::Prime(mode) => prime(r, mode),
-        Want::Given(place, before) => given(r, place, before),
-        Want::MoreGiven(place, count) => more_given(r, place, count),
+        Want::Given(place, arity, before) => given(r, place, arity, before),
+        Want::MoreGiven(place, arity, count) => more_given(r, place, arity, count),
         Want::Literal(part) => literal(r, part),
         Want::Annotations(negative) => annotations(r, negative),
         Want::Terms(sign, halt) => then(r, Want::Sum(Mode::Term), Want::MoreTerms(sign, halt)),
@@ -406,8 +387,4 @@ fn term_step(r: &mut Reading<'_>, want: Want) -> Result<(), Starved> {
         Want::MoreList => more_list(r),
         other => formula_step(r, other),
     }
-}
-
-pub fn step(r: &mut Reading<'_>, want: Want) -> Result<(), Starved> {
-    term_step(r, want)
 }

@@ -1,154 +1,264 @@
 //! Why bytes are refused, in words.
 
-use crate::bytes::{Flaw, Spoilt, begins, byte_at};
-use crate::excerpt::shown;
+use crate::bytes::{Flaw, Spoilt, byte_at};
 use crate::mark::{Mark, between, is_sign};
 use crate::mending::Piece;
+use crate::phrase::{Phrase, put_phrase};
 use crate::reading::read;
-use crate::reason::{Reason, reason_at};
+use crate::reason::{Reason, reason_of};
 use asl_lexer::token::{Sign, Word};
-use asl_term::printing::write_number;
 use asl_term::sequence::{Seq, Starved};
 use asl_term::syntax::Text;
 use std::alloc::Global;
 
-/// `the byte N`
-fn byte_name(alloc: Global, byte: u8) -> Result<Text, Starved> {
-    let mut words = Seq::new(alloc);
-    words.append(b"the byte ")?;
-    write_number(alloc, byte as u64, &mut words)?;
-    Ok(words)
+/// What holds of bytes at fault.
+#[derive(Clone, Copy)]
+enum Test {
+    Flaw(Flaw),
+    Begins(&'static [u8]),
+    /// They begin the file.
+    Front,
+    /// They are one byte, and this one is behind it.
+    Single,
+    Next(u8),
+    /// The first of them is this byte at least, and at most.
+    Least(u8),
+    Most(u8),
 }
 
-fn inside(alloc: Global, bytes: &[u8], x: &Spoilt) -> Result<Reason, Starved> {
-    let byte = byte_at(bytes, x.at);
-    let span = (x.at, x.end);
-    if byte == b'\\' {
-        let pair = (x.at, x.at.saturating_add(2));
-        let words: &[u8] = b"in a string \\ stands before \" \\ n t alone";
-        return reason_at(alloc, pair, b"escape", &[words], b"\\\\ is the sign itself");
-    }
-    if byte == b'\t' {
-        let words: &[u8] = b"a tab in a string";
-        return reason_at(alloc, span, b"control", &[words], b"write \\t");
-    }
-    let name = byte_name(alloc, byte)?;
-    let words = [name.as_slice(), b" in a string".as_slice()];
-    reason_at(alloc, span, b"control", &words, b"")
+/// A part of what is told.
+#[derive(Clone, Copy)]
+enum Say {
+    Words(&'static [u8]),
+    /// The bytes as they are shown, and without the first and the last.
+    Bytes,
+    Inner,
+    /// The number of the first.
+    Number,
 }
 
-fn quote(alloc: Global, raw: &[u8], span: (usize, usize)) -> Result<Reason, Starved> {
-    if raw.len() < 2 {
-        let words: &[u8] = b"' stands in no token";
-        return reason_at(
-            alloc,
-            span,
-            b"byte",
-            &[words],
-            b"strings have double quotes",
-        );
-    }
-    let inner = shown(alloc, between(raw, 1, raw.len() - 1))?;
-    let mut note = Seq::new(alloc);
-    note.append(b"a string is \"")?;
-    note.append(inner.as_slice())?;
-    note.append(b"\"")?;
-    let words: &[u8] = b"no quoted atoms, and no strings in single quotes";
-    reason_at(alloc, span, b"quoted-atom", &[words], note.as_slice())
+/// What is told of bytes of which all of these tests hold: of them, or of the first two.
+struct Rule {
+    tests: &'static [Test],
+    pair: bool,
+    code: &'static [u8],
+    words: &'static [Say],
+    note: &'static [Say],
 }
 
-fn letter(alloc: Global, raw: &[u8], span: (usize, usize)) -> Result<Reason, Starved> {
-    let name = shown(alloc, raw)?;
-    let words = [name.as_slice(), b" is no letter of the language".as_slice()];
-    let note: &[u8] = b"in strings and comments it may stand";
-    reason_at(alloc, span, b"letter", &words, note)
+/// The first of which all tests hold is told, or else the other.
+const RULES: [Rule; 18] = [
+    Rule {
+        tests: &[Test::Flaw(Flaw::String)],
+        pair: false,
+        code: b"open-string",
+        words: &[Say::Words(b"the string that begins here is not closed in its line")],
+        note: &[Say::Words(b"a \" is missing; \\n stands for a line feed")],
+    },
+    Rule {
+        tests: &[Test::Flaw(Flaw::Comment)],
+        pair: true,
+        code: b"open-comment",
+        words: &[Say::Words(b"the comment that begins here is not closed")],
+        note: &[Say::Words(b"*/ is missing")],
+    },
+    Rule {
+        tests: &[Test::Flaw(Flaw::Number)],
+        pair: false,
+        code: b"number",
+        words: &[Say::Words(b"no number above 9223372036854775807")],
+        note: &[],
+    },
+    Rule {
+        tests: &[Test::Flaw(Flaw::Inside), Test::Begins(b"\\")],
+        pair: true,
+        code: b"escape",
+        words: &[Say::Words(b"in a string \\ stands before \" \\ n t alone")],
+        note: &[Say::Words(b"\\\\ is the sign itself")],
+    },
+    Rule {
+        tests: &[Test::Flaw(Flaw::Inside), Test::Begins(b"\t")],
+        pair: false,
+        code: b"control",
+        words: &[Say::Words(b"a tab in a string")],
+        note: &[Say::Words(b"write \\t")],
+    },
+    Rule {
+        tests: &[Test::Flaw(Flaw::Inside)],
+        pair: false,
+        code: b"control",
+        words: &[
+            Say::Words(b"the byte "),
+            Say::Number,
+            Say::Words(b" in a string"),
+        ],
+        note: &[],
+    },
+    Rule {
+        tests: &[Test::Begins(b"\xef\xbb\xbf")],
+        pair: false,
+        code: b"bom",
+        words: &[Say::Words(b"the file begins with a byte order mark")],
+        note: &[Say::Words(b"save it as UTF-8 without BOM")],
+    },
+    Rule {
+        tests: &[Test::Front, Test::Begins(b"\xff\xfe")],
+        pair: true,
+        code: b"utf16",
+        words: &[Say::Words(b"the file is in UTF-16")],
+        note: &[Say::Words(b"save it as UTF-8 without BOM")],
+    },
+    Rule {
+        tests: &[Test::Front, Test::Begins(b"\xfe\xff")],
+        pair: true,
+        code: b"utf16",
+        words: &[Say::Words(b"the file is in UTF-16")],
+        note: &[Say::Words(b"save it as UTF-8 without BOM")],
+    },
+    Rule {
+        tests: &[Test::Begins(b"'"), Test::Single],
+        pair: false,
+        code: b"byte",
+        words: &[Say::Words(b"' stands in no token")],
+        note: &[Say::Words(b"strings have double quotes")],
+    },
+    Rule {
+        tests: &[Test::Begins(b"'")],
+        pair: false,
+        code: b"quoted-atom",
+        words: &[Say::Words(b"no quoted atoms, and no strings in single quotes")],
+        note: &[Say::Words(b"a string is \""), Say::Inner, Say::Words(b"\"")],
+    },
+    Rule {
+        tests: &[Test::Begins(b"%")],
+        pair: false,
+        code: b"comment-sign",
+        words: &[Say::Words(b"% begins no comment here")],
+        note: &[Say::Words(b"write //")],
+    },
+    Rule {
+        tests: &[Test::Begins(b"/")],
+        pair: false,
+        code: b"division",
+        words: &[Say::Words(b"no / here")],
+        note: &[Say::Words(b"whole numbers: A div B")],
+    },
+    Rule {
+        tests: &[Test::Begins(b"\\"), Test::Next(b'=')],
+        pair: true,
+        code: b"relation",
+        words: &[Say::Words(b"no \\= here")],
+        note: &[Say::Words(b"write \\==")],
+    },
+    Rule {
+        tests: &[Test::Begins(b"\xe2\x80\x9c")],
+        pair: false,
+        code: b"typographic",
+        words: &[Say::Words(b"typographic quotes")],
+        note: &[Say::Words(b"strings have the plain sign \"")],
+    },
+    Rule {
+        tests: &[Test::Begins(b"\xe2\x80\x9d")],
+        pair: false,
+        code: b"typographic",
+        words: &[Say::Words(b"typographic quotes")],
+        note: &[Say::Words(b"strings have the plain sign \"")],
+    },
+    Rule {
+        tests: &[Test::Least(128)],
+        pair: false,
+        code: b"letter",
+        words: &[Say::Bytes, Say::Words(b" is no letter of the language")],
+        note: &[Say::Words(b"in strings and comments it may stand")],
+    },
+    Rule {
+        tests: &[Test::Least(33), Test::Most(126)],
+        pair: false,
+        code: b"byte",
+        words: &[Say::Bytes, Say::Words(b" stands in no token")],
+        note: &[],
+    },
+];
+
+const OTHERWISE: Rule = Rule {
+    tests: &[],
+    pair: false,
+    code: b"byte",
+    words: &[
+        Say::Words(b"the byte "),
+        Say::Number,
+        Say::Words(b" stands in no token"),
+    ],
+    note: &[],
+};
+
+fn holds(bytes: &[u8], x: &Spoilt, raw: &[u8], test: Test) -> bool {
+    match test {
+        Test::Flaw(flaw) => x.flaw == flaw,
+        Test::Begins(with) => raw.starts_with(with),
+        Test::Front => x.at == 0,
+        Test::Single => raw.len() < 2,
+        Test::Next(byte) => byte_at(bytes, x.at.saturating_add(1)) == byte,
+        Test::Least(byte) => byte_at(raw, 0) >= byte,
+        Test::Most(byte) => byte_at(raw, 0) <= byte,
+    }
 }
 
-fn other(alloc: Global, raw: &[u8], span: (usize, usize)) -> Result<Reason, Starved> {
-    let byte = byte_at(raw, 0);
-    let name = if byte > 32 && byte < 127 {
-        shown(alloc, raw)?
-    } else {
-        byte_name(alloc, byte)?
-    };
-    let words = [name.as_slice(), b" stands in no token".as_slice()];
-    reason_at(alloc, span, b"byte", &words, b"")
-}
-
-fn in_no_token(alloc: Global, bytes: &[u8], x: &Spoilt) -> Result<Reason, Starved> {
-    let raw = between(bytes, x.at, x.end);
-    let span = (x.at, x.end);
-    let utf8: &[u8] = b"save it as UTF-8 without BOM";
-    if raw == b"\xef\xbb\xbf".as_slice() {
-        let words: &[u8] = b"the file begins with a byte order mark";
-        return reason_at(alloc, span, b"bom", &[words], utf8);
-    }
-    if x.at == 0 && (begins(bytes, 0, b"\xff\xfe") || begins(bytes, 0, b"\xfe\xff")) {
-        return reason_at(
-            alloc,
-            (0, 2),
-            b"utf16",
-            &[b"the file is in UTF-16".as_slice()],
-            utf8,
-        );
-    }
-    match raw {
-        [b'\'', ..] => quote(alloc, raw, span),
-        [b'%', ..] => {
-            let words: &[u8] = b"% begins no comment here";
-            reason_at(alloc, span, b"comment-sign", &[words], b"write //")
+fn fits(bytes: &[u8], x: &Spoilt, raw: &[u8], rule: &Rule) -> bool {
+    for test in rule.tests {
+        if !holds(bytes, x, raw, *test) {
+            return false;
         }
-        [b'/', ..] => {
-            let note: &[u8] = b"whole numbers: A div B";
-            reason_at(alloc, span, b"division", &[b"no / here".as_slice()], note)
+    }
+    true
+}
+
+/// The first rule that fits.
+fn rule_for(bytes: &[u8], x: &Spoilt, raw: &[u8]) -> &'static Rule {
+    for rule in &RULES {
+        if fits(bytes, x, raw, rule) {
+            return rule;
         }
-        [b'\\', ..] if byte_at(bytes, x.at.saturating_add(1)) == b'=' => {
-            let pair = (x.at, x.at.saturating_add(2));
-            reason_at(
-                alloc,
-                pair,
-                b"relation",
-                &[b"no \\= here".as_slice()],
-                b"write \\==",
-            )
-        }
-        _ => typed(alloc, raw, span),
+    }
+    &OTHERWISE
+}
+
+fn phrase_of(raw: &[u8], say: Say) -> Phrase<'_> {
+    match say {
+        Say::Words(words) => Phrase::Words(words),
+        Say::Bytes => Phrase::Shown(raw),
+        Say::Inner => Phrase::Shown(between(raw, 1, raw.len().saturating_sub(1))),
+        Say::Number => Phrase::Number(byte_at(raw, 0) as u64),
     }
 }
 
-fn typed(alloc: Global, raw: &[u8], span: (usize, usize)) -> Result<Reason, Starved> {
-    if begins(raw, 0, b"\xe2\x80\x9c") || begins(raw, 0, b"\xe2\x80\x9d") {
-        let note: &[u8] = b"strings have the plain sign \"";
-        let words: &[u8] = b"typographic quotes";
-        return reason_at(alloc, span, b"typographic", &[words], note);
+fn said_of(alloc: Global, raw: &[u8], says: &[Say]) -> Result<Text, Starved> {
+    let mut out = Seq::new(alloc);
+    for say in says {
+        put_phrase(alloc, phrase_of(raw, *say), &mut out)?;
     }
-    if byte_at(raw, 0) >= 128 {
-        return letter(alloc, raw, span);
-    }
-    other(alloc, raw, span)
+    Ok(out)
 }
 
 /// Why these bytes are refused.
 pub fn byte_reason(alloc: Global, bytes: &[u8], x: &Spoilt) -> Result<Reason, Starved> {
-    let span = (x.at, x.end);
-    match x.flaw {
-        Flaw::String => {
-            let words: &[u8] = b"the string that begins here is not closed in its line";
-            let note: &[u8] = b"a \" is missing; \\n stands for a line feed";
-            reason_at(alloc, span, b"open-string", &[words], note)
-        }
-        Flaw::Comment => {
-            let pair = (x.at, x.at.saturating_add(2));
-            let words: &[u8] = b"the comment that begins here is not closed";
-            reason_at(alloc, pair, b"open-comment", &[words], b"*/ is missing")
-        }
-        Flaw::Number => {
-            let words: &[u8] = b"no number above 9223372036854775807";
-            reason_at(alloc, span, b"number", &[words], b"")
-        }
-        Flaw::Inside => inside(alloc, bytes, x),
-        Flaw::Byte => in_no_token(alloc, bytes, x),
-    }
+    let raw = between(bytes, x.at, x.end);
+    let rule = rule_for(bytes, x, raw);
+    let words = said_of(alloc, raw, rule.words)?;
+    let note = said_of(alloc, raw, rule.note)?;
+    let end = if rule.pair {
+        x.at.saturating_add(2)
+    } else {
+        x.end
+    };
+    let words = [Phrase::Words(words.as_slice())];
+    reason_of(
+        alloc,
+        (x.at, end),
+        rule.code,
+        &words,
+        &[Phrase::Words(note.as_slice())],
+    )
 }
 
 /// The most brackets that may be open.
@@ -174,15 +284,18 @@ fn too_deep<'a>(marks: &[Mark<'a>]) -> Option<Mark<'a>> {
 /// Which limit a piece passes.
 pub fn limit_reason(alloc: Global, p: &Piece<'_>) -> Result<Reason, Starved> {
     if let Some(m) = too_deep(p.marks) {
-        let words: &[u8] = b"more than 250 brackets are open here";
-        return reason_at(alloc, (m.at, m.end), b"limit", &[words], b"");
+        let words = [Phrase::Words(b"more than 250 brackets are open here")];
+        return reason_of(alloc, (m.at, m.end), b"limit", &words, &[]);
     }
     let span = match p.marks.first() {
         Some(m) => (m.at, m.end),
         None => (0, 1),
     };
-    let words: &[u8] = b"a term or formula of this clause has more than 10,000 nodes or 250 levels";
-    reason_at(alloc, span, b"limit", &[words], b"break it up into rules")
+    let words = [Phrase::Words(
+        b"a term or formula of this clause has more than 10,000 nodes or 250 levels",
+    )];
+    let note = [Phrase::Words(b"break it up into rules")];
+    reason_of(alloc, span, b"limit", &words, &note)
 }
 
 /// Why a piece is refused that uses an artifact which is not there, where these are.
@@ -194,13 +307,14 @@ pub fn artifact_reason(
     let Some(m) = p.marks.get(1) else {
         return Ok(None);
     };
-    let mut note = Seq::new(alloc);
-    note.append(b"there are:")?;
-    note.append(known)?;
-    let words = [b"no artifact ".as_slice(), m.text];
+    let note = [Phrase::Words(b"there are:"), Phrase::Words(known)];
+    let words = [Phrase::Words(b"no artifact "), Phrase::Words(m.text)];
     let span = (m.at, m.end);
-    Ok(Some(reason_at(alloc, span, b"artifact", &words, note.as_slice())?))
+    Ok(Some(reason_of(alloc, span, b"artifact", &words, &note)?))
 }
+
+const UNBOUND: &[u8] =
+    b"a variable of an effect stands in the act, behind by, or in a literal of the guard without not";
 
 fn is_named(m: &Mark<'_>, name: &[u8]) -> bool {
     let unnamed = m.text == b"_".as_slice() && name.starts_with(b"_ ");
@@ -217,11 +331,10 @@ pub fn unbound_reason(
     let from = r.arrow.min(p.marks.len());
     for m in &p.marks[from..] {
         if is_named(m, name) {
-            let note: &[u8] =
-                b"a variable of an effect stands in the act, behind by, or in a literal of the guard without not";
-            let words = [b"nothing binds ".as_slice(), m.text];
+            let note = [Phrase::Words(UNBOUND)];
+            let words = [Phrase::Words(b"nothing binds "), Phrase::Words(m.text)];
             let span = (m.at, m.end);
-            return Ok(Some(reason_at(alloc, span, b"unbound", &words, note)?));
+            return Ok(Some(reason_of(alloc, span, b"unbound", &words, &note)?));
         }
     }
     Ok(None)

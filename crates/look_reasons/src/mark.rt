@@ -57,33 +57,49 @@ pub fn marks_of<'a>(
     Ok(all)
 }
 
-/// A token of this text, tried at the place of another.
-pub fn tried(alloc: Global, text: &'static [u8], at: Mark<'_>) -> Result<Mark<'static>, Starved> {
-    let word = match tokens(alloc, text) {
+/// What the first token of a text is.
+fn word_of(alloc: Global, text: &[u8]) -> Result<Word, Starved> {
+    match tokens(alloc, text) {
         Ok(toks) => match toks.as_slice() {
-            [t, ..] => word(t),
-            [] => Word::Other,
+            [t, ..] => Ok(word(t)),
+            [] => Ok(Word::Other),
         },
-        Err(LexFault::Memory) => return Err(Starved),
-        Err(_) => Word::Other,
-    };
-    Ok(Mark {
-        word,
-        text,
-        at: at.at,
-        end: at.at,
-        line: at.line,
-        column: at.column,
-    })
+        Err(LexFault::Memory) => Err(Starved),
+        Err(_) => Ok(Word::Other),
+    }
 }
 
-/// A piece in which `removed` tokens from a place on give way to others.
+/// A token of no bytes at a place of a piece, or behind it.
+fn nothing_at<'a>(marks: &[Mark<'a>], at: usize) -> Mark<'a> {
+    let m = match marks.get(at) {
+        Some(m) => Some(m),
+        None => marks.last(),
+    };
+    match m {
+        Some(m) => Mark {
+            word: Word::Other,
+            text: b"",
+            end: m.at,
+            ..*m
+        },
+        None => Mark {
+            word: Word::Other,
+            text: b"",
+            at: 0,
+            end: 0,
+            line: 1,
+            column: 1,
+        },
+    }
+}
+
+/// A piece in which `removed` tokens from a place on give way to tokens of these texts, but for empty ones.
 pub fn spliced<'a>(
     alloc: Global,
     marks: &[Mark<'a>],
     at: usize,
     removed: usize,
-    put: &[Mark<'a>],
+    put: &[&'static [u8]],
 ) -> Result<Vec<Mark<'a>>, Starved> {
     let mut all = Vec::new(alloc);
     let from = at.min(marks.len());
@@ -91,8 +107,15 @@ pub fn spliced<'a>(
     for m in &marks[..from] {
         all.push(*m)?;
     }
-    for m in put {
-        all.push(*m)?;
+    let like = nothing_at(marks, at);
+    for text in put {
+        if !text.is_empty() {
+            all.push(Mark {
+                word: word_of(alloc, *text)?,
+                text: *text,
+                ..like
+            })?;
+        }
     }
     for m in &marks[to..] {
         all.push(*m)?;

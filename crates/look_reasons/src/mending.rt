@@ -1,6 +1,7 @@
 //! Changes at the place where a reading stops: the first with which the whole piece is read, and what may stand there.
 
-use crate::mark::{Mark, is_any_sign, spliced, tried};
+use crate::mark::{Mark, is_any_sign, spliced};
+use crate::phrase::Phrase;
 use crate::reading::read;
 use asl_lexer::token::Word;
 use asl_term::copying::text_of;
@@ -23,7 +24,7 @@ pub struct Piece<'a> {
     pub behind_decimal: bool,
 }
 
-#[derive(Clone, Copy)]
+#[derive(Clone, Copy, PartialEq, Eq)]
 pub enum FixKind {
     Dot,
     Bracket,
@@ -32,35 +33,6 @@ pub enum FixKind {
     Relation,
     Extra,
 }
-
-/// A change in words, and what is put.
-pub struct Fix {
-    pub kind: FixKind,
-    pub words: Text,
-    pub put: &'static [u8],
-}
-
-/// By hand, so that who lets one go proves nothing of its parts.
-impl Drop for Fix {
-    fn drop(self) {
-        let Fix {
-            kind: _,
-            words: _,
-            put: _,
-        } = self;
-    }
-}
-
-const PUT: [&[u8]; 8] = [b";", b")", b"]", b"&", b",", b"<-", b":", b"<="];
-
-/// Pairs of signs, and the sign that is meant.
-const PAIRS: [(&[u8], &[u8]); 5] = [
-    (b"=<", b"<="),
-    (b"=>", b">="),
-    (b"!=", b"\\=="),
-    (b"&&", b"&"),
-    (b"||", b"|"),
-];
 
 /// All of these, one behind the other.
 pub fn joined(alloc: Global, parts: &[&[u8]]) -> Result<Text, Starved> {
@@ -78,121 +50,154 @@ pub fn put_place(alloc: Global, line: u64, column: u64, out: &mut Text) -> Resul
     write_number(alloc, column, out)
 }
 
-/// Whether such a piece is read whole.
-fn is_read<'a>(alloc: Global, p: &Piece<'a>, marks: &[Mark<'a>]) -> Result<bool, Starved> {
-    let r = read(alloc, marks, p.world, p.used)?;
-    Ok(r.is_whole())
+/// A change: what is put, for which pair of signs or behind which line and column.
+#[derive(Clone, Copy)]
+pub struct Fix {
+    pub kind: FixKind,
+    pub put: &'static [u8],
+    pair: &'static [u8],
+    place: (u64, u64),
 }
 
-/// Whether it is read whole where these tokens stand in place of some.
-fn is_read_with<'a>(
+/// A change in words.
+pub fn fix_phrases(fix: &Fix) -> [Phrase<'static>; 5] {
+    let nothing = Phrase::Words(b"");
+    let write = Phrase::Words(b"write ");
+    let put = Phrase::Words(fix.put);
+    let read = Phrase::Words(b": then the clause is read");
+    match fix.kind {
+        FixKind::Extra => {
+            let words = Phrase::Words(b"without it the clause is read");
+            [words, nothing, nothing, nothing, nothing]
+        }
+        FixKind::Instead => [write, put, Phrase::Words(b" in its place"), read, nothing],
+        FixKind::Relation => {
+            let place = Phrase::Words(b" in place of ");
+            [write, put, place, Phrase::Words(fix.pair), read]
+        }
+        FixKind::Dot | FixKind::Bracket | FixKind::Missing => {
+            let (line, column) = fix.place;
+            let place = Phrase::Place(line, column);
+            [
+                Phrase::Words(b"put "),
+                put,
+                Phrase::Words(b" at "),
+                place,
+                read,
+            ]
+        }
+    }
+}
+
+/// What is tried in place of a token. The first of these are tried before it too.
+const PUT: [&[u8]; 10] = [
+    b";", b")", b"]", b"&", b",", b"<-", b":", b"<=", b".print", b".",
+];
+
+const MISSING: usize = 8;
+
+/// Pairs of signs, and the sign that is meant.
+const PAIRS: [(&[u8], &[u8]); 5] = [
+    (b"=<", b"<="),
+    (b"=>", b">="),
+    (b"!=", b"\\=="),
+    (b"&&", b"&"),
+    (b"||", b"|"),
+];
+
+/// A piece of which changes are tried, and whether memory was refused.
+#[derive(Clone, Copy)]
+struct Trial<'a> {
     alloc: Global,
-    p: &Piece<'a>,
+    piece: Piece<'a>,
+    at: usize,
+    spent: bool,
+}
+
+/// Whether a piece is read whole where this stands in place of some tokens, and how far it is read.
+fn outcome(
+    alloc: Global,
+    p: &Piece<'_>,
     at: usize,
     removed: usize,
-    put: &[Mark<'a>],
-) -> Result<bool, Starved> {
-    let changed = spliced(alloc, p.marks, at, removed, put)?;
-    is_read(alloc, p, changed.as_slice())
-}
-
-/// Where something is put: behind the token before.
-fn put_after(alloc: Global, before: Option<&Mark<'_>>, out: &mut Text) -> Result<(), Starved> {
-    match before {
-        Some(m) => {
-            let len = m.end.saturating_sub(m.at) as u64;
-            out.append(b"at ")?;
-            put_place(alloc, m.line, m.column.saturating_add(len), out)
-        }
-        None => out.append(b"here"),
-    }
-}
-
-fn putting(
-    alloc: Global,
-    kind: FixKind,
     put: &'static [u8],
-    before: Option<&Mark<'_>>,
-) -> Result<Option<Fix>, Starved> {
-    let mut words = joined(alloc, &[b"put ".as_slice(), put, b" ".as_slice()])?;
-    put_after(alloc, before, &mut words)?;
-    Ok(Some(Fix { kind, words, put }))
+) -> Result<(bool, usize), Starved> {
+    let changed = spliced(alloc, p.marks, at, removed, &[put])?;
+    let r = read(alloc, changed.as_slice(), p.world, p.used)?;
+    Ok((r.is_whole(), r.at))
 }
 
-fn before_of<'a>(p: &Piece<'a>, at: usize) -> Option<&'a Mark<'a>> {
-    if at == 0 { None } else { p.marks.get(at - 1) }
-}
-
-fn is_bracket(put: &[u8]) -> bool {
-    put == b")".as_slice() || put == b"]".as_slice()
-}
-
-fn missing(alloc: Global, p: &Piece<'_>, at: usize, t: Mark<'_>) -> Result<Option<Fix>, Starved> {
-    if at == 0 {
-        return Ok(None);
+impl<'a> Trial<'a> {
+    fn try_with(&mut self, at: usize, removed: usize, put: &'static [u8]) -> (bool, usize) {
+        match outcome(self.alloc, &self.piece, at, removed, put) {
+            Ok(outcome) => outcome,
+            Err(_) => {
+                self.spent = true;
+                (false, 0)
+            }
+        }
     }
-    for put in PUT {
-        if is_read_with(alloc, p, at, 0, &[tried(alloc, put, t)?])? {
-            let kind = if is_bracket(put) {
+
+    /// Whether the piece is read whole where this stands in place of so many tokens.
+    fn is_read(&mut self, at: usize, removed: usize, put: &'static [u8]) -> bool {
+        self.try_with(at, removed, put).0
+    }
+
+    /// Whether a reading goes over this token at the place.
+    fn goes_over(&mut self, text: &'static [u8]) -> bool {
+        let at = self.at;
+        !text.is_empty() && self.try_with(at, self.piece.marks.len(), text).1 > at
+    }
+
+    fn fix(&self, kind: FixKind, put: &'static [u8]) -> Fix {
+        let place = match self.piece.marks.get(self.at.saturating_sub(1)) {
+            Some(m) => {
+                let len = m.end.saturating_sub(m.at) as u64;
+                (m.line, m.column.saturating_add(len))
+            }
+            None => (0, 0),
+        };
+        Fix {
+            kind,
+            put,
+            pair: b"",
+            place,
+        }
+    }
+}
+
+fn missing(t: &mut Trial<'_>) -> Option<Fix> {
+    let at = t.at;
+    for put in &PUT[..MISSING] {
+        if at > 0 && t.is_read(at, 0, put) {
+            let bracket = matches!(*put, b")" | b"]");
+            let kind = if bracket {
                 FixKind::Bracket
             } else {
                 FixKind::Missing
             };
-            return putting(alloc, kind, put, before_of(p, at));
+            return Some(t.fix(kind, put));
         }
     }
-    Ok(None)
+    None
 }
 
-/// The internal action that a name of another means.
-fn inner_for(text: &[u8]) -> Option<&'static [u8]> {
-    if text == b".println".as_slice() {
-        Some(b".print")
-    } else {
-        None
+/// Whether this may be tried in place of a token of this text.
+fn is_other(put: &[u8], text: &[u8]) -> bool {
+    match put {
+        b".print" => text == b".println".as_slice(),
+        _ => put != text,
     }
 }
 
-fn writing(
-    alloc: Global,
-    kind: FixKind,
-    put: &'static [u8],
-    behind: &[u8],
-) -> Result<Option<Fix>, Starved> {
-    let words = joined(alloc, &[b"write ".as_slice(), put, behind])?;
-    Ok(Some(Fix { kind, words, put }))
-}
-
-fn instead(
-    alloc: Global,
-    p: &Piece<'_>,
-    at: usize,
-    t: Mark<'_>,
-    put: &'static [u8],
-) -> Result<Option<Fix>, Starved> {
-    if put == t.text || !is_read_with(alloc, p, at, 1, &[tried(alloc, put, t)?])? {
-        return Ok(None);
-    }
-    writing(alloc, FixKind::Instead, put, b" in its place")
-}
-
-fn any_instead(
-    alloc: Global,
-    p: &Piece<'_>,
-    at: usize,
-    t: Mark<'_>,
-) -> Result<Option<Fix>, Starved> {
+fn instead(t: &mut Trial<'_>, text: &[u8]) -> Option<Fix> {
+    let at = t.at;
     for put in PUT {
-        if let Some(fix) = instead(alloc, p, at, t, put)? {
-            return Ok(Some(fix));
+        if is_other(put, text) && t.is_read(at, 1, put) {
+            return Some(t.fix(FixKind::Instead, put));
         }
     }
-    if let Some(put) = inner_for(t.text) {
-        if let Some(fix) = instead(alloc, p, at, t, put)? {
-            return Ok(Some(fix));
-        }
-    }
-    instead(alloc, p, at, t, b".")
+    None
 }
 
 /// Whether the tokens here are spelled as a pair.
@@ -206,106 +211,91 @@ pub fn is_pair(marks: &[Mark<'_>], at: usize, pair: &[u8]) -> bool {
     }
 }
 
-fn pair_at(
-    alloc: Global,
-    p: &Piece<'_>,
-    at: usize,
-    t: Mark<'_>,
-    pair: (&'static [u8], &'static [u8]),
-) -> Result<Option<Fix>, Starved> {
-    let (wrong, put) = pair;
-    if !is_pair(p.marks, at, wrong) || !is_read_with(alloc, p, at, 2, &[tried(alloc, put, t)?])? {
-        return Ok(None);
-    }
-    let behind = joined(alloc, &[b" in place of ".as_slice(), wrong])?;
-    writing(alloc, FixKind::Relation, put, behind.as_slice())
-}
-
-fn any_pair(alloc: Global, p: &Piece<'_>, at: usize, t: Mark<'_>) -> Result<Option<Fix>, Starved> {
-    for pair in PAIRS {
-        if at > 0 {
-            if let Some(fix) = pair_at(alloc, p, at - 1, t, pair)? {
-                return Ok(Some(fix));
+fn any_pair(t: &mut Trial<'_>) -> Option<Fix> {
+    let at = t.at;
+    for (pair, put) in PAIRS {
+        for from in at.saturating_sub(1)..at.saturating_add(1) {
+            if is_pair(t.piece.marks, from, pair) && t.is_read(from, 2, put) {
+                return Some(Fix {
+                    pair,
+                    ..t.fix(FixKind::Relation, put)
+                });
             }
         }
-        if let Some(fix) = pair_at(alloc, p, at, t, pair)? {
-            return Ok(Some(fix));
-        }
     }
-    Ok(None)
+    None
 }
 
-fn extra(alloc: Global, p: &Piece<'_>, at: usize, t: Mark<'_>) -> Result<Option<Fix>, Starved> {
-    let last = at.saturating_add(1) >= p.marks.len();
-    if last || matches!(t.word, Word::End) || !is_read_with(alloc, p, at, 1, &[])? {
-        return Ok(None);
-    }
-    Ok(Some(Fix {
-        kind: FixKind::Extra,
-        words: text_of(alloc, b"without it the clause is read")?,
-        put: b"",
-    }))
-}
-
-/// The dot at the end of a piece.
-fn dot(alloc: Global, p: &Piece<'_>) -> Result<Option<Fix>, Starved> {
-    let Some(last) = p.marks.last() else {
-        return Ok(None);
-    };
-    if is_read_with(alloc, p, p.marks.len(), 0, &[tried(alloc, b".", *last)?])? {
-        return putting(alloc, FixKind::Dot, b".", Some(last));
-    }
-    Ok(None)
-}
-
-/// Whether the tokens before the place are a clause with a dot behind them.
-fn ends_before(alloc: Global, p: &Piece<'_>, at: usize, t: Mark<'_>) -> Result<bool, Starved> {
-    if at == 0 || matches!(t.word, Word::End) {
-        return Ok(false);
-    }
-    is_read_with(alloc, p, at, p.marks.len(), &[tried(alloc, b".", t)?])
-}
-
-fn is_left_of_first(p: &Piece<'_>, t: Mark<'_>) -> bool {
-    match p.marks.first() {
-        Some(first) => t.column <= first.column,
+/// The change where a token stands at the place.
+fn at_token(t: &mut Trial<'_>, m: Mark<'_>) -> Option<Fix> {
+    let at = t.at;
+    let count = t.piece.marks.len();
+    let end = matches!(m.word, Word::End);
+    let ends = at > 0 && !end && t.is_read(at, count, b".");
+    let left = match t.piece.marks.first() {
+        Some(first) => m.column <= first.column,
         None => false,
+    };
+    if ends && left {
+        return Some(t.fix(FixKind::Dot, b"."));
+    }
+    if let Some(fix) = missing(t) {
+        return Some(fix);
+    }
+    if ends && t.is_read(0, at, b"") {
+        return Some(t.fix(FixKind::Dot, b"."));
+    }
+    if let Some(fix) = changed(t, m) {
+        return Some(fix);
+    }
+    if !end && at.saturating_add(1) < count && t.is_read(at, 1, b"") {
+        return Some(t.fix(FixKind::Extra, b""));
+    }
+    None
+}
+
+/// The change where another token stands in place of this.
+fn changed(t: &mut Trial<'_>, m: Mark<'_>) -> Option<Fix> {
+    if !is_any_sign(m.word) && !matches!(m.word, Word::Inner) {
+        return None;
+    }
+    match instead(t, m.text) {
+        Some(fix) => Some(fix),
+        None => any_pair(t),
     }
 }
 
-/// Whether the tokens from the place on are a clause.
-fn is_clause_from(alloc: Global, p: &Piece<'_>, at: usize) -> Result<bool, Starved> {
-    is_read_with(alloc, p, 0, at, &[])
+/// The first change at the place with which the whole piece is read.
+fn first_fix(t: &mut Trial<'_>) -> Option<Fix> {
+    let at = t.at;
+    match t.piece.marks.get(at) {
+        Some(m) => {
+            let m = *m;
+            at_token(t, m)
+        }
+        None => {
+            if t.is_read(at, 0, b".") {
+                return Some(t.fix(FixKind::Dot, b"."));
+            }
+            None
+        }
+    }
 }
 
-fn at_token(alloc: Global, p: &Piece<'_>, at: usize, t: Mark<'_>) -> Result<Option<Fix>, Starved> {
-    let ends = ends_before(alloc, p, at, t)?;
-    if ends && is_left_of_first(p, t) {
-        return putting(alloc, FixKind::Dot, b".", before_of(p, at));
+fn trial_at<'a>(alloc: Global, p: &Piece<'a>, at: usize) -> Trial<'a> {
+    Trial {
+        alloc,
+        piece: *p,
+        at: at.min(p.marks.len()),
+        spent: false,
     }
-    if let Some(fix) = missing(alloc, p, at, t)? {
-        return Ok(Some(fix));
-    }
-    if ends && is_clause_from(alloc, p, at)? {
-        return putting(alloc, FixKind::Dot, b".", before_of(p, at));
-    }
-    if is_any_sign(t.word) || matches!(t.word, Word::Inner) {
-        if let Some(fix) = any_instead(alloc, p, at, t)? {
-            return Ok(Some(fix));
-        }
-        if let Some(fix) = any_pair(alloc, p, at, t)? {
-            return Ok(Some(fix));
-        }
-    }
-    extra(alloc, p, at, t)
 }
 
 /// The first change at the place with which the whole piece is read.
 pub fn mend(alloc: Global, p: &Piece<'_>, at: usize) -> Result<Option<Fix>, Starved> {
-    match p.marks.get(at) {
-        Some(t) => at_token(alloc, p, at, *t),
-        None => dot(alloc, p),
-    }
+    let mut t = trial_at(alloc, p, at);
+    let fix = first_fix(&mut t);
+    if t.spent { Err(Starved) } else { Ok(fix) }
 }
 
 /// What may stand at a place: its name, and tokens of the kind.
@@ -343,48 +333,23 @@ const KINDS: [(&[u8], &[u8], &[u8]); 28] = [
 /// At most so many kinds are named.
 const MOST_KINDS: usize = 9;
 
-/// Whether a reading goes over this token at the place.
-fn goes_over(
-    alloc: Global,
-    p: &Piece<'_>,
-    at: usize,
-    text: &'static [u8],
-    like: Mark<'_>,
-) -> Result<bool, Starved> {
-    if text.is_empty() {
-        return Ok(false);
-    }
-    let changed = spliced(
-        alloc,
-        p.marks,
-        at,
-        p.marks.len(),
-        &[tried(alloc, text, like)?],
-    )?;
-    let r = read(alloc, changed.as_slice(), p.world, p.used)?;
-    Ok(r.at > at)
-}
-
-/// What may stand at the place, in words, where it is at most so many kinds.
-pub fn expected(alloc: Global, p: &Piece<'_>, at: usize) -> Result<Option<Text>, Starved> {
-    let Some(like) = p.marks.last() else {
-        return Ok(None);
-    };
+/// What may stand at the place, in words, where it is at most so many kinds; else nothing.
+pub fn expected(alloc: Global, p: &Piece<'_>, at: usize) -> Result<Text, Starved> {
+    let mut t = trial_at(alloc, p, at);
     let mut words = text_of(alloc, b"here may stand:")?;
     let mut count: usize = 0;
     for (name, one, other) in KINDS {
-        if goes_over(alloc, p, at, one, *like)? || goes_over(alloc, p, at, other, *like)? {
-            count = count.saturating_add(1);
-            words.append(if count == 1 {
-                b" ".as_slice()
-            } else {
-                b"  ".as_slice()
-            })?;
+        if t.goes_over(one) || t.goes_over(other) {
+            words.append(if count == 0 { b" " } else { b"  " })?;
             words.append(name)?;
+            count = count.saturating_add(1);
         }
     }
-    if count == 0 || count > MOST_KINDS {
-        return Ok(None);
+    if t.spent {
+        return Err(Starved);
     }
-    Ok(Some(words))
+    if count == 0 || count > MOST_KINDS {
+        words.truncate(0);
+    }
+    Ok(words)
 }

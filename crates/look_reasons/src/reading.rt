@@ -2,6 +2,7 @@
 //! topmost want, and puts others in its place or goes over a token.
 
 use crate::mark::{Mark, is_atom, is_sign};
+use crate::table::{Arity, NO_ARGUMENTS};
 use crate::{clause, expression, world};
 use asl_lexer::token::{Sign, Word};
 use asl_term::sequence::Starved;
@@ -53,12 +54,12 @@ pub enum Part {
 }
 
 /// At what a reading stopped.
-#[derive(Clone, Copy)]
+#[derive(Clone, Copy, PartialEq, Eq)]
 pub enum Halt {
     NoInner,
     NotPure,
-    /// The number of arguments of the internal action at this place.
-    Count(usize),
+    /// The number of arguments of an internal action.
+    Count,
     Argument,
     Annotation,
     List,
@@ -71,7 +72,7 @@ pub enum Halt {
     Item,
     Formula,
     Bracket,
-    Literal(Part),
+    Literal,
     NoArithmetic,
     HeadEnd,
     BeliefEnd,
@@ -81,7 +82,10 @@ pub enum Halt {
     TriggerEnd,
     ContextEnd,
     ItemEnd,
-    Action(Left),
+    /// An item that is a literal with `~` or annotations, `false`, or another term.
+    Marked,
+    False,
+    Bare,
     Twice,
     NegativeAct,
     By,
@@ -94,7 +98,7 @@ pub enum Halt {
 }
 
 /// What a clause is.
-#[derive(Clone, Copy)]
+#[derive(Clone, Copy, PartialEq, Eq)]
 pub enum Sort {
     Belief,
     Rule,
@@ -115,24 +119,20 @@ pub enum Want {
     Set(Left),
     Or(Mode),
     MoreOr(Mode),
-    OrDone(Mode),
     And(Mode),
     MoreAnd(Mode),
-    AndDone(Mode),
     Not(Mode),
     GuardNot,
     Related(Mode),
     MoreRelated(Mode),
     Sum(Mode),
     MoreSum,
-    SumDone,
     Product(Mode),
     MoreProduct,
-    ProductDone,
     Prime(Mode),
-    /// Argument of the internal action at this place, and how many stand before it.
-    Given(usize, usize),
-    MoreGiven(usize, usize),
+    /// Argument of the internal action at this place, which takes so many, and how many stand before it.
+    Given(usize, Arity, usize),
+    MoreGiven(usize, Arity, usize),
     Literal(Part),
     Annotations(bool),
     Terms(Sign, Halt),
@@ -173,6 +173,12 @@ pub struct Reading<'a> {
     /// Where the effects begin.
     pub arrow: usize,
     pub halt: Option<Halt>,
+    /// The literal and the internal action at which it stopped.
+    pub part: Part,
+    pub counted: Option<usize>,
+    pub arity: Arity,
+    /// Whether memory was refused.
+    pub spent: bool,
 }
 
 /// By hand, so that who lets one go proves nothing of its parts.
@@ -193,34 +199,29 @@ impl<'a> Drop for Reading<'a> {
             item: _,
             arrow: _,
             halt: _,
+            part: _,
+            counted: _,
+            arity: _,
+            spent: _,
         } = self;
     }
 }
 
 impl<'a> Reading<'a> {
-    fn word_at(&self, place: usize) -> Option<Word> {
-        match self.marks.get(place) {
-            Some(m) => Some(m.word),
-            None => None,
+    /// What the token is that is next.
+    pub fn word(&self) -> Word {
+        match self.marks.get(self.at) {
+            Some(m) => m.word,
+            None => Word::Other,
         }
-    }
-
-    pub fn word(&self) -> Option<Word> {
-        self.word_at(self.at)
     }
 
     pub fn is_sign(&self, sign: Sign) -> bool {
-        match self.word() {
-            Some(word) => is_sign(word, sign),
-            None => false,
-        }
+        is_sign(self.word(), sign)
     }
 
     pub fn is_atom(&self) -> bool {
-        match self.word() {
-            Some(word) => is_atom(word),
-            None => false,
-        }
+        is_atom(self.word())
     }
 
     /// Whether the token is spelled so.
@@ -235,19 +236,22 @@ impl<'a> Reading<'a> {
         self.at = self.at.saturating_add(1);
     }
 
-    pub fn want(&mut self, want: Want) -> Result<(), Starved> {
-        self.wants.push(want)?;
-        Ok(())
+    /// Wants this before all that is wanted so far.
+    pub fn want(&mut self, want: Want) {
+        if self.wants.push(want).is_err() {
+            self.spent = true;
+        }
     }
 
     pub fn stop(&mut self, halt: Halt) {
         self.halt = Some(halt);
     }
 
-    pub fn open(&mut self) -> Result<(), Starved> {
-        self.opened.push(self.at)?;
+    pub fn open(&mut self) {
+        if self.opened.push(self.at).is_err() {
+            self.spent = true;
+        }
         self.go();
-        Ok(())
     }
 
     pub fn close(&mut self, sign: Sign, halt: Halt) {
@@ -260,11 +264,11 @@ impl<'a> Reading<'a> {
     }
 
     fn end(&mut self, halt: Halt) {
-        match self.word() {
-            Some(Word::End) => self.go(),
-            _ => return self.stop(halt),
+        let ends = matches!(self.word(), Word::End);
+        if ends {
+            self.go();
         }
-        if self.at != self.marks.len() {
+        if !ends || self.at != self.marks.len() {
             self.stop(halt);
         }
     }
@@ -275,24 +279,12 @@ impl<'a> Reading<'a> {
     }
 }
 
-fn step(r: &mut Reading<'_>, want: Want) -> Result<(), Starved> {
+fn step(r: &mut Reading<'_>, want: Want) {
     match want {
-        Want::End(halt) => {
-            r.end(halt);
-            Ok(())
-        }
-        Want::Close(sign, halt) => {
-            r.close(sign, halt);
-            Ok(())
-        }
-        Want::Set(left) => {
-            r.left = left;
-            Ok(())
-        }
-        Want::WithArithmetic => {
-            r.plain = false;
-            Ok(())
-        }
+        Want::End(halt) => r.end(halt),
+        Want::Close(sign, halt) => r.close(sign, halt),
+        Want::Set(left) => r.left = left,
+        Want::WithArithmetic => r.plain = false,
         Want::BeliefRest
         | Want::TriggerRest
         | Want::Body(_)
@@ -325,6 +317,25 @@ fn start<'a>(
         item: None,
         arrow: 0,
         halt: None,
+        part: Part::Argument,
+        counted: None,
+        arity: NO_ARGUMENTS,
+        spent: false,
+    }
+}
+
+/// Goes on up to where no reading does.
+fn go_on(r: &mut Reading<'_>) {
+    // Between two tokens there are fewer steps than this.
+    let most = r.marks.len().saturating_add(2).saturating_mul(64);
+    for _ in 0..most {
+        if r.halt.is_some() || r.spent {
+            return;
+        }
+        let Some(want) = r.wants.pop() else {
+            return;
+        };
+        step(r, want);
     }
 }
 
@@ -337,20 +348,10 @@ pub fn read<'a>(
 ) -> Result<Reading<'a>, Starved> {
     let mut r = start(alloc, marks, world, used);
     if world {
-        world::begin(&mut r)?;
+        world::begin(&mut r);
     } else {
-        clause::begin(&mut r)?;
+        clause::begin(&mut r);
     }
-    // Between two tokens there are fewer steps than this.
-    let most = marks.len().saturating_add(2).saturating_mul(64);
-    for _ in 0..most {
-        if r.halt.is_some() {
-            return Ok(r);
-        }
-        let Some(want) = r.wants.pop() else {
-            return Ok(r);
-        };
-        step(&mut r, want)?;
-    }
-    Ok(r)
+    go_on(&mut r);
+    if r.spent { Err(Starved) } else { Ok(r) }
 }

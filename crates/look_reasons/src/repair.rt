@@ -1,54 +1,54 @@
 //! A fault taken for what is meant, where that is known: the reading goes on behind it.
 
-use crate::mark::{Mark, is_sign, spliced, tried};
+use crate::mark::{Mark, is_any_sign, is_sign, spliced};
 use crate::reading::{Halt, Reading};
 use asl_lexer::token::{Sign, Word};
 use asl_term::sequence::Starved;
 use std::alloc::Global;
 
-fn swapped<'a>(
-    alloc: Global,
-    marks: &[Mark<'a>],
+/// Tokens that are taken away from a place on, and up to two that stand there instead.
+#[derive(Clone, Copy)]
+struct Repair {
     at: usize,
     removed: usize,
     put: &'static [u8],
-) -> Result<Option<Vec<Mark<'a>>>, Starved> {
-    match marks.get(at) {
-        Some(t) => Ok(Some(spliced(alloc, marks, at, removed, &[tried(alloc, put, *t)?])?)),
-        None => Ok(None),
+    behind: &'static [u8],
+}
+
+fn instead(at: usize, removed: usize, put: &'static [u8]) -> Repair {
+    Repair {
+        at,
+        removed,
+        put,
+        behind: b"",
     }
 }
 
-fn is_at(marks: &[Mark<'_>], at: usize, sign: Sign) -> bool {
+/// What the token at a place is.
+fn word_at(marks: &[Mark<'_>], at: usize) -> Word {
     match marks.get(at) {
-        Some(m) => is_sign(m.word, sign),
-        None => false,
+        Some(m) => m.word,
+        None => Word::Other,
     }
 }
 
 /// Without a label's annotations.
-fn without_annotations<'a>(
-    alloc: Global,
-    marks: &[Mark<'a>],
-    at: usize,
-) -> Result<Option<Vec<Mark<'a>>>, Starved> {
+fn without_annotations(marks: &[Mark<'_>], at: usize) -> Option<Repair> {
     for end in at..marks.len() {
-        if is_at(marks, end, Sign::CloseSquare) {
-            let removed = (end - at).saturating_add(1);
-            return Ok(Some(spliced(alloc, marks, at, removed, &[])?));
+        if is_sign(word_at(marks, end), Sign::CloseSquare) {
+            return Some(instead(at, (end - at).saturating_add(1), b""));
         }
     }
-    Ok(None)
+    None
 }
 
-fn opens(word: Word) -> bool {
-    is_sign(word, Sign::Open) || is_sign(word, Sign::OpenSquare) || is_sign(word, Sign::OpenBrace)
-}
-
-fn closes(word: Word) -> bool {
-    is_sign(word, Sign::Close)
-        || is_sign(word, Sign::CloseSquare)
-        || is_sign(word, Sign::CloseBrace)
+/// How many more brackets are open behind a token than before it.
+fn depth_of(word: Word) -> i64 {
+    match word {
+        Word::Sign(Sign::Open | Sign::OpenSquare | Sign::OpenBrace) => 1,
+        Word::Sign(Sign::Close | Sign::CloseSquare | Sign::CloseBrace) => -1,
+        _ => 0,
+    }
 }
 
 fn goes_on(marks: &[Mark<'_>], at: usize) -> bool {
@@ -58,24 +58,22 @@ fn goes_on(marks: &[Mark<'_>], at: usize) -> bool {
     }
 }
 
+/// Whether an item ends before this token.
+fn ends_item(word: Word) -> bool {
+    matches!(word, Word::Sign(Sign::Semicolon) | Word::End)
+}
+
 /// Where a control item ends that begins at a place: at its `;` or dot, or behind its last brace.
 fn control_end(marks: &[Mark<'_>], from: usize) -> Option<usize> {
     let mut depth: i64 = 0;
     for at in from..marks.len() {
-        let Some(m) = marks.get(at) else {
-            return None;
-        };
-        if opens(m.word) {
-            depth = depth.saturating_add(1);
-        }
-        if closes(m.word) {
-            depth = depth.saturating_sub(1);
-        }
-        if depth == 0 && (is_sign(m.word, Sign::Semicolon) || matches!(m.word, Word::End)) {
+        let word = word_at(marks, at);
+        depth = depth.saturating_add(depth_of(word));
+        if depth == 0 && ends_item(word) {
             return Some(at);
         }
         let next = at.saturating_add(1);
-        if depth == 0 && is_sign(m.word, Sign::CloseBrace) && !goes_on(marks, next) {
+        if depth == 0 && is_sign(word, Sign::CloseBrace) && !goes_on(marks, next) {
             return if next < marks.len() { Some(next) } else { None };
         }
     }
@@ -83,83 +81,69 @@ fn control_end(marks: &[Mark<'_>], from: usize) -> Option<usize> {
 }
 
 /// The control item taken for one item.
-fn without_control<'a>(
-    alloc: Global,
-    marks: &[Mark<'a>],
-    from: usize,
-) -> Result<Option<Vec<Mark<'a>>>, Starved> {
-    let (Some(end), Some(item)) = (control_end(marks, from), marks.get(from)) else {
-        return Ok(None);
+fn without_control(marks: &[Mark<'_>], from: usize) -> Option<Repair> {
+    let end = control_end(marks, from)?;
+    let behind: &'static [u8] = if ends_item(word_at(marks, end)) {
+        b""
+    } else {
+        b";"
     };
-    let removed = end.saturating_sub(from);
-    let fail = tried(alloc, b".fail", *item)?;
-    let ends = match marks.get(end) {
-        Some(m) => is_sign(m.word, Sign::Semicolon) || matches!(m.word, Word::End),
+    Some(Repair {
+        at: from,
+        removed: end.saturating_sub(from),
+        put: b".fail",
+        behind,
+    })
+}
+
+fn relation(marks: &[Mark<'_>], r: &Reading<'_>) -> Option<Repair> {
+    let t = marks.get(r.at)?;
+    let touched = match marks.get(r.at.saturating_sub(1)) {
+        Some(m) => r.at > 0 && is_any_sign(m.word) && m.end == t.at,
         None => false,
     };
-    if ends {
-        return Ok(Some(spliced(alloc, marks, from, removed, &[fail])?));
-    }
-    let next = tried(alloc, b";", *item)?;
-    Ok(Some(spliced(alloc, marks, from, removed, &[fail, next])?))
-}
-
-fn without<'a>(
-    alloc: Global,
-    marks: &[Mark<'a>],
-    at: usize,
-) -> Result<Option<Vec<Mark<'a>>>, Starved> {
-    Ok(Some(spliced(alloc, marks, at, 1, &[])?))
-}
-
-/// The item that stands for an internal action that is not there.
-fn action_for(marks: &[Mark<'_>], behind: usize) -> &'static [u8] {
-    if is_at(marks, behind, Sign::Open) {
-        b".print"
+    if touched || is_sign(t.word, Sign::Bang) {
+        Some(instead(r.at, 1, b""))
     } else {
-        b".fail"
+        None
     }
 }
 
-fn relation<'a>(
-    alloc: Global,
-    marks: &[Mark<'a>],
-    r: &Reading<'_>,
-) -> Result<Option<Vec<Mark<'a>>>, Starved> {
-    let Some(t) = marks.get(r.at) else {
-        return Ok(None);
-    };
-    let before = if r.at == 0 { None } else { marks.get(r.at - 1) };
-    if let Some(p) = before {
-        if matches!(p.word, Word::Sign(_)) && p.end == t.at {
-            return without(alloc, marks, r.at);
-        }
-    }
-    if is_sign(t.word, Sign::Bang) {
-        return without(alloc, marks, r.at);
-    }
-    Ok(None)
-}
-
-fn inner<'a>(
-    alloc: Global,
-    marks: &[Mark<'a>],
-    r: &Reading<'_>,
-    own: bool,
-) -> Result<Option<Vec<Mark<'a>>>, Starved> {
-    let next = r.at.saturating_add(1);
+/// The item that stands for an internal action of so many tokens that is not there.
+fn action(marks: &[Mark<'_>], r: &Reading<'_>, count: usize) -> Option<Repair> {
     if r.item != Some(r.at) {
-        return Ok(None);
+        return None;
     }
-    if !own {
-        return swapped(alloc, marks, r.at, 1, action_for(marks, next));
+    let opens = is_sign(word_at(marks, r.at.saturating_add(count)), Sign::Open);
+    let put: &'static [u8] = if opens { b".print" } else { b".fail" };
+    Some(instead(r.at, count, put))
+}
+
+fn own_action(marks: &[Mark<'_>], r: &Reading<'_>) -> Option<Repair> {
+    match word_at(marks, r.at.saturating_add(1)) {
+        Word::Inner => action(marks, r, 2),
+        _ => None,
     }
-    match marks.get(next) {
-        Some(m) if matches!(m.word, Word::Inner) => {
-            let put = action_for(marks, next.saturating_add(1));
-            swapped(alloc, marks, r.at, 2, put)
-        }
-        _ => Ok(None),
+}
+
+/// What the fault of this code is taken for.
+fn repair_of(marks: &[Mark<'_>], r: &Reading<'_>, code: &[u8]) -> Option<Repair> {
+    match code {
+        b"arrow" => Some(instead(r.at, 1, b"<-")),
+        b"comma" => match r.halt {
+            Some(Halt::ItemEnd) => Some(instead(r.at, 1, b";")),
+            _ => Some(instead(r.at, 1, b"&")),
+        },
+        b"label" => without_annotations(marks, r.at),
+        b"control" => without_control(marks, r.item?),
+        b"own-inner" => own_action(marks, r),
+        b"no-inner" => action(marks, r, 1),
+        b"variable" => match r.halt {
+            Some(Halt::Literal) => Some(instead(r.at, 1, b"p")),
+            _ => None,
+        },
+        b"relation" => relation(marks, r),
+        _ => None,
     }
 }
 
@@ -173,23 +157,8 @@ pub fn repaired<'a>(
     if r.at >= marks.len() {
         return Ok(None);
     }
-    match code {
-        b"arrow" => swapped(alloc, marks, r.at, 1, b"<-"),
-        b"comma" => {
-            let item = matches!(r.halt, Some(Halt::ItemEnd));
-            swapped(alloc, marks, r.at, 1, if item { b";" } else { b"&" })
-        }
-        b"label" => without_annotations(alloc, marks, r.at),
-        b"control" => match r.item {
-            Some(from) => without_control(alloc, marks, from),
-            None => Ok(None),
-        },
-        b"own-inner" => inner(alloc, marks, r, true),
-        b"no-inner" => inner(alloc, marks, r, false),
-        b"variable" if matches!(r.halt, Some(Halt::Literal(_))) => {
-            swapped(alloc, marks, r.at, 1, b"p")
-        }
-        b"relation" => relation(alloc, marks, r),
-        _ => Ok(None),
+    match repair_of(marks, r, code) {
+        Some(x) => Ok(Some(spliced(alloc, marks, x.at, x.removed, &[x.put, x.behind])?)),
+        None => Ok(None),
     }
 }

@@ -15,6 +15,13 @@ pub struct Arity {
     pub high: Option<usize>,
 }
 
+/// Those of an action that takes none.
+pub const NO_ARGUMENTS: Arity = Arity {
+    pure: true,
+    low: 0,
+    high: Some(0),
+};
+
 /// More arguments than any action takes that does not take any number of them.
 const MANY: u64 = 5;
 
