@@ -2,7 +2,9 @@
 
 use asl_term::copying::text_of;
 use asl_term::names::{Names, number};
-use asl_term::sequence::Starved;
+use asl_term::sequence::{Seq, Starved};
+use look_reasons::bytes::line_end;
+use look_reasons::mark::between;
 use std::alloc::Global;
 
 /// A message that was sent or taken, in a cycle of the agent of a number.
@@ -26,10 +28,10 @@ pub struct Waiting<'a> {
 /// What the lines tell: the names of the agents, what was sent and taken, what waits, and the cycles that spent a budget.
 pub struct MailLines<'a> {
     pub names: Names,
-    pub sent: Vec<Letter<'a>>,
-    pub took: Vec<Letter<'a>>,
-    pub waiting: Vec<Waiting<'a>>,
-    pub spent: Vec<(u64, u64)>,
+    pub sent: Seq<Letter<'a>>,
+    pub took: Seq<Letter<'a>>,
+    pub waiting: Seq<Waiting<'a>>,
+    pub spent: Seq<Letter<'a>>,
 }
 
 /// By hand, so that who lets one go proves nothing of its parts.
@@ -45,6 +47,9 @@ impl<'a> Drop for MailLines<'a> {
     }
 }
 
+/// The most agents whose lines are read.
+const MOST_NAMES: u32 = 1_000_000;
+
 /// In which part of the report a line stands.
 #[derive(Clone, Copy)]
 enum Section {
@@ -57,97 +62,126 @@ enum Section {
 
 /// The first word, and what is behind its blank.
 fn first_word(text: &[u8]) -> (&[u8], &[u8]) {
-    for (at, b) in text.iter().enumerate() {
+    let mut at: usize = 0;
+    for b in text {
         if *b == b' ' {
-            return text.split_at(at);
+            break;
         }
+        at = at.saturating_add(1);
     }
-    (text, &[])
+    (
+        between(text, 0, at),
+        between(text, at.saturating_add(1), text.len()),
+    )
 }
 
-/// A text without a blank at its front.
-fn behind_blank(text: &[u8]) -> &[u8] {
-    match text {
-        [b' ', rest @ ..] => rest,
-        _ => text,
-    }
+/// Four words, and what is behind them.
+fn words_of(line: &[u8]) -> [&[u8]; 5] {
+    let (first, rest) = first_word(line);
+    let (second, rest) = first_word(rest);
+    let (third, rest) = first_word(rest);
+    let (fourth, rest) = first_word(rest);
+    [first, second, third, fourth, rest]
 }
 
-fn next_word<'a>(text: &mut &'a [u8]) -> &'a [u8] {
-    let (word, rest) = first_word(text);
-    *text = behind_blank(rest);
-    word
+/// A number with one more digit.
+fn with_digit(number: u64, digit: u8) -> Option<u64> {
+    match number.checked_mul(10) {
+        Some(tens) if digit.is_ascii_digit() => tens.checked_add((digit - b'0') as u64),
+        _ => None,
+    }
 }
 
 /// The number that digits write.
-pub fn number_of(digits: &[u8]) -> Option<u64> {
-    if digits.is_empty() {
-        return None;
+fn number_of(digits: &[u8]) -> Option<u64> {
+    let mut number = if digits.is_empty() { None } else { Some(0) };
+    for digit in digits {
+        number = match number {
+            Some(n) => with_digit(n, *digit),
+            None => None,
+        };
     }
-    let mut sum: u64 = 0;
-    for d in digits {
-        if !d.is_ascii_digit() {
-            return None;
-        }
-        sum = sum.checked_mul(10)?.checked_add((*d - b'0') as u64)?;
-    }
-    Some(sum)
+    number
 }
 
+fn is_name(line: &[u8]) -> bool {
+    let (word, _) = first_word(line);
+    word == b"agent".as_slice()
+}
+
+/// The part behind a line in front of an agent, where there are so many names.
+fn front_behind(line: &[u8], names: u32) -> Section {
+    if names < MOST_NAMES && is_name(line) {
+        Section::Agent
+    } else {
+        Section::Front
+    }
+}
+
+/// The part in which the next line stands, where there are so many names. A line of an agent's trace begins with a number.
+fn section_behind(at: Section, line: &[u8], names: u32) -> Section {
+    match at {
+        Section::Front => front_behind(line, names),
+        Section::Agent if line.starts_with(b"end ") => Section::Ended,
+        Section::Ended if line == b"world".as_slice() => Section::World,
+        Section::Ended => front_behind(line, names),
+        Section::World if line == b"mail".as_slice() => Section::Mail,
+        _ => at,
+    }
+}
+
+/// Puts what a line of a trace says that has this word behind its number.
+fn put_letter<'a>(m: &mut MailLines<'a>, kind: &[u8], letter: Letter<'a>) -> Result<(), Starved> {
+    if kind == b"sends".as_slice() {
+        m.sent.push(letter)
+    } else if kind == b"took".as_slice() {
+        m.took.push(letter)
+    } else if kind == b"spent".as_slice() {
+        m.spent.push(letter)
+    } else {
+        Ok(())
+    }
+}
+
+/// Puts what a line of the trace of the last agent says.
 fn put_trace<'a>(m: &mut MailLines<'a>, line: &'a [u8]) -> Result<(), Starved> {
     let agent = m.names.len() as u64;
-    let mut rest = line;
-    let Some(cycle) = number_of(next_word(&mut rest)) else {
-        return Ok(());
-    };
-    let kind = next_word(&mut rest);
-    if kind == b"spent".as_slice() {
-        m.spent.push((agent, cycle))?;
-        return Ok(());
+    let [first, kind, other, verb, content] = words_of(line);
+    match number_of(first) {
+        Some(cycle) => {
+            let letter = Letter {
+                agent,
+                other,
+                cycle,
+                verb,
+                content,
+            };
+            put_letter(m, kind, letter)
+        }
+        None => Ok(()),
     }
-    let other = next_word(&mut rest);
-    let verb = next_word(&mut rest);
-    let letter = Letter {
-        agent,
-        other,
-        cycle,
-        verb,
-        content: rest,
-    };
-    if kind == b"sends".as_slice() {
-        m.sent.push(letter)?;
-    }
-    if kind == b"took".as_slice() {
-        m.took.push(letter)?;
-    }
-    Ok(())
-}
-
-fn put_name<'a>(alloc: Global, m: &mut MailLines<'a>, line: &'a [u8]) -> Result<Section, Starved> {
-    let mut rest = line;
-    if next_word(&mut rest) != b"agent".as_slice() || m.names.len() >= 1_000_000 {
-        return Ok(Section::Front);
-    }
-    let name = text_of(alloc, rest)?;
-    number(&mut m.names, &name)?;
-    Ok(Section::Agent)
 }
 
 fn put_waiting<'a>(m: &mut MailLines<'a>, line: &'a [u8]) -> Result<(), Starved> {
-    let mut rest = line;
-    let first = next_word(&mut rest);
-    let to = next_word(&mut rest);
-    let second = next_word(&mut rest);
-    let from = next_word(&mut rest);
-    if first == b"for".as_slice() && second == b"from".as_slice() {
-        m.waiting.push(Waiting { from, to })?;
+    let [first, to, third, from, _] = words_of(line);
+    if first == b"for".as_slice() && third == b"from".as_slice() {
+        m.waiting.push(Waiting { from, to })
+    } else {
+        Ok(())
     }
-    Ok(())
 }
 
-/// Whether the line ends the part of an agent. A line of its trace begins with a number.
-fn is_end(line: &[u8]) -> bool {
-    line.starts_with(b"end ")
+/// Puts the name of an agent, where a line has one.
+fn put_name(alloc: Global, names: &mut Names, line: &[u8]) -> Result<(), Starved> {
+    let (word, name) = first_word(line);
+    if word != b"agent".as_slice() || names.len() >= MOST_NAMES {
+        return Ok(());
+    }
+    let name = text_of(alloc, name)?;
+    match number(names, &name) {
+        Ok(_) => Ok(()),
+        Err(_) => Err(Starved),
+    }
 }
 
 fn put_line<'a>(
@@ -155,49 +189,44 @@ fn put_line<'a>(
     m: &mut MailLines<'a>,
     at: Section,
     line: &'a [u8],
-) -> Result<Section, Starved> {
+) -> Result<(), Starved> {
     match at {
-        Section::Front => put_name(alloc, m, line),
-        Section::Ended => {
-            if line == b"world".as_slice() {
-                return Ok(Section::World);
-            }
-            put_name(alloc, m, line)
-        }
-        Section::Agent => {
-            if is_end(line) {
-                return Ok(Section::Ended);
-            }
-            put_trace(m, line)?;
-            Ok(Section::Agent)
-        }
-        Section::World => {
-            if line == b"mail".as_slice() {
-                return Ok(Section::Mail);
-            }
-            Ok(Section::World)
-        }
-        Section::Mail => {
-            put_waiting(m, line)?;
-            Ok(Section::Mail)
-        }
+        Section::Front | Section::Ended => put_name(alloc, &mut m.names, line),
+        Section::Agent => put_trace(m, line),
+        Section::World => Ok(()),
+        Section::Mail => put_waiting(m, line),
     }
 }
 
-/// What the lines of a report tell of messages.
-pub fn mail_lines<'a>(alloc: Global, bytes: &'a [u8]) -> Result<MailLines<'a>, Starved> {
-    let mut m = MailLines {
+/// The place behind the line that begins here.
+fn behind_line(bytes: &[u8], from: usize) -> usize {
+    line_end(bytes, from).saturating_add(1)
+}
+
+/// What no lines tell.
+pub fn no_lines<'a>(alloc: Global) -> Result<MailLines<'a>, Starved> {
+    Ok(MailLines {
         names: Names::new(alloc)?,
-        sent: Vec::new(alloc),
-        took: Vec::new(alloc),
-        waiting: Vec::new(alloc),
-        spent: Vec::new(alloc),
-    };
+        sent: Seq::new(alloc),
+        took: Seq::new(alloc),
+        waiting: Seq::new(alloc),
+        spent: Seq::new(alloc),
+    })
+}
+
+/// Puts what the lines of a report tell of messages. Its first two lines tell of none.
+pub fn put_lines<'a>(alloc: Global, m: &mut MailLines<'a>, bytes: &'a [u8]) -> Result<(), Starved> {
     let mut at = Section::Front;
-    for (k, line) in bytes.split(|b| *b == b'\n').enumerate() {
-        if k >= 2 {
-            at = put_line(alloc, &mut m, at, line)?;
+    let mut from = behind_line(bytes, behind_line(bytes, 0));
+    for _ in 0..bytes.len() {
+        if from >= bytes.len() {
+            break;
         }
+        let line = between(bytes, from, line_end(bytes, from));
+        let next = section_behind(at, line, m.names.len());
+        put_line(alloc, m, at, line)?;
+        at = next;
+        from = behind_line(bytes, from);
     }
-    Ok(m)
+    Ok(())
 }

@@ -8,19 +8,24 @@ ghost use Rattle.mas_top_files.specs.Files.{Has, IsUnfetched, most_bytes};
 ghost use Rattle.mas_top_files.specs.Projects as words;
 ghost use Rattle.mas_top_status.specs.declared.status.Status.TheVariants as status;
 ghost use Rattle.look_where.specs.Files as spec;
+ghost use Rattle.look_where.specs.Others.{TellsProject};
+ghost use Rattle.look_where.specs.declared.files.FileKind.TheVariants.{Project};
 
-use crate::projects::{Lead, ProjectRead, project_read, project_told};
+use crate::faults::{Fault, Faults, MISSING, Rule, TOO_LARGE, UNREAD, fault_at};
+use crate::leads::Lead;
+use crate::parts::{Part, text_of_parts};
+use crate::projects::{project_read, project_told};
 use crate::worlds::world_told;
 use asl_term::compare::same_text;
-use asl_term::copying::{copy_text, text_of};
+use asl_term::copying::copy_text;
 use asl_term::names::Names;
 use asl_term::sequence::{Seq, Starved};
 use asl_term::syntax::Text;
 use look_pieces::agents::agent_told;
 use look_pieces::findings::Findings;
-use look_reasons::bytes::mended_of;
+use look_reasons::bytes::{Mended, mended_of};
 use look_reasons::excerpt::shown;
-use look_reasons::reason::{Reason, reason_at};
+use look_reasons::mark::between;
 use mas_io::shelf::Shelf;
 use mas_project::syntax::ProjectText;
 use mas_top_files::files::bytes_of;
@@ -146,41 +151,40 @@ pub fn is_lack(status: &Status) -> bool
     matches!(status, Status::Memory)
 }
 
-fn lacking_words(why: &Status) -> &'static [u8] {
+/// What is told of a file that is not there.
+fn lacking_rule(why: &Status) -> &'static Rule {
     match why {
-        Status::Missing(_) => b"no such file: ",
-        Status::Limit { .. } => b"more than 1048576 bytes: ",
-        _ => b"cannot be read: ",
+        Status::Missing(_) => &MISSING,
+        Status::Limit { .. } => &TOO_LARGE,
+        _ => &UNREAD,
     }
 }
 
-/// Why a file is not there.
-fn lacking(alloc: Global, lead: &Lead, name: &Text, why: &Status) -> Result<Reason, Starved> {
-    let name = shown(alloc, name.as_slice())?;
-    let words = [lacking_words(why), name.as_slice()];
-    reason_at(alloc, (lead.at, lead.end), b"missing-file", &words, b"")
+/// Whether the file of this name is the one to which a project in a directory leads so.
+fn is_led(name: &[u8], directory: &[u8], lead: &Lead<'_>) -> bool {
+    let stem = directory.len();
+    let ending = stem.saturating_add(lead.stem.len());
+    name.starts_with(directory)
+        && between(name, stem, ending) == lead.stem
+        && between(name, ending, name.len()) == lead.ending
 }
 
-fn file_in(alloc: Global, directory: &[u8], file: &Text) -> Result<Text, Starved> {
-    let mut name = text_of(alloc, directory)?;
-    name.append(file.as_slice())?;
-    Ok(name)
-}
-
-/// Puts a reason why a wanted file is not there, at the first token that leads to it.
-fn put_lacking(
-    alloc: Global,
-    directory: &[u8],
-    leads: &[Lead],
+/// Puts why a wanted file is not there, at the first token that leads to it.
+fn put_lacking<'a>(
+    directory: &'a [u8],
+    leads: &[Lead<'a>],
     w: &Wanted,
     why: &Status,
-    reasons: &mut Vec<Reason>,
+    faults: &mut Faults<'a>,
 ) -> Result<(), Starved> {
     for lead in leads {
-        let name = file_in(alloc, directory, &lead.file)?;
-        if lead.world == w.world && same_text(&name, &w.name) {
-            reasons.push(lacking(alloc, lead, &name, why)?)?;
-            return Ok(());
+        if lead.world == w.world && is_led(w.name.as_slice(), directory, lead) {
+            return faults.push(Fault {
+                before: directory,
+                token: lead.stem,
+                ending: lead.ending,
+                ..fault_at(lacking_rule(why), lead.named.at, lead.named.end)
+            });
         }
     }
     Ok(())
@@ -242,29 +246,57 @@ fn wanted_of(alloc: Global, p: &ProjectText) -> Result<Seq<Wanted>, Starved>
     Ok(all)
 }
 
+/// The files of a project that is read, which is let go.
+fn wanted_in(alloc: Global, p: ProjectText) -> Result<Seq<Wanted>, Starved>
+    ensures { IfOk result (λ ws. ws ≡ spec.wanted_of p) }
+{
+    let wanted = wanted_of(alloc, &p);
+    drop(p);
+    wanted
+}
+
+/// The name of the file to which a project in a directory leads so.
+fn file_of(alloc: Global, directory: &[u8], lead: &Lead<'_>) -> Result<Text, Starved> {
+    let parts = [
+        Part::Words(directory),
+        Part::Words(lead.stem),
+        Part::Words(lead.ending),
+    ];
+    text_of_parts(alloc, &parts)
+}
+
+fn put_wanted(
+    alloc: Global,
+    all: &mut Seq<Wanted>,
+    directory: &[u8],
+    lead: &Lead<'_>,
+) -> Result<(), Starved> {
+    let name = file_of(alloc, directory, lead)?;
+    if lead.world {
+        all.push(Wanted { name, world: true })
+    } else {
+        put_agent(alloc, all, &name)
+    }
+}
+
 /// The files to which a project leads that is not read.
-fn wanted_by(alloc: Global, directory: &[u8], leads: &[Lead]) -> Result<Seq<Wanted>, Starved> {
+fn wanted_by(alloc: Global, directory: &[u8], leads: &[Lead<'_>]) -> Result<Seq<Wanted>, Starved> {
     let mut all = Seq::new(alloc);
     for lead in leads {
-        let name = file_in(alloc, directory, &lead.file)?;
-        if lead.world {
-            all.push(want(alloc, true, &name)?)?;
-        } else {
-            put_agent(alloc, &mut all, &name)?;
-        }
+        put_wanted(alloc, &mut all, directory, lead)?;
     }
     Ok(all)
 }
 
-/// What is told of a wanted file. Where it is not there a reason is put.
+/// What is told of a wanted file. Where it is not there a fault is put.
 #[tactic(auto, using(crate::proofs::Telling::lacking))]
-fn wanted_told<S: Shelf>(
+fn wanted_told<'a, S: Shelf>(
     alloc: Global,
     known: &Names,
     w: &Wanted,
-    directory: &[u8],
-    leads: &[Lead],
-    reasons: &mut Vec<Reason>,
+    directory: &'a [u8],
+    leads: &[Lead<'a>],
+    faults: &mut Faults<'a>,
     shelf: &mut S,
 ) -> Result<Option<FileTold>, Status>
     ensures same { S.holds shelf.new ≡ S.holds shelf.old }
@@ -275,11 +307,13 @@ fn wanted_told<S: Shelf>(
     match file_told(alloc, known, w.world, &w.name, shelf) {
         Ok(told) => Ok(Some(told)),
         Err(why) => {
-            if is_lack(&why) {
-                return Err(Status::Memory);
+            let lack = is_lack(&why);
+            let put = put_lacking(directory, leads, w, &why, faults);
+            drop(why);
+            match put {
+                Ok(()) if !lack => Ok(None),
+                _ => Err(Status::Memory),
             }
-            put_lacking(alloc, directory, leads, w, &why, reasons)?;
-            Ok(None)
         }
     }
 }
@@ -293,15 +327,15 @@ fn put_told(files: &mut FilesTold, told: Option<FileTold>) -> Result<(), Starved
     }
 }
 
-/// What is told of the wanted files, those that are there. Of the others reasons are put.
+/// What is told of the wanted files, those that are there. Of the others faults are put.
 #[tactic(auto, using(crate::proofs::Telling::begins, crate::proofs::Telling::more, crate::proofs::Telling::ends))]
-fn all_told<S: Shelf>(
+fn all_told<'a, S: Shelf>(
     alloc: Global,
     known: &Names,
     wanted: &Seq<Wanted>,
-    directory: &[u8],
-    leads: &[Lead],
-    reasons: &mut Vec<Reason>,
+    directory: &'a [u8],
+    leads: &[Lead<'a>],
+    faults: &mut Faults<'a>,
     shelf: &mut S,
 ) -> Result<FilesTold, Status>
     ensures same { S.holds shelf.new ≡ S.holds shelf.old }
@@ -312,7 +346,7 @@ fn all_told<S: Shelf>(
     let mut files: FilesTold = Seq::new(alloc);
     let mut rest = wanted.as_slice();
     'wanted: while let Some((w, after)) = rest.split_first() {
-        let told = match wanted_told(alloc, known, w, directory, leads, reasons, shelf) {
+        let told = match wanted_told(alloc, known, w, directory, leads, faults, shelf) {
             Ok(told) => told,
             Err(_) => return Err(Status::Memory),
         };
@@ -323,12 +357,12 @@ fn all_told<S: Shelf>(
 }
 
 /// The files of the project of this name: all of them where it is read, else those to which it leads.
-fn others_told<S: Shelf>(
+fn others_told<'a, S: Shelf>(
     alloc: Global,
     known: &Names,
-    word: &Text,
-    leads: &[Lead],
-    reasons: &mut Vec<Reason>,
+    word: &'a Text,
+    leads: &[Lead<'a>],
+    faults: &mut Faults<'a>,
     shelf: &mut S,
 ) -> Result<FilesTold, Status>
     ensures same { S.holds shelf.new ≡ S.holds shelf.old }
@@ -339,19 +373,20 @@ fn others_told<S: Shelf>(
     let directory = folder(word.as_slice());
     match project_of(alloc, word, shelf) {
         Ok(p) => {
-            let wanted = wanted_of(alloc, &p)?;
-            drop(p);
-            match all_told(alloc, known, &wanted, directory, leads, reasons, shelf) {
+            let wanted = wanted_in(alloc, p)?;
+            match all_told(alloc, known, &wanted, directory, leads, faults, shelf) {
                 Ok(files) => Ok(files),
                 Err(_) => Err(Status::Memory),
             }
         }
         Err(why) => {
             if is_lack(&why) {
+                drop(why);
                 return Err(Status::Memory);
             }
+            drop(why);
             let wanted = wanted_by(alloc, directory, leads)?;
-            match all_told(alloc, known, &wanted, directory, leads, reasons, shelf) {
+            match all_told(alloc, known, &wanted, directory, leads, faults, shelf) {
                 Ok(files) => Ok(files),
                 Err(_) => Err(Status::Memory),
             }
@@ -367,6 +402,20 @@ fn with_first(alloc: Global, first: FileTold, others: FilesTold) -> Result<Files
     all.push(first)?;
     all.append_all(others)?;
     Ok(all)
+}
+
+/// What is told of the file of a project with these bytes and faults.
+fn first_told(
+    alloc: Global,
+    word: &Text,
+    bytes: &[u8],
+    m: &Mended,
+    faults: Faults<'_>,
+) -> Result<FileTold, Starved>
+    ensures { IfOk result (λ t. (t.kind ≡ Project) × (t.name ≡ word.now) × TellsProject bytes.now t.findings) }
+{
+    let findings = project_told(alloc, bytes, m, faults)?;
+    named(alloc, FileKind::Project, word, findings)
 }
 
 /// What is told of the project whose file has these bytes, and of its files.
@@ -386,14 +435,14 @@ fn project_files<S: Shelf>(
     ensures starved { IfErr result (λ s. s ≡ status.Memory) }
 {
     let mended = mended_of(alloc, bytes)?;
-    let ProjectRead { reasons, leads } = project_read(alloc, &mended)?;
-    let mut reasons = reasons;
-    let files = match others_told(alloc, known, word, leads.as_slice(), &mut reasons, shelf) {
+    let read = project_read(alloc, &mended)?;
+    let (faults, leads) = read.into_parts();
+    let mut faults = faults;
+    let files = match others_told(alloc, known, word, leads.as_slice(), &mut faults, shelf) {
         Ok(files) => files,
         Err(_) => return Err(Status::Memory),
     };
-    let findings = project_told(alloc, bytes, &mended, reasons)?;
-    let first = named(alloc, FileKind::Project, word, findings)?;
+    let first = first_told(alloc, word, bytes, &mended, faults)?;
     match with_first(alloc, first, files) {
         Ok(all) => Ok(all),
         Err(_) => Err(Status::Memory),

@@ -5,8 +5,10 @@
 //! Must not: decide by a reason whether a file is refused, touch a real file, write to a sink, run an agent.
 #![tactic(auto)]
 
+pub mod faults;
 pub mod files;
 pub mod leads;
+pub mod parts;
 pub mod printing;
 pub mod projects;
 pub mod worlds;

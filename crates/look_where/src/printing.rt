@@ -5,13 +5,13 @@ ghost use Rattle.std.specs.List.{flat_map, list_any};
 ghost use Rattle.look_where.specs.Showing as spec;
 
 use crate::files::{FileTold, FilesTold, files_told, is_lack};
+use crate::parts::{Part, text_of_parts};
 use asl_term::names::Names;
 use asl_term::printing::write_number;
 use asl_term::sequence::{Seq, Starved};
 use asl_term::syntax::Text;
 use look_answer::answer::Output;
 use look_pieces::findings::Finding;
-use look_reasons::excerpt::shown;
 use mas_io::shelf::Shelf;
 use mas_top_files::sources::sources;
 use mas_top_status::status::{Status, fault_line};
@@ -70,30 +70,50 @@ fn is_found(files: &FilesTold) -> bool
 pub fn put_counted(alloc: Global, n: u64, what: &[u8], out: &mut Text) -> Result<(), Starved> {
     write_number(alloc, n, out)?;
     out.append(what)?;
-    if n != 1 {
-        out.push(b's')?;
-    }
-    Ok(())
+    out.append(plural(n))
 }
 
-/// How many files there are, how many of them are refused, and at how many places.
-fn summary(alloc: Global, files: &[FileTold]) -> Result<Text, Starved> {
+/// How many findings there are, and how many files have some.
+#[derive(Clone, Copy)]
+struct Counts {
+    refused: u64,
+    places: u64,
+}
+
+fn counts_of(files: &[FileTold]) -> Counts {
     let mut refused: u64 = 0;
     let mut places: u64 = 0;
     for t in files {
-        if t.findings.len() > 0 {
-            refused = refused.saturating_add(1);
-        }
-        places = places.saturating_add(t.findings.len());
+        let count = t.findings.len();
+        refused = refused.saturating_add(count.min(1));
+        places = places.saturating_add(count);
     }
-    let mut out = Seq::new(alloc);
-    put_counted(alloc, files.len() as u64, b" file", &mut out)?;
-    out.append(b", ")?;
-    write_number(alloc, refused, &mut out)?;
-    out.append(b" refused, ")?;
-    put_counted(alloc, places, b" place", &mut out)?;
-    out.push(b'\n')?;
-    Ok(out)
+    Counts { refused, places }
+}
+
+/// What ends a word of which there are so many.
+fn plural(count: u64) -> &'static [u8] {
+    if count == 1 { b"" } else { b"s" }
+}
+
+/// What stands behind the findings: a line, how many files there are, how many of them are refused, and at how many places.
+fn behind_files(alloc: Global, files: &[FileTold], line: &Text) -> Result<Text, Starved> {
+    let all = files.len() as u64;
+    let counts = counts_of(files);
+    let parts = [
+        Part::Words(line.as_slice()),
+        Part::Number(all),
+        Part::Words(b" file"),
+        Part::Words(plural(all)),
+        Part::Words(b", "),
+        Part::Number(counts.refused),
+        Part::Words(b" refused, "),
+        Part::Number(counts.places),
+        Part::Words(b" place"),
+        Part::Words(plural(counts.places)),
+        Part::Words(b"\n"),
+    ];
+    text_of_parts(alloc, &parts)
 }
 
 /// Whether `jasonrun` refuses the project, and the line with which it does.
@@ -102,17 +122,23 @@ pub struct Refusal {
     pub line: Text,
 }
 
+/// A line without its line feed.
+fn without_end(line: &[u8]) -> &[u8] {
+    match line {
+        [text @ .., b'\n'] => text,
+        _ => line,
+    }
+}
+
 /// The line of a status, as it is shown.
 fn status_line(alloc: Global, status: &Status) -> Result<Text, Starved> {
     let line = fault_line(alloc, status)?;
-    let mut out = Seq::new(alloc);
-    out.append(b"jasonrun: ")?;
-    match line.as_slice() {
-        [text @ .., b'\n'] => out.append(shown(alloc, text)?.as_slice())?,
-        text => out.append(shown(alloc, text)?.as_slice())?,
-    }
-    out.push(b'\n')?;
-    Ok(out)
+    let parts = [
+        Part::Words(b"jasonrun: "),
+        Part::Shown(without_end(line.as_slice())),
+        Part::Words(b"\n"),
+    ];
+    text_of_parts(alloc, &parts)
 }
 
 /// Whether `jasonrun` refuses the project. Each agent may make one cycle, so that the limit of cycles is none of the causes.
@@ -157,11 +183,7 @@ fn text_of_files(alloc: Global, files: &FilesTold, line: &Text) -> Result<Text, 
 {
     let mut out = Seq::new(alloc);
     put_files(alloc, files.as_slice(), &mut out)?;
-    let last = summary(alloc, files.as_slice())?;
-    let mut behind = Seq::new(alloc);
-    behind.append(line.as_slice())?;
-    behind.append(last.as_slice())?;
-    drop(last);
+    let behind = behind_files(alloc, files.as_slice(), line)?;
     out.append(behind.as_slice())?;
     Ok(out)
 }

@@ -4,11 +4,15 @@ ghost use Rattle.std.specs.Prelude.{◌≡◌, IfOk};
 ghost use Rattle.look_where.specs.Others as spec;
 ghost use Rattle.look_where.specs.Others.{TellsProject};
 
-use crate::leads::{Entry, entry_in, stop_of, world_in};
+use crate::faults::{
+    BEHIND, Fault, Faults, NO_END, NUMBERED_TWICE, TOO_MANY, TWICE, fault_at, fault_in, is_missing,
+    reasons_of,
+};
+use crate::leads::{Lead, Leads, lead_in, stop_of, world_in};
 use asl_lexer::lexing::tokens;
 use asl_lexer::pieces::cut;
-use asl_lexer::token::{LexFault, Sign, Tok, Word};
-use asl_term::copying::{copy_text, text_of};
+use asl_lexer::token::{LexFault, Sign, Tok};
+use asl_term::copying::text_of;
 use asl_term::names::{Names, find, number};
 use asl_term::printing::write_number;
 use asl_term::sequence::{Seq, Starved};
@@ -16,262 +20,136 @@ use asl_term::syntax::Text;
 use look_pieces::findings::{Findings, at_least_one, findings_in};
 use look_pieces::spoilt::{piece_end, with_bytes};
 use look_reasons::bytes::{Mended, Spoilt};
-use look_reasons::excerpt::shown;
-use look_reasons::mark::{Mark, is_atom, is_sign, marks_of};
-use look_reasons::mending::put_place;
-use look_reasons::reason::{Reason, reason_at};
+use look_reasons::mark::{Mark, is_sign, marks_of};
 use mas_project::fault::ProjectFault;
 use mas_project::names::MOST_AGENTS;
 use mas_project::piece::NextPiece;
 use mas_project::project::{ProjectPieces, project};
 use std::alloc::Global;
 
-/// A file that a project names, and the bytes that name it.
-pub struct Lead {
-    pub file: Text,
-    pub world: bool,
-    pub at: usize,
-    pub end: usize,
+/// What is found in a project, where it leads, and whether its end was read.
+pub struct ProjectRead<'a> {
+    pub faults: Faults<'a>,
+    pub leads: Leads<'a>,
+    pub done: bool,
 }
 
 /// By hand, so that who lets one go proves nothing of its parts.
-impl Drop for Lead {
+impl<'a> Drop for ProjectRead<'a> {
     fn drop(self) {
-        let Lead {
-            file: _,
-            world: _,
-            at: _,
-            end: _,
+        let ProjectRead {
+            faults: _,
+            leads: _,
+            done: _,
         } = self;
     }
 }
 
-/// What is found in a project, and where it leads.
-pub struct ProjectRead {
-    pub reasons: Vec<Reason>,
-    pub leads: Vec<Lead>,
-}
-
-fn plain(
-    alloc: Global,
-    m: &Mark<'_>,
-    code: &'static [u8],
-    words: &[u8],
-    note: &[u8],
-) -> Result<Reason, Starved> {
-    reason_at(alloc, (m.at, m.end), code, &[words], note)
-}
-
-/// A reason with the token in its words.
-fn about(
-    alloc: Global,
-    m: &Mark<'_>,
-    code: &'static [u8],
-    words: &[u8],
-    note: &[u8],
-) -> Result<Reason, Starved> {
-    let source = shown(alloc, m.text)?;
-    reason_at(
-        alloc,
-        (m.at, m.end),
-        code,
-        &[source.as_slice(), words],
-        note,
-    )
-}
-
-fn title_reason(alloc: Global, place: usize, m: &Mark<'_>) -> Result<Reason, Starved> {
-    let words: &[u8] = match place {
-        0 => b"a project begins with MAS",
-        1 => b"the project's name begins with a small letter",
-        _ => b"{ is wanted behind the project's name",
-    };
-    plain(alloc, m, b"mas", words, b"")
-}
-
-fn is_any_text(marks: &[Mark<'_>], to: usize, text: &[u8]) -> bool {
-    for m in &marks[..to.min(marks.len())] {
-        if m.text == text {
-            return true;
-        }
-    }
-    false
-}
-
-/// Options of other programs.
-fn is_other_option(text: &[u8]) -> bool {
-    matches!(
-        text,
-        b"aslSourcePath"
-            | b"classpath"
-            | b"controlClass"
-            | b"executionControl"
-            | b"directives"
-            | b"beliefBaseClass"
-            | b"agentArchClass"
-            | b"agentClass"
-            | b"at"
-    )
-}
-
-fn text_before<'a>(marks: &[Mark<'a>], place: usize, back: usize) -> &'a [u8] {
-    if place < back {
-        return &[];
-    }
-    match marks.get(place - back) {
-        Some(m) => m.text,
-        None => &[],
+impl<'a> ProjectRead<'a> {
+    /// What is found, and where it leads.
+    pub fn into_parts(self) -> (Faults<'a>, Leads<'a>) {
+        let ProjectRead {
+            faults,
+            leads,
+            done: _,
+        } = self;
+        (faults, leads)
     }
 }
 
-fn is_option_word(text: &[u8]) -> bool {
-    text == b"environment".as_slice() || text == b"infrastructure".as_slice()
-}
-
-const NO_OPTION: &[u8] =
-    b"in front of agents: infrastructure: Centralised and environment: E may stand; behind it entries alone";
-
-/// The reason where an option is at fault.
-fn option_reason(
-    alloc: Global,
-    first: bool,
-    marks: &[Mark<'_>],
-    place: usize,
-    m: &Mark<'_>,
-) -> Result<Option<Reason>, Starved> {
-    let before = text_before(marks, place, 1);
-    if before == b":".as_slice() && text_before(marks, place, 2) == b"infrastructure".as_slice() {
-        let note: &[u8] = b"infrastructure: Centralised is the only one";
-        return Ok(Some(about(alloc, m, b"option", b" is not there", note)?));
-    }
-    let opens = m.text == b":".as_slice() || m.text == b".".as_slice() || m.text == b"(".as_slice();
-    if opens && place > 0 && first && is_any_text(marks, place, b"environment") {
-        let words: &[u8] = b"a world is a file, named by one word: environment: E is E.env";
-        let note: &[u8] = b"no Java environments, no arguments";
-        return Ok(Some(plain(alloc, m, b"option", words, note)?));
-    }
-    if is_atom(m.word) && is_other_option(m.text) {
-        return Ok(Some(about(alloc, m, b"option", b" is no option here", b"")?));
-    }
-    if is_sign(m.word, Sign::OpenSquare) {
-        let words: &[u8] = b"an agent has no options here";
-        return Ok(Some(plain(alloc, m, b"option", words, b"")?));
-    }
-    if is_sign(m.word, Sign::CloseBrace) {
-        let words: &[u8] = if place > 0 {
-            b"; is missing in front of }"
-        } else {
-            b"an agent is wanted before the }"
-        };
-        return Ok(Some(plain(alloc, m, b"missing", words, b"")?));
-    }
-    let named = place > 0 && m.text == b":".as_slice();
-    if named && (is_option_word(before) || is_atom_before(marks, place)) {
-        let note: &[u8] = if is_option_word(before) {
-            b""
-        } else {
-            NO_OPTION
-        };
-        let words = [b"no option ".as_slice(), before];
-        return Ok(Some(reason_at(alloc, (m.at, m.end), b"option", &words, note)?));
-    }
-    Ok(None)
-}
-
-fn is_atom_before(marks: &[Mark<'_>], place: usize) -> bool {
-    if place == 0 {
-        return false;
-    }
-    match marks.get(place - 1) {
-        Some(m) => is_atom(m.word),
-        None => false,
+/// Nothing is read.
+fn unread<'a>(alloc: Global) -> ProjectRead<'a> {
+    ProjectRead {
+        faults: Seq::new(alloc),
+        leads: Seq::new(alloc),
+        done: false,
     }
 }
 
-fn entry_reason(
-    alloc: Global,
-    marks: &[Mark<'_>],
-    place: usize,
-    m: &Mark<'_>,
-) -> Result<Reason, Starved> {
-    if m.text == b"agents".as_slice() || is_option_word(m.text) {
-        let words: &[u8] = b" stands once, before the entries";
-        return about(alloc, m, b"option", words, b"");
+fn turn_of(number: u64) -> NextPiece {
+    match number {
+        1 => NextPiece::Title,
+        2 => NextPiece::First,
+        _ => NextPiece::Later,
     }
-    let word = is_atom(m.word) || matches!(m.word, Word::Inner | Word::Var);
-    if place >= 2 && is_atom_before(marks, place) && word {
-        let words: &[u8] =
-            b" cannot stand here: an entry is NAME, NAME file.asl or NAME file.asl #N, and ;";
-        return about(alloc, m, b"entry", words, b"");
-    }
-    let counted = is_atom(m.word) || matches!(m.word, Word::Number | Word::Var);
-    if counted && text_before(marks, place, 1) == b"#".as_slice() {
-        return plain(alloc, m, b"entry", b"behind # stands a number from 1", b"");
-    }
-    if is_atom(m.word) {
-        return about(alloc, m, b"option", b" cannot stand here", b"");
-    }
-    if matches!(m.word, Word::Var) {
-        let words: &[u8] = b": names of agents begin with a small letter";
-        return about(alloc, m, b"entry", words, b"");
-    }
-    about(alloc, m, b"entry", b" cannot stand here", b"")
 }
 
-/// Why a piece, the one of this number, is refused at a place.
-fn piece_reason(
+/// Puts why a piece is refused at a place, the one of this number.
+fn put_stop<'a>(
+    number: u64,
+    marks: &[Mark<'a>],
+    stop: Option<usize>,
+    faults: &mut Faults<'a>,
+) -> Result<(), Starved> {
+    match stop {
+        Some(place) => faults.push(fault_in(number, marks, place)),
+        None => Ok(()),
+    }
+}
+
+fn put_lead<'a>(lead: Option<Lead<'a>>, leads: &mut Leads<'a>) -> Result<(), Starved> {
+    match lead {
+        Some(lead) => leads.push(lead),
+        None => Ok(()),
+    }
+}
+
+/// Puts where a piece leads that is read up to a place, the one of this number.
+fn put_leads<'a>(
+    number: u64,
+    marks: &[Mark<'a>],
+    piece: &'a [Tok],
+    stop: Option<usize>,
+    leads: &mut Leads<'a>,
+) -> Result<(), Starved> {
+    if number == 2 {
+        put_lead(world_in(marks, stop), leads)?;
+    }
+    if number < 2 {
+        Ok(())
+    } else {
+        put_lead(lead_in(marks, piece, number == 2, stop.is_none()), leads)
+    }
+}
+
+/// Reads one piece more, the one of this number, with these tokens. Why it is refused is not told where it is dirty.
+fn put_read<'a>(
     alloc: Global,
     number: u64,
-    marks: &[Mark<'_>],
-    place: usize,
-) -> Result<Reason, Starved> {
-    let Some(m) = marks.get(place) else {
-        let end = match marks.last() {
-            Some(m) => m.end,
-            None => 0,
-        };
-        let span = (end, end.saturating_add(1));
-        let words: &[u8] = b"the file ends in the middle of a project";
-        return reason_at(alloc, span, b"missing", &[words], b"");
-    };
-    if number == 1 {
-        return title_reason(alloc, place, m);
+    marks: &[Mark<'a>],
+    piece: &'a [Tok],
+    dirty: bool,
+    read: &mut ProjectRead<'a>,
+) -> Result<(), Starved> {
+    let stop = stop_of(alloc, turn_of(number), piece)?;
+    if !dirty {
+        put_stop(number, marks, stop, &mut read.faults)?;
     }
-    match option_reason(alloc, number == 2, marks, place, m)? {
-        Some(r) => Ok(r),
-        None => entry_reason(alloc, marks, place, m),
-    }
+    put_leads(number, marks, piece, stop, &mut read.leads)
 }
 
-/// The project as far as it is read: its reasons, its entries, and the token that names its world.
-struct Draft<'a> {
-    reasons: Vec<Reason>,
-    entries: Vec<Entry<'a>>,
-    world: Option<Mark<'a>>,
-    done: bool,
+/// Whether a piece, the one of this number that begins so, is the end of the project.
+fn is_end(number: u64, first: &Mark<'_>) -> bool {
+    number > 2 && is_sign(first.word, Sign::CloseBrace)
 }
 
-/// By hand, so that who lets one go proves nothing of its parts.
-impl<'a> Drop for Draft<'a> {
-    fn drop(self) {
-        let Draft {
-            reasons: _,
-            entries: _,
-            world: _,
-            done: _,
-        } = self;
-    }
-}
-
-impl<'a> Draft<'a> {
-    fn into_reasons(self) -> Vec<Reason> {
-        let Draft {
-            reasons,
-            entries: _,
-            world: _,
-            done: _,
-        } = self;
-        reasons
+/// Reads one piece more, the one of this number, with these tokens, where it is not behind the end.
+fn put_marks<'a>(
+    alloc: Global,
+    number: u64,
+    marks: &[Mark<'a>],
+    piece: &'a [Tok],
+    dirty: bool,
+    read: &mut ProjectRead<'a>,
+) -> Result<(), Starved> {
+    match marks.first() {
+        None => Ok(()),
+        Some(m) if read.done => read.faults.push(fault_at(&BEHIND, m.at, m.end)),
+        Some(m) if is_end(number, m) => {
+            read.done = true;
+            Ok(())
+        }
+        Some(_) => put_read(alloc, number, marks, piece, dirty, read),
     }
 }
 
@@ -280,144 +158,106 @@ fn put_piece<'a>(
     alloc: Global,
     text: &'a [u8],
     number: u64,
-    piece: &[Tok],
+    piece: &'a [Tok],
     dirty: bool,
-    draft: &mut Draft<'a>,
+    read: &mut ProjectRead<'a>,
 ) -> Result<(), Starved> {
     let marks = marks_of(alloc, text, piece)?;
-    let first = match marks.first() {
-        Some(m) => *m,
-        None => return Ok(()),
-    };
-    if draft.done {
-        let words: &[u8] = b"nothing may stand behind the }";
-        draft
-            .reasons
-            .push(plain(alloc, &first, b"behind", words, b"")?)?;
-        return Ok(());
-    }
-    if number > 2 && is_sign(first.word, Sign::CloseBrace) {
-        draft.done = true;
-        return Ok(());
-    }
-    let turn = match number {
-        1 => NextPiece::Title,
-        2 => NextPiece::First,
-        _ => NextPiece::Later,
-    };
-    let stop = stop_of(alloc, turn, piece)?;
-    if let Some(place) = stop {
-        if !dirty {
-            draft
-                .reasons
-                .push(piece_reason(alloc, number, marks.as_slice(), place)?)?;
-        }
-    }
-    if number == 2 {
-        draft.world = world_in(marks.as_slice(), stop);
-    }
-    if number > 1 {
-        let entry = entry_in(alloc, marks.as_slice(), piece, number == 2, stop.is_none())?;
-        if let Some(entry) = entry {
-            draft.entries.push(entry)?;
-        }
-    }
-    Ok(())
-}
-
-fn has_missing(reasons: &[Reason]) -> bool {
-    for r in reasons {
-        if r.code == b"missing".as_slice() {
-            return true;
-        }
-    }
-    false
-}
-
-fn put_end(alloc: Global, end: usize, draft: &mut Draft<'_>) -> Result<(), Starved> {
-    if draft.done || has_missing(draft.reasons.as_slice()) {
-        return Ok(());
-    }
-    let span = (end, end.saturating_add(1));
-    let words: &[u8] = b"the } of the project is missing";
-    draft
-        .reasons
-        .push(reason_at(alloc, span, b"missing", &[words], b"")?)?;
-    Ok(())
+    put_marks(alloc, number, marks.as_slice(), piece, dirty, read)
 }
 
 /// Whether a fault of bytes, mended or not, begins here.
 fn is_spoilt(faults: &[Spoilt], from: usize, to: usize) -> bool {
+    let mut is = false;
     for x in faults {
-        if from <= x.at && x.at < to {
-            return true;
-        }
+        is = is || (from <= x.at && x.at < to);
     }
-    false
+    is
 }
 
 /// Reads all pieces.
-fn draft_of<'a>(
+fn put_pieces<'a>(
     alloc: Global,
     text: &'a [u8],
-    toks: &[Tok],
+    toks: &'a [Tok],
     faults: &[Spoilt],
-) -> Result<Draft<'a>, Starved> {
-    let mut draft = Draft {
-        reasons: Vec::new(alloc),
-        entries: Vec::new(alloc),
-        world: None,
-        done: false,
-    };
+    read: &mut ProjectRead<'a>,
+) -> Result<(), Starved> {
     let mut number: u64 = 1;
     let mut from = 0;
     let mut rest = toks;
+    let mut last = false;
     for _ in 0..toks.len() {
         let Some((piece, behind)) = cut::<ProjectPieces>(rest) else {
             break;
         };
+        if last {
+            break;
+        }
         let end = piece_end(text, piece);
-        let last = draft.done;
+        last = read.done;
         put_piece(
             alloc,
             text,
             number,
             piece,
             is_spoilt(faults, from, end),
-            &mut draft,
+            read,
         )?;
-        if last {
-            break;
-        }
         from = end;
         number = number.saturating_add(1);
         rest = behind;
     }
-    put_end(alloc, piece_end(text, toks), &mut draft)?;
-    Ok(draft)
+    Ok(())
+}
+
+fn has_missing(faults: &[Fault<'_>]) -> bool {
+    let mut has = false;
+    for f in faults {
+        has = has || is_missing(f);
+    }
+    has
+}
+
+/// Puts that the end of a project is missing, where it is and nothing else is.
+fn put_end(end: usize, read: &mut ProjectRead<'_>) -> Result<(), Starved> {
+    if read.done || has_missing(read.faults.as_slice()) {
+        Ok(())
+    } else {
+        read.faults
+            .push(fault_at(&NO_END, end, end.saturating_add(1)))
+    }
 }
 
 /// The name of an agent of an entry, by its number where it has one.
-fn agent_name(alloc: Global, e: &Entry<'_>, k: u64) -> Result<Text, Starved> {
-    let mut name = copy_text(alloc, &e.name)?;
-    if e.count.is_some() {
-        write_number(alloc, k, &mut name)?;
+fn agent_name(alloc: Global, lead: &Lead<'_>, number: u64) -> Result<Text, Starved> {
+    let mut name = text_of(alloc, lead.name.text)?;
+    match lead.count {
+        Some(_) => write_number(alloc, number, &mut name)?,
+        None => {}
     }
     Ok(name)
 }
 
-fn twice(alloc: Global, name: &Text, at: Mark<'_>, first: Mark<'_>) -> Result<Reason, Starved> {
-    let mut note = text_of(alloc, b"the first is at ")?;
-    put_place(alloc, first.line, first.column, &mut note)?;
-    let shown = shown(alloc, name.as_slice())?;
-    let words = [b"a second agent has the name ".as_slice(), shown.as_slice()];
-    reason_at(alloc, (at.at, at.end), b"name", &words, note.as_slice())
+/// The fault that the agent of an entry with this number has the name of one whose entry stands at another token.
+fn twice<'a>(lead: &Lead<'a>, number: u64, first: Mark<'a>) -> Fault<'a> {
+    let rule = match lead.count {
+        Some(_) => &NUMBERED_TWICE,
+        None => &TWICE,
+    };
+    Fault {
+        token: lead.name.text,
+        number,
+        line: first.line,
+        column: first.column,
+        ..fault_at(rule, lead.name.at, lead.name.end)
+    }
 }
 
 /// The names so far, and the token of the entry of each.
 struct Known<'a> {
     names: Names,
-    tokens: Vec<Mark<'a>>,
+    tokens: Seq<Mark<'a>>,
 }
 
 /// By hand, so that who lets one go proves nothing of its parts.
@@ -430,129 +270,129 @@ impl<'a> Drop for Known<'a> {
     }
 }
 
-/// Puts the names of an entry; the first that is there already is a fault.
-fn put_names<'a>(
-    alloc: Global,
-    e: &Entry<'a>,
-    known: &mut Known<'a>,
-) -> Result<Option<Reason>, Starved> {
-    for k in 0..e.count.unwrap_or(1) {
-        let name = agent_name(alloc, e, k.saturating_add(1))?;
-        if let Some(place) = find(&known.names, &name) {
-            let first = match known.tokens.get((place as usize).saturating_sub(1)) {
-                Some(m) => *m,
-                None => e.at,
-            };
-            return Ok(Some(twice(alloc, &name, e.at, first)?));
-        }
-        if known.names.len() < 100_000 {
-            number(&mut known.names, &name)?;
-            known.tokens.push(e.at)?;
-        }
+/// The token of the agent of this number.
+fn token_of<'a>(known: &Known<'a>, number: u32, other: Mark<'a>) -> Mark<'a> {
+    match known.tokens.at((number as u64).saturating_sub(1)) {
+        Some(m) => *m,
+        None => other,
     }
-    Ok(None)
 }
 
-/// How many agents there are.
-fn agents_of(entries: &[Entry<'_>]) -> u64 {
-    let mut all: u64 = 0;
-    for e in entries {
-        all = all.saturating_add(e.count.unwrap_or(1));
-    }
-    all
-}
-
-/// The tests of the agents.
-fn put_tests(alloc: Global, draft: &mut Draft<'_>) -> Result<(), Starved> {
-    let all = agents_of(draft.entries.as_slice());
-    if all > MOST_AGENTS {
-        if let Some(e) = draft.entries.last() {
-            let mut words = Seq::new(alloc);
-            write_number(alloc, all, &mut words)?;
-            words.append(b" agents, and there may be 1024")?;
-            let span = (e.at.at, e.at.end);
-            let r = reason_at(alloc, span, b"limit", &[words.as_slice()], b"")?;
-            draft.reasons.push(r)?;
-        }
+fn put_known<'a>(name: &Text, token: Mark<'a>, known: &mut Known<'a>) -> Result<(), Starved> {
+    if known.names.len() >= 100_000 {
         return Ok(());
     }
-    let mut known = Known {
-        names: Names::new(alloc)?,
-        tokens: Vec::new(alloc),
-    };
-    for e in draft.entries.as_slice() {
-        if let Some(r) = put_names(alloc, e, &mut known)? {
-            draft.reasons.push(r)?;
+    match number(&mut known.names, name) {
+        Ok(_) => known.tokens.push(token),
+        Err(_) => Err(Starved),
+    }
+}
+
+/// Puts the name of an agent of an entry; it is a fault where it is there already.
+fn put_agent<'a>(
+    alloc: Global,
+    lead: &Lead<'a>,
+    number: u64,
+    known: &mut Known<'a>,
+) -> Result<Option<Fault<'a>>, Starved> {
+    let name = agent_name(alloc, lead, number)?;
+    match find(&known.names, &name) {
+        Some(place) => Ok(Some(twice(lead, number, token_of(known, place, lead.name)))),
+        None => match put_known(&name, lead.name, known) {
+            Ok(()) => Ok(None),
+            Err(_) => Err(Starved),
+        },
+    }
+}
+
+/// Puts the names of an entry; the first that is there already is a fault.
+fn put_agents<'a>(
+    alloc: Global,
+    lead: &Lead<'a>,
+    known: &mut Known<'a>,
+    faults: &mut Faults<'a>,
+) -> Result<(), Starved> {
+    for k in 0..lead.count.unwrap_or(1) {
+        if let Some(fault) = put_agent(alloc, lead, k.saturating_add(1), known)? {
+            return faults.push(fault);
         }
     }
     Ok(())
 }
 
-/// The files that a project names: first that of its world.
-fn leads_of(alloc: Global, draft: &Draft<'_>) -> Result<Vec<Lead>, Starved> {
-    let mut leads = Vec::new(alloc);
-    if let Some(m) = draft.world {
-        let mut file = text_of(alloc, m.text)?;
-        file.append(b".env")?;
-        leads.push(Lead {
-            file,
-            world: true,
-            at: m.at,
-            end: m.end,
-        })?;
+/// Puts the agents that have the name of another.
+fn put_twice<'a>(
+    alloc: Global,
+    leads: &[Lead<'a>],
+    faults: &mut Faults<'a>,
+) -> Result<(), Starved> {
+    let mut known = Known {
+        names: Names::new(alloc)?,
+        tokens: Seq::new(alloc),
+    };
+    for lead in leads {
+        put_agents(alloc, lead, &mut known, faults)?;
     }
-    for e in draft.entries.as_slice() {
-        leads.push(Lead {
-            file: copy_text(alloc, &e.file)?,
-            world: false,
-            at: e.named.at,
-            end: e.named.end,
-        })?;
-    }
-    Ok(leads)
+    Ok(())
 }
 
-/// What is found in these tokens of a project.
-fn read_tokens(
+/// How many agents there are.
+fn agents_of(leads: &[Lead<'_>]) -> u64 {
+    let mut all: u64 = 0;
+    for lead in leads {
+        all = all.saturating_add(lead.count.unwrap_or(1));
+    }
+    all
+}
+
+/// Puts what is at fault with the agents of all entries.
+fn put_tests<'a>(alloc: Global, read: &mut ProjectRead<'a>) -> Result<(), Starved> {
+    let number = agents_of(read.leads.as_slice());
+    match read.leads.as_slice().last() {
+        Some(lead) if number > MOST_AGENTS => read.faults.push(Fault {
+            number,
+            ..fault_at(&TOO_MANY, lead.name.at, lead.name.end)
+        }),
+        _ => put_twice(alloc, read.leads.as_slice(), &mut read.faults),
+    }
+}
+
+/// Puts what is found in these tokens of a project.
+fn put_all<'a>(
     alloc: Global,
-    text: &[u8],
-    toks: &[Tok],
+    text: &'a [u8],
+    toks: &'a [Tok],
     faults: &[Spoilt],
-) -> Result<ProjectRead, Starved> {
-    let mut draft = draft_of(alloc, text, toks, faults)?;
-    put_tests(alloc, &mut draft)?;
-    let leads = leads_of(alloc, &draft)?;
-    Ok(ProjectRead {
-        reasons: draft.into_reasons(),
-        leads,
-    })
+    read: &mut ProjectRead<'a>,
+) -> Result<(), Starved> {
+    put_pieces(alloc, text, toks, faults, read)?;
+    put_end(piece_end(text, toks), read)?;
+    put_tests(alloc, read)
 }
 
 /// What is found in a project with these bytes, as they are mended.
-pub fn project_read(alloc: Global, m: &Mended) -> Result<ProjectRead, Starved> {
-    match &m.toks {
-        Some(toks) => read_tokens(
+pub fn project_read<'a>(alloc: Global, m: &'a Mended) -> Result<ProjectRead<'a>, Starved> {
+    let mut read = unread(alloc);
+    if let Some(toks) = &m.toks {
+        put_all(
             alloc,
             m.text.as_slice(),
             toks.as_slice(),
             m.faults.as_slice(),
-        ),
-        None => Ok(ProjectRead {
-            reasons: Vec::new(alloc),
-            leads: Vec::new(alloc),
-        }),
+            &mut read,
+        )?;
     }
+    Ok(read)
 }
 
-/// The findings for reasons, by their places.
+/// The findings for faults, by their places.
 fn sorted_findings(
     alloc: Global,
     bytes: &[u8],
     m: &Mended,
-    all: Vec<Reason>,
+    faults: Faults<'_>,
 ) -> Result<Findings, Starved> {
-    let mut all = all;
-    all.sort_by_key(|r| r.at as u64)?;
+    let all = reasons_of(alloc, faults)?;
     match &m.toks {
         Some(toks) => findings_in(alloc, bytes, toks.as_slice(), all.as_slice()),
         None => Ok(Seq::new(alloc)),
@@ -587,17 +427,17 @@ fn pieces_told(alloc: Global, bytes: &[u8], found: Findings) -> Result<Findings,
     }
 }
 
-/// What is told of a project with these reasons.
+/// What is told of a project with these faults.
 #[tactic(auto, using(crate::proofs::Others::project_bytes))]
 pub fn project_told(
     alloc: Global,
     bytes: &[u8],
     m: &Mended,
-    all: Vec<Reason>,
+    faults: Faults<'_>,
 ) -> Result<Findings, Starved>
     ensures { IfOk result (TellsProject bytes.now) }
 {
-    let found = sorted_findings(alloc, bytes, m, all)?;
+    let found = sorted_findings(alloc, bytes, m, faults)?;
     match tokens(alloc, bytes) {
         Ok(toks) => {
             drop(toks);

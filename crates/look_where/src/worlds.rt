@@ -10,7 +10,7 @@ use asl_lexer::lexing::tokens;
 use asl_lexer::pieces::{ClausePieces, cut};
 use asl_lexer::token::{LexFault, Tok};
 use asl_parser_tree::bounded::Bounded;
-use asl_parser_tree::lexeme::lexemes;
+use asl_parser_tree::lexeme::{Lexeme, lexemes};
 use asl_parser_tree::limits::too_deep;
 use asl_term::names::Names;
 use asl_term::sequence::{Seq, Starved};
@@ -30,6 +30,40 @@ use look_reasons::reason::{Reason, reasons};
 use mas_world::acts::WorldText;
 use std::alloc::Global;
 
+/// Makes of a world what a piece with these lexemes says, which begins with this token.
+fn made_by(
+    alloc: Global,
+    known: &Names,
+    made: &mut WorldText,
+    number: u64,
+    first: &Tok,
+    all: &[Lexeme],
+) -> Result<(), WorldFault> {
+    match statement(alloc, all, 250) {
+        Ok(Some(Bounded::Within(s))) => {
+            let answer = make(alloc, known, made, number, first, &s);
+            drop(s);
+            answer
+        }
+        Ok(Some(Bounded::Past(()))) => Err(WorldFault::Limit { number }),
+        Ok(None) => Err(WorldFault::Clause {
+            number,
+            line: first.line,
+            column: first.column,
+        }),
+        Err(_) => Err(WorldFault::Memory),
+    }
+}
+
+/// Why a piece is refused, where it is.
+fn fault_of(answer: Result<(), WorldFault>) -> Result<Option<WorldFault>, Starved> {
+    match answer {
+        Ok(()) => Ok(None),
+        Err(WorldFault::Memory) => Err(Starved),
+        Err(why) => Ok(Some(why)),
+    }
+}
+
 /// Makes of a world what a piece says, or tells why the piece is refused.
 fn refusal(
     alloc: Global,
@@ -43,25 +77,19 @@ fn refusal(
     };
     let all = lexemes(alloc, toks)?;
     if too_deep(&all) {
-        return Ok(Some(WorldFault::Limit { number }));
+        Ok(Some(WorldFault::Limit { number }))
+    } else {
+        fault_of(made_by(alloc, known, made, number, first, &all))
     }
-    let answer = match statement(alloc, &all, 250)? {
-        Some(Bounded::Within(s)) => {
-            let answer = make(alloc, known, made, number, first, &s);
-            drop(s);
-            answer
+}
+
+fn put_known(name: Option<&Text>, out: &mut Text) -> Result<(), Starved> {
+    match name {
+        Some(name) => {
+            out.push(b' ')?;
+            out.append(name.as_slice())
         }
-        Some(Bounded::Past(())) => Err(WorldFault::Limit { number }),
-        None => Err(WorldFault::Clause {
-            number,
-            line: first.line,
-            column: first.column,
-        }),
-    };
-    match answer {
-        Ok(()) => Ok(None),
-        Err(WorldFault::Memory) => Err(Starved),
-        Err(why) => Ok(Some(why)),
+        None => Ok(()),
     }
 }
 
@@ -69,20 +97,34 @@ fn refusal(
 fn names_text(alloc: Global, known: &Names) -> Result<Text, Starved> {
     let mut out = Seq::new(alloc);
     for k in 0..known.len() {
-        if let Some(name) = known.at(k.saturating_add(1)) {
-            out.push(b' ')?;
-            out.append(name.as_slice())?;
-        }
+        put_known(known.at(k.saturating_add(1)), &mut out)?;
     }
     Ok(out)
 }
 
-fn one_reason(alloc: Global, r: Option<Reason>) -> Result<Seq<Reason>, Starved> {
+/// A reason, where there is one.
+fn one_reason(alloc: Global, r: Result<Option<Reason>, Starved>) -> Result<Seq<Reason>, Starved> {
     let mut all = Seq::new(alloc);
-    if let Some(r) = r {
-        all.push(r)?;
+    match r {
+        Ok(Some(r)) => match all.push(r) {
+            Ok(()) => Ok(all),
+            Err(_) => Err(Starved),
+        },
+        Ok(None) => Ok(all),
+        Err(_) => Err(Starved),
     }
-    Ok(all)
+}
+
+fn limit_told(alloc: Global, p: &Piece<'_>) -> Result<Option<Reason>, Starved> {
+    match limit_reason(alloc, p) {
+        Ok(r) => Ok(Some(r)),
+        Err(_) => Err(Starved),
+    }
+}
+
+fn artifact_told(alloc: Global, known: &Names, p: &Piece<'_>) -> Result<Option<Reason>, Starved> {
+    let names = names_text(alloc, known)?;
+    artifact_reason(alloc, p, names.as_slice())
 }
 
 /// The reasons for the refusal of a piece.
@@ -93,14 +135,11 @@ fn reasons_for(
     p: &Piece<'_>,
 ) -> Result<Seq<Reason>, Starved> {
     match why {
-        WorldFault::Limit { .. } => one_reason(alloc, Some(limit_reason(alloc, p)?)),
+        WorldFault::Limit { .. } => one_reason(alloc, limit_told(alloc, p)),
         WorldFault::Unbound { name, .. } => {
-            one_reason(alloc, unbound_reason(alloc, p, name.as_slice())?)
+            one_reason(alloc, unbound_reason(alloc, p, name.as_slice()))
         }
-        WorldFault::UnknownArtifact { .. } => {
-            let names = names_text(alloc, known)?;
-            one_reason(alloc, artifact_reason(alloc, p, names.as_slice())?)
-        }
+        WorldFault::UnknownArtifact { .. } => one_reason(alloc, artifact_told(alloc, known, p)),
         _ => reasons(alloc, p),
     }
 }
@@ -132,16 +171,32 @@ fn all_reasons(
     reasons_for(alloc, known, why, &piece)
 }
 
-/// What is kept of the pieces while they are read: the world, and the tokens of the names that it uses.
+/// What is kept of the pieces while they are read: the world, the tokens of the names that it uses, and what is found.
 struct Draft<'a> {
     world: WorldText,
-    used: Vec<Mark<'a>>,
+    used: Seq<Mark<'a>>,
+    found: Findings,
 }
 
 /// By hand, so that who lets one go proves nothing of its parts.
 impl<'a> Drop for Draft<'a> {
     fn drop(self) {
-        let Draft { world: _, used: _ } = self;
+        let Draft {
+            world: _,
+            used: _,
+            found: _,
+        } = self;
+    }
+}
+
+impl<'a> Draft<'a> {
+    fn into_found(self) -> Findings {
+        let Draft {
+            world: _,
+            used: _,
+            found,
+        } = self;
+        found
     }
 }
 
@@ -154,12 +209,37 @@ fn no_draft<'a>(alloc: Global) -> Result<Draft<'a>, Starved> {
     };
     Ok(Draft {
         world,
-        used: Vec::new(alloc),
+        used: Seq::new(alloc),
+        found: Seq::new(alloc),
     })
 }
 
-/// The findings of a piece of a text, the one of this number; one that is read is kept.
-fn piece_told<'a>(
+/// The findings of a piece that is refused so.
+fn refused_piece(
+    alloc: Global,
+    known: &Names,
+    why: &WorldFault,
+    bytes: &[u8],
+    text: &[u8],
+    number: u64,
+    toks: &[Tok],
+    marks: &[Mark<'_>],
+    used: &[Mark<'_>],
+) -> Result<Findings, Starved> {
+    let all = all_reasons(alloc, known, why, bytes, text, number, marks, used)?;
+    findings_in(alloc, bytes, toks, all.as_slice())
+}
+
+/// Keeps the token of the name that a piece uses.
+fn put_used<'a>(marks: &[Mark<'a>], used: &mut Seq<Mark<'a>>) -> Result<(), Starved> {
+    match marks {
+        [first, second, ..] if first.text == b"use".as_slice() => used.push(*second),
+        _ => Ok(()),
+    }
+}
+
+/// Reads a piece of a text, the one of this number: puts its findings, or keeps what it says.
+fn put_piece<'a>(
     alloc: Global,
     known: &Names,
     bytes: &[u8],
@@ -167,27 +247,59 @@ fn piece_told<'a>(
     number: u64,
     toks: &[Tok],
     draft: &mut Draft<'a>,
-) -> Result<Findings, Starved> {
+) -> Result<(), Starved> {
     let marks = marks_of(alloc, text, toks)?;
-    let Some(why) = refusal(alloc, known, &mut draft.world, number, toks)? else {
-        if let [first, second, ..] = marks.as_slice() {
-            if first.text == b"use".as_slice() {
-                draft.used.push(*second)?;
+    match refusal(alloc, known, &mut draft.world, number, toks)? {
+        Some(why) => {
+            let used = draft.used.as_slice();
+            let found = refused_piece(
+                alloc,
+                known,
+                &why,
+                bytes,
+                text,
+                number,
+                toks,
+                marks.as_slice(),
+                used,
+            );
+            drop(why);
+            match found {
+                Ok(found) => draft.found.append_all(found),
+                Err(_) => Err(Starved),
             }
         }
-        return Ok(Seq::new(alloc));
-    };
-    let all = all_reasons(
-        alloc,
-        known,
-        &why,
-        bytes,
-        text,
-        number,
-        marks.as_slice(),
-        draft.used.as_slice(),
-    )?;
-    findings_in(alloc, bytes, toks, all.as_slice())
+        None => put_used(marks.as_slice(), &mut draft.used),
+    }
+}
+
+/// Reads the pieces of a text in which no fault lies that is not mended.
+fn put_pieces<'a>(
+    alloc: Global,
+    known: &Names,
+    bytes: &[u8],
+    text: &'a [u8],
+    toks: &[Tok],
+    faults: &[Spoilt],
+    draft: &mut Draft<'a>,
+) -> Result<(), Starved> {
+    let mut number: u64 = 1;
+    let mut from = 0;
+    let mut rest = toks;
+    for _ in 0..toks.len() {
+        let Some((piece, behind)) = cut::<ClausePieces>(rest) else {
+            break;
+        };
+        let end = piece_end(text, piece);
+        let open = behind.is_empty() && !is_ended(piece);
+        if !is_dirty(faults, from, end, open) {
+            put_piece(alloc, known, bytes, text, number, piece, draft)?;
+        }
+        from = end;
+        number = number.saturating_add(1);
+        rest = behind;
+    }
+    Ok(())
 }
 
 /// The findings of the pieces of a text in which no fault lies that is not mended.
@@ -199,25 +311,9 @@ fn pieces_told(
     toks: &[Tok],
     faults: &[Spoilt],
 ) -> Result<Findings, Starved> {
-    let mut all = Seq::new(alloc);
     let mut draft = no_draft(alloc)?;
-    let mut number: u64 = 1;
-    let mut from = 0;
-    let mut rest = toks;
-    for _ in 0..toks.len() {
-        let Some((piece, behind)) = cut::<ClausePieces>(rest) else {
-            return Ok(all);
-        };
-        let end = piece_end(text, piece);
-        if !is_dirty(faults, from, end, behind.is_empty() && !is_ended(piece)) {
-            let found = piece_told(alloc, known, bytes, text, number, piece, &mut draft)?;
-            all.append_all(found)?;
-        }
-        from = end;
-        number = number.saturating_add(1);
-        rest = behind;
-    }
-    Ok(all)
+    put_pieces(alloc, known, bytes, text, toks, faults, &mut draft)?;
+    Ok(draft.into_found())
 }
 
 /// The findings of a world that is refused for a piece.
