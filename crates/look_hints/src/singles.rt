@@ -1,16 +1,17 @@
 //! Variables that occur once.
 
-use crate::hint::{Code, Hint, Hints, hint_at, noted, noted_if, span_of};
+use crate::hint::span_of;
+use crate::rules::Subject;
+use crate::sight::{Sight, sight_of};
+use crate::telling::Sheet;
 use asl_lexer::token::{Sign, Word};
 use asl_parser::sentence::Sentence;
 use asl_parser_tree::plain::{is_plain, is_plain_literal};
 use asl_term::copying::text_of;
-use asl_term::printing_expr::print_formula;
-use asl_term::sequence::{Seq, Starved};
-use asl_term::syntax::{ArgOf, Call, Expr, Formula, Literal, Plan, Term, Text, Var};
+use asl_term::sequence::Starved;
+use asl_term::syntax::{ArgOf, Call, Expr, Formula, Literal, Plan, Term, Var};
 use asl_term::variables::occurs;
 use look_reasons::mark::{Mark, is_sign};
-use look_reasons::phrase::joined;
 use std::alloc::Global;
 
 /// Whether a variable has this one token in its clause, and no `_` in front.
@@ -122,39 +123,48 @@ fn wanting(f: &Formula) -> Option<&Literal> {
     }
 }
 
-/// `it has no value: ITEM fails with ERROR`
-fn failing(alloc: Global, f: &Formula, how: &[u8]) -> Result<Text, Starved> {
-    let mut item = Seq::new(alloc);
-    print_formula(f, &mut item)?;
-    joined(alloc, &[b"it has no value: ", item.as_slice(), how])
+/// An item that fails, and how.
+#[derive(Clone, Copy)]
+struct Failing<'a> {
+    item: &'a Formula,
+    how: &'static [u8],
 }
 
-/// What becomes of the first item that wants a value for a variable without one.
-fn valueless(alloc: Global, p: &Plan, x: &Var) -> Result<Option<Text>, Starved> {
-    for f in p.body.as_slice() {
-        if let Some(l) = wanting(f) {
-            if stands_in_literal(l, x) {
-                let how: &[u8] = if is_plain_literal(l) {
-                    b" fails with not_ground"
-                } else {
-                    b" fails with arith"
-                };
-                return Ok(Some(failing(alloc, f, how)?));
-            }
+/// How an item fails since a variable has no value.
+fn failure(alloc: Global, f: &Formula, x: &Var) -> Result<&'static [u8], Starved> {
+    if let Some(l) = wanting(f) {
+        if stands_in_literal(l, x) {
+            return Ok(if is_plain_literal(l) {
+                b" fails with not_ground"
+            } else {
+                b" fails with arith"
+            });
         }
-        if may_fail(alloc, f, x)? {
-            return Ok(Some(failing(alloc, f, b" may fail with arith")?));
+    }
+    Ok(if may_fail(alloc, f, x)? {
+        b" may fail with arith"
+    } else {
+        b""
+    })
+}
+
+/// The first item that wants a value for a variable without one.
+fn first_failing<'a>(alloc: Global, p: &'a Plan, x: &Var) -> Result<Option<Failing<'a>>, Starved> {
+    for item in p.body.as_slice() {
+        let how = failure(alloc, item, x)?;
+        if !how.is_empty() {
+            return Ok(Some(Failing { item, how }));
         }
     }
     Ok(None)
 }
 
-/// The note where a variable of a plan has no value when an item wants it.
-fn valueless_note(
+/// The first item of a plan that wants a value for the variable of this name.
+fn failing_item<'a>(
     alloc: Global,
-    plan: Option<&Plan>,
+    plan: Option<&'a Plan>,
     name: &[u8],
-) -> Result<Option<Text>, Starved> {
+) -> Result<Option<Failing<'a>>, Starved> {
     let Some(p) = plan else {
         return Ok(None);
     };
@@ -162,74 +172,63 @@ fn valueless_note(
         name: text_of(alloc, name)?,
         number: 0,
     };
-    let note = valueless(alloc, p, &x);
+    let found = first_failing(alloc, p, &x);
     drop(x);
-    note
-}
-
-fn once(alloc: Global, plan: Option<&Plan>, m: &Mark<'_>) -> Result<Hint, Starved> {
-    let parts = [b"the variable ".as_slice(), m.text, b" occurs once"];
-    let h = hint_at(alloc, span_of(m), Code::Once, &parts)?;
-    match valueless_note(alloc, plan, m.text)? {
-        Some(note) => noted_if(h, Some(note)),
-        None => noted(alloc, h, &[b"_", m.text, b" or _ where it is meant"]),
-    }
+    found
 }
 
 /// Puts the hints at the variables of a clause that occur once; of the plan that it is.
-pub fn put_singles(
+pub fn put_singles<'a>(
     alloc: Global,
-    marks: &[Mark<'_>],
-    plan: Option<&Plan>,
-    all: &mut Hints,
-) -> Result<(), Starved> {
+    marks: &'a [Mark<'a>],
+    plan: Option<&'a Plan>,
+    sheet: &mut Sheet,
+) {
     for m in marks {
         if is_single(marks, m) {
-            all.push(once(alloc, plan, m)?)?;
+            let (item, rest): (Option<&Formula>, &[u8]) = match sheet.found(failing_item(
+                alloc, plan, m.text,
+            )) {
+                Some(f) => (Some(f.item), f.how),
+                None => (None, b""),
+            };
+            sheet.look(&Sight {
+                text: m.text,
+                rest,
+                item,
+                ..sight_of(Subject::Once, span_of(m))
+            });
         }
     }
-    Ok(())
 }
 
 /// The same of a belief.
-fn put_open(alloc: Global, marks: &[Mark<'_>], all: &mut Hints) -> Result<(), Starved> {
+fn put_open(marks: &[Mark<'_>], sheet: &mut Sheet) {
     for m in marks {
         if is_single(marks, m) {
-            let parts = [
-                b"the variable ".as_slice(),
-                m.text,
-                b" occurs once, and so this belief is a rule that holds for everything",
-            ];
-            let h = hint_at(alloc, span_of(m), Code::OpenBelief, &parts)?;
-            let note: &[u8] = b"a name begins with a small letter";
-            all.push(noted(alloc, h, &[note])?)?;
+            sheet.look(&Sight {
+                text: m.text,
+                ..sight_of(Subject::OpenBelief, span_of(m))
+            });
         }
     }
-    Ok(())
 }
 
 /// Whether a clause is a belief: it is no rule with a body.
 fn is_belief(marks: &[Mark<'_>]) -> bool {
-    !marks.iter().any(|m| is_sign(m.word, Sign::If))
+    for m in marks {
+        if is_sign(m.word, Sign::If) {
+            return false;
+        }
+    }
+    true
 }
 
 /// Puts the hints at the variables of a source's clause that occur once.
-pub fn put_once(
-    alloc: Global,
-    marks: &[Mark<'_>],
-    said: &Sentence,
-    all: &mut Hints,
-) -> Result<(), Starved> {
+pub fn put_once<'a>(alloc: Global, marks: &'a [Mark<'a>], said: &'a Sentence, sheet: &mut Sheet) {
     match said {
-        Sentence::Plan(p) => put_singles(alloc, marks, Some(p), all),
-        Sentence::Rule(_) => {
-            if is_belief(marks) {
-                put_open(alloc, marks, all)
-            } else {
-                put_singles(alloc, marks, None, all)
-            }
-        }
-        Sentence::Belief(_) => put_singles(alloc, marks, None, all),
-        Sentence::Goal(_) => put_singles(alloc, marks, None, all),
+        Sentence::Plan(p) => put_singles(alloc, marks, Some(p), sheet),
+        Sentence::Rule(_) if is_belief(marks) => put_open(marks, sheet),
+        _ => put_singles(alloc, marks, None, sheet),
     }
 }

@@ -27,33 +27,25 @@ use mas_top_files::project as whole;
 use mas_top_status::status::Status;
 use std::alloc::Global;
 
-/// Agents of one source.
+/// An agent, and the file of its source.
 struct Entry {
     file: Text,
-    agents: Seq<Text>,
+    name: Text,
 }
 
 /// By hand, so that who lets one go proves nothing of its parts.
 impl Drop for Entry {
     fn drop(self) {
-        let Entry { file: _, agents: _ } = self;
+        let Entry { file: _, name: _ } = self;
     }
 }
 
 type Entries = Seq<Entry>;
 
 fn put_agent(alloc: Global, all: &mut Entries, file: &Text, name: Text) -> Result<(), Starved> {
-    let found = all.as_slice().iter().position(|e| same_text(&e.file, file));
-    if let Some(k) = found {
-        if (k as u64) < all.len() {
-            return all.at_mut(k as u64).agents.push(name);
-        }
-    }
-    let mut agents = Seq::new(alloc);
-    agents.push(name)?;
     all.push(Entry {
         file: copy_text(alloc, file)?,
-        agents,
+        name,
     })
 }
 
@@ -159,9 +151,7 @@ fn agents_of(alloc: Global, all: &Entries, file: &Text) -> Result<Seq<Text>, Sta
     let mut agents = Seq::new(alloc);
     for e in all.as_slice() {
         if same_text(&e.file, file) {
-            for name in e.agents.as_slice() {
-                agents.push(copy_text(alloc, name)?)?;
-            }
+            agents.push(copy_text(alloc, &e.name)?)?;
         }
     }
     Ok(agents)
