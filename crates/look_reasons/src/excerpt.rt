@@ -32,8 +32,8 @@ fn sign_at(bytes: &[u8]) -> Option<(char, usize)> {
     None
 }
 
-fn digit(n: u8) -> char {
-    char::from(b"0123456789abcdef"[(n % 16) as usize])
+fn digit(n: u8) -> u8 {
+    b"0123456789abcdef"[(n % 16) as usize]
 }
 
 fn is_shown(sign: char) -> bool {
@@ -56,8 +56,8 @@ fn put_signs(bytes: &[u8], signs: &mut Vec<char>) -> Result<(), Starved> {
             None => {
                 let high = digit(*byte / 16);
                 let low = digit(*byte);
-                for sign in ['\\', 'x', high, low] {
-                    signs.push(sign)?;
+                for b in [b'\\', b'x', high, low] {
+                    signs.push(char::from(b))?;
                 }
                 rest = after;
             }

@@ -38,7 +38,6 @@ enum Say {
 }
 
 /// What is told of bytes of which all of these tests hold: of them, or of the first two.
-#[derive(Clone, Copy)]
 struct Rule {
     tests: &'static [Test],
     pair: bool,
@@ -215,13 +214,13 @@ fn fits(bytes: &[u8], x: &Spoilt, raw: &[u8], rule: &Rule) -> bool {
 }
 
 /// The first rule that fits.
-fn rule_for(bytes: &[u8], x: &Spoilt, raw: &[u8]) -> Rule {
+fn rule_for(bytes: &[u8], x: &Spoilt, raw: &[u8]) -> &'static Rule {
     for rule in &RULES {
         if fits(bytes, x, raw, rule) {
-            return *rule;
+            return rule;
         }
     }
-    OTHERWISE
+    &OTHERWISE
 }
 
 fn phrase_of(raw: &[u8], say: Say) -> Phrase<'_> {

@@ -6,7 +6,10 @@ use crate::mending::{Fix, FixKind, Piece, expected, fix_phrases, is_pair, joined
 use crate::phrase::{Phrase, put_phrase, sentence};
 use crate::reading::{Halt, Part, Reading, Sort, read};
 use crate::repair::repaired;
-use crate::rules::{OTHERWISE, RULES, Rule, Say, Span, Test};
+use crate::rules::{
+    Rule, Say, Span, Test, action_rules, brace_rules, item_rules, last_rule, sign_rules,
+    term_rules, world_rules,
+};
 use crate::table::Arity;
 use asl_lexer::token::Word;
 use asl_term::sequence::{Seq, Starved};
@@ -336,14 +339,32 @@ fn bytes_at(a: &Around<'_>, span: Span) -> (usize, usize) {
     }
 }
 
-/// The first rule that fits.
-fn rule_at(a: &Around<'_>) -> Rule {
-    for rule in &RULES {
+/// The first of some rules that fits.
+fn first_of(a: &Around<'_>, rules: &'static [Rule]) -> Option<&'static Rule> {
+    for rule in rules {
         if fits(a, rule) {
-            return *rule;
+            return Some(rule);
         }
     }
-    OTHERWISE
+    None
+}
+
+/// The first rule that fits.
+fn rule_at(a: &Around<'_>) -> &'static Rule {
+    let tables = [
+        action_rules(),
+        brace_rules(),
+        sign_rules(),
+        term_rules(),
+        item_rules(),
+        world_rules(),
+    ];
+    for rules in tables {
+        if let Some(rule) = first_of(a, rules) {
+            return rule;
+        }
+    }
+    last_rule()
 }
 
 /// Whether a change is of use for a reason of this code.
@@ -479,7 +500,7 @@ fn reason_for(
     let (at, end) = bytes_at(&a, rule.span);
     let text = said_at(alloc, &a, rule.words)?;
     let mut notes = Seq::new(alloc);
-    put_change(alloc, &a, &rule, &mut notes)?;
+    put_change(alloc, &a, rule, &mut notes)?;
     put_clause(alloc, &a, at, &mut notes)?;
     Ok(Reason {
         at,

@@ -85,7 +85,6 @@ pub enum Span {
 }
 
 /// What is told where all of these tests hold: a stable word for it, the reason and a note.
-#[derive(Clone, Copy)]
 pub struct Rule {
     pub tests: &'static [Test],
     pub span: Span,
@@ -147,8 +146,7 @@ const CONTROL: &[&[u8]] = &[b"if", b"for", b"while"];
 
 const BRANCHES: &[&[u8]] = &[b"if", b"for", b"while", b"else", b"elif"];
 
-/// The first of which all tests hold is told, or else the other.
-pub const RULES: [Rule; 63] = [
+const ENDS_AND_ACTIONS: [Rule; 9] = [
     Rule {
         tests: &[Test::Ended],
         span: Span::Token,
@@ -238,6 +236,9 @@ pub const RULES: [Rule; 63] = [
         ],
         note: &[],
     },
+];
+
+const BRACES: [Rule; 8] = [
     Rule {
         tests: &[
             Test::Token(&[Word::Inner]),
@@ -307,6 +308,9 @@ pub const RULES: [Rule; 63] = [
         words: &[Say::Words(b"no "), Say::Item, Say::Words(b" in a body")],
         note: &[Say::ItemNote],
     },
+];
+
+const SIGNS: [Rule; 12] = [
     Rule {
         tests: &[Test::Token(&[Word::Sign(Sign::RightArrow)]), Test::Agent],
         span: Span::Token,
@@ -406,6 +410,9 @@ pub const RULES: [Rule; 63] = [
         words: &[Say::Words(b"no != here")],
         note: &[Say::Words(b"write \\==")],
     },
+];
+
+const TERMS: [Rule; 11] = [
     Rule {
         tests: &[Test::Token(&[Word::Var]), Test::At(&[Halt::Literal])],
         span: Span::Token,
@@ -508,6 +515,9 @@ pub const RULES: [Rule; 63] = [
         words: &[Say::Words(b"a context stands before <-")],
         note: &[Say::Words(b"+!g : CONTEXT <- ITEMS.")],
     },
+];
+
+const ITEMS: [Rule; 10] = [
     Rule {
         tests: &[Test::At(&[Halt::Marked])],
         span: Span::Token,
@@ -602,6 +612,9 @@ pub const RULES: [Rule; 63] = [
         words: &[Say::Words(b"# begins no comment here")],
         note: &[Say::Words(b"write //")],
     },
+];
+
+const WORLDS: [Rule; 13] = [
     Rule {
         tests: &[Test::Mends(FixKind::Dot)],
         span: Span::Token,
@@ -726,10 +739,45 @@ pub const RULES: [Rule; 63] = [
     },
 ];
 
-pub const OTHERWISE: Rule = Rule {
+const OTHERWISE: Rule = Rule {
     tests: &[],
     span: Span::Token,
     code: b"syntax",
     words: &[Say::Source, Say::Words(b" cannot stand here")],
     note: &[],
 };
+
+/// At the end, and at internal actions.
+pub fn action_rules() -> &'static [Rule] {
+    &ENDS_AND_ACTIONS
+}
+
+/// At braces, and in items that begin with a word of control.
+pub fn brace_rules() -> &'static [Rule] {
+    &BRACES
+}
+
+/// At arrows, and at signs that are none here.
+pub fn sign_rules() -> &'static [Rule] {
+    &SIGNS
+}
+
+/// At variables, questions, arithmetic and what stands between items.
+pub fn term_rules() -> &'static [Rule] {
+    &TERMS
+}
+
+/// At items and formulas.
+pub fn item_rules() -> &'static [Rule] {
+    &ITEMS
+}
+
+/// Where a change mends the piece, in worlds, and anywhere.
+pub fn world_rules() -> &'static [Rule] {
+    &WORLDS
+}
+
+/// What is told where no other rule fits.
+pub fn last_rule() -> &'static Rule {
+    &OTHERWISE
+}
