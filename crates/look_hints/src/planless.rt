@@ -6,7 +6,7 @@ ghost use Rattle.look_hints.specs.Planless as spec;
 
 use crate::hint::{Code, Hint, Hints, Span, span_at};
 use crate::project::Member;
-use crate::rules::{PLANLESS, Subject};
+use crate::rules::{Subject, planless_rule};
 use crate::sight::{Asked, Sight, sight_of};
 use crate::telling::told_by_rule;
 use asl_term::sequence::{Seq, Starved};
@@ -47,7 +47,7 @@ fn goal_hint<'a>(
         asked: Some(asked),
         ..sight_of(Subject::Planless, goal_span(marks, p))
     };
-    told_by_rule(alloc, &s, &PLANLESS)
+    told_by_rule(alloc, &s, planless_rule())
 }
 
 /// The hint at the place of a goal.

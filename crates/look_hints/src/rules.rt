@@ -103,14 +103,12 @@ pub enum Say {
 }
 
 /// A note, where these tests hold, or do not.
-#[derive(Clone, Copy)]
 pub struct Note {
     pub tests: &'static [(Test, bool)],
     pub words: &'static [Say],
 }
 
 /// What is said of a subject, where these tests hold, or do not.
-#[derive(Clone, Copy)]
 pub struct Rule {
     pub subject: Subject,
     pub tests: &'static [(Test, bool)],
@@ -119,7 +117,7 @@ pub struct Rule {
     pub notes: &'static [Note],
 }
 
-pub const PLANLESS: Rule = Rule {
+static PLANLESS: Rule = Rule {
     subject: Subject::Planless,
     tests: &[],
     code: Code::NoPlan,
@@ -149,8 +147,7 @@ pub const PLANLESS: Rule = Rule {
     ],
 };
 
-/// Each of those that fit makes a hint.
-pub const RULES: [Rule; 29] = [
+static USES: [Rule; 5] = [
     Rule {
         subject: Subject::Use(Part::Held),
         tests: &[(Test::Known, false)],
@@ -259,6 +256,9 @@ pub const RULES: [Rule; 29] = [
             },
         ],
     },
+];
+
+static TRIGGERS: [Rule; 7] = [
     Rule {
         subject: Subject::Covered,
         tests: &[],
@@ -340,6 +340,25 @@ pub const RULES: [Rule; 29] = [
         notes: &[],
     },
     Rule {
+        subject: Subject::Received,
+        tests: &[],
+        code: Code::Jason,
+        words: &[
+            Say::Words(b"no rule posts !"),
+            Say::Functor,
+            Say::Words(b" here: this plan is never called"),
+        ],
+        notes: &[Note {
+            tests: &[],
+            words: &[Say::Words(
+                b"a plan for +b[source(A)] or +!g[source(A)], with a context over A",
+            )],
+        }],
+    },
+];
+
+static CONTENTS: [Rule; 4] = [
+    Rule {
         subject: Subject::Achieved,
         tests: &[
             (Test::TellsPlans, false),
@@ -399,6 +418,9 @@ pub const RULES: [Rule; 29] = [
         ],
         notes: &[],
     },
+];
+
+static RECEIVERS: [Rule; 5] = [
     Rule {
         subject: Subject::ToNobody,
         tests: &[],
@@ -448,22 +470,9 @@ pub const RULES: [Rule; 29] = [
             words: &[Say::Words(b"there are: tell untell achieve unachieve tellHow untellHow")],
         }],
     },
-    Rule {
-        subject: Subject::Received,
-        tests: &[],
-        code: Code::Jason,
-        words: &[
-            Say::Words(b"no rule posts !"),
-            Say::Functor,
-            Say::Words(b" here: this plan is never called"),
-        ],
-        notes: &[Note {
-            tests: &[],
-            words: &[Say::Words(
-                b"a plan for +b[source(A)] or +!g[source(A)], with a context over A",
-            )],
-        }],
-    },
+];
+
+static FORMS: [Rule; 8] = [
     Rule {
         subject: Subject::Annotation,
         tests: &[],
@@ -582,3 +591,33 @@ pub const RULES: [Rule; 29] = [
         }],
     },
 ];
+
+/// Of literals.
+pub fn use_rules() -> &'static [Rule] {
+    &USES
+}
+
+/// Of the triggers of plans.
+pub fn trigger_rules() -> &'static [Rule] {
+    &TRIGGERS
+}
+
+/// Of what messages say.
+pub fn content_rules() -> &'static [Rule] {
+    &CONTENTS
+}
+
+/// Of receivers and verbs of messages.
+pub fn receiver_rules() -> &'static [Rule] {
+    &RECEIVERS
+}
+
+/// Of failures, signs and variables.
+pub fn form_rules() -> &'static [Rule] {
+    &FORMS
+}
+
+/// Of a goal for which its source has no plan.
+pub fn planless_rule() -> &'static Rule {
+    &PLANLESS
+}

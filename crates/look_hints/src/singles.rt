@@ -49,55 +49,78 @@ fn is_calculated_literal(l: &Literal, x: &Var) -> bool {
 /// The most parts of a formula.
 const MOST_PARTS: u64 = 10_000;
 
-/// Whether a part of a formula has a calculated term with this variable; other parts in it are kept for later.
-fn is_part_calculated<'a>(e: &'a Expr, x: &Var, left: &mut Vec<&'a Expr>) -> Result<bool, Starved> {
-    match e {
-        Expr::True | Expr::False => Ok(false),
-        Expr::Holds(l) => Ok(is_calculated_literal(l, x)),
-        Expr::Rel(r) => Ok(is_calculated(&r.left, x) || is_calculated(&r.right, x)),
-        Expr::Inner(c) => is_call_calculated(c, x, left),
-        Expr::Not(inner) => {
-            left.push(inner.get())?;
-            Ok(false)
-        }
-        Expr::And(first, second) | Expr::Or(first, second) => {
-            left.push(first.get())?;
-            left.push(second.get())?;
-            Ok(false)
-        }
+/// The parts of a formula that are still to be looked at, and whether memory was refused.
+struct Parts<'a> {
+    left: Vec<&'a Expr>,
+    spent: bool,
+}
+
+/// By hand, so that who lets one go proves nothing of its parts.
+impl<'a> Drop for Parts<'a> {
+    fn drop(self) {
+        let Parts { left: _, spent: _ } = self;
     }
 }
 
-/// The same of the arguments of a call.
-fn is_call_calculated<'a>(c: &'a Call, x: &Var, left: &mut Vec<&'a Expr>) -> Result<bool, Starved> {
-    for a in c.args.as_slice() {
-        match a {
-            ArgOf::Plain(t) => {
-                if is_calculated(t, x) {
-                    return Ok(true);
-                }
-            }
-            ArgOf::Logic(e) => left.push(e)?,
+impl<'a> Parts<'a> {
+    fn keep(&mut self, e: &'a Expr) {
+        if self.left.push(e).is_err() {
+            self.spent = true;
         }
     }
-    Ok(false)
+
+    /// Whether a part of a formula has a calculated term with this variable; other parts in it are kept for later.
+    fn is_calculated(&mut self, e: &'a Expr, x: &Var) -> bool {
+        match e {
+            Expr::True | Expr::False => false,
+            Expr::Holds(l) => is_calculated_literal(l, x),
+            Expr::Rel(r) => is_calculated(&r.left, x) || is_calculated(&r.right, x),
+            Expr::Inner(c) => self.is_call_calculated(c, x),
+            Expr::Not(inner) => {
+                self.keep(inner.get());
+                false
+            }
+            Expr::And(first, second) | Expr::Or(first, second) => {
+                self.keep(first.get());
+                self.keep(second.get());
+                false
+            }
+        }
+    }
+
+    /// The same of the arguments of a call.
+    fn is_call_calculated(&mut self, c: &'a Call, x: &Var) -> bool {
+        for a in c.args.as_slice() {
+            match a {
+                ArgOf::Plain(t) => {
+                    if is_calculated(t, x) {
+                        return true;
+                    }
+                }
+                ArgOf::Logic(e) => self.keep(e),
+            }
+        }
+        false
+    }
 }
 
 /// Whether a call has a calculated term with this variable.
 fn has_calculated(alloc: Global, c: &Call, x: &Var) -> Result<bool, Starved> {
-    let mut left = Vec::new(alloc);
-    if is_call_calculated(c, x, &mut left)? {
-        return Ok(true);
-    }
+    let mut parts = Parts {
+        left: Vec::new(alloc),
+        spent: false,
+    };
+    let mut found = parts.is_call_calculated(c, x);
     for _ in 0..MOST_PARTS {
-        let Some(e) = left.pop() else {
-            return Ok(false);
-        };
-        if is_part_calculated(e, x, &mut left)? {
-            return Ok(true);
+        if found || parts.spent {
+            break;
         }
+        let Some(e) = parts.left.pop() else {
+            break;
+        };
+        found = parts.is_calculated(e, x);
     }
-    Ok(false)
+    if parts.spent { Err(Starved) } else { Ok(found) }
 }
 
 /// Whether an item may fail since this variable has no value when it is calculated.

@@ -2,7 +2,9 @@
 
 use crate::hint::{Hint, Hints};
 use crate::naming::{put_agents, put_file, put_names, put_same};
-use crate::rules::{RULES, Rule, Say};
+use crate::rules::{
+    Rule, Say, content_rules, form_rules, receiver_rules, trigger_rules, use_rules,
+};
 use crate::sight::{Asked, Sight, hold};
 use asl_term::printing::{print, write_number};
 use asl_term::printing_expr::print_formula;
@@ -77,8 +79,14 @@ pub fn told_by_rule(alloc: Global, s: &Sight<'_>, rule: &Rule) -> Result<Hint, S
     })
 }
 
-fn put_told(alloc: Global, s: &Sight<'_>, all: &mut Hints) -> Result<(), Starved> {
-    for rule in &RULES {
+/// Puts what those of some rules say that fit.
+fn put_told(
+    alloc: Global,
+    s: &Sight<'_>,
+    rules: &'static [Rule],
+    all: &mut Hints,
+) -> Result<(), Starved> {
+    for rule in rules {
         if rule.subject == s.subject && hold(s, rule.tests) {
             all.push(told_by_rule(alloc, s, rule)?)?;
         }
@@ -113,10 +121,19 @@ pub fn new_sheet(alloc: Global) -> Sheet {
 }
 
 impl Sheet {
-    /// Puts what the rules say.
+    /// Puts what the rules say that fit.
     pub fn look(&mut self, s: &Sight<'_>) {
-        if !self.spent && put_told(self.alloc, s, &mut self.all).is_err() {
-            self.spent = true;
+        let tables = [
+            use_rules(),
+            trigger_rules(),
+            content_rules(),
+            receiver_rules(),
+            form_rules(),
+        ];
+        for rules in tables {
+            if !self.spent && put_told(self.alloc, s, rules, &mut self.all).is_err() {
+                self.spent = true;
+            }
         }
     }
 
