@@ -4,11 +4,12 @@ ghost use Rattle.std.specs.Prelude.{◌≡◌, length, map, IfOk};
 ghost use Rattle.look_hints.specs.Planless as spec;
 
 use crate::covered::{put_endless, put_untaken};
-use crate::hint::{Code, Hint, Hints};
+use crate::hint::{Hint, Hints};
 use crate::jason::put_forms;
 use crate::planless::planless;
 use crate::project::{Here, Member, ReadProject};
 use crate::singles::{put_once, put_singles};
+use crate::telling::{Sheet, new_sheet};
 use crate::unmet::put_unmet;
 use crate::uses::uses_of;
 use crate::world::ReadWorld;
@@ -38,58 +39,22 @@ impl Drop for HintsTold {
 }
 
 /// Puts the hints at a clause, the one of this number of its source, from 0, but for those at its goals.
-fn put_clause(here: Here<'_>, number: usize, all: &mut Hints) -> Result<(), Starved> {
+fn put_clause<'a>(here: &Here<'a>, number: usize, sheet: &mut Sheet) -> Result<(), Starved> {
     let said = &here.clause.said;
-    put_once(here.alloc, here.marks, said, all)?;
+    put_once(here.alloc, here.marks, said, sheet);
     let uses = uses_of(here.alloc, here.marks, said)?;
-    put_unmet(here, &uses, all)?;
+    put_unmet(here, &uses, sheet);
     if let Sentence::Plan(p) = said {
-        put_forms(here, &p.trigger, &uses, all)?;
-        put_untaken(here, number, &p.trigger, all)?;
-        put_endless(here, number, &p.trigger, all)?;
+        put_forms(here, &p.trigger, &uses, sheet);
+        put_untaken(here, number, &p.trigger, sheet);
+        put_endless(here, number, &p.trigger, sheet);
     }
     Ok(())
 }
 
-fn put_clause_of(
-    alloc: Global,
-    project: &ReadProject,
-    place: usize,
-    member: &Member,
-    number: usize,
-    clause: &ReadClause,
-    all: &mut Hints,
-) -> Result<(), Starved> {
-    let marks = marks_of(alloc, member.source.text.as_slice(), clause.toks.as_slice())?;
-    let here = Here {
-        alloc,
-        project,
-        member,
-        place,
-        clause,
-        marks: marks.as_slice(),
-    };
-    put_clause(here, number, all)
-}
-
 /// By place, and then by the word of the code.
 fn order_of(h: &Hint) -> u64 {
-    let code = match h.code {
-        Code::Covered => 0,
-        Code::Endless => 1,
-        Code::Jason => 2,
-        Code::Never => 3,
-        Code::NoAct => 4,
-        Code::NoAgent => 5,
-        Code::NoAnswer => 6,
-        Code::NoPlan => 7,
-        Code::NoVerb => 8,
-        Code::NotCalled => 9,
-        Code::Once => 10,
-        Code::OpenBelief => 11,
-        Code::Unused => 12,
-    };
-    h.place.at.saturating_mul(16).saturating_add(code)
+    h.place.at.saturating_mul(16).saturating_add(h.code as u64)
 }
 
 fn finding_of(alloc: Global, bytes: &[u8], h: Hint) -> Result<Finding, Starved> {
@@ -160,11 +125,20 @@ fn other_hints(
     place: usize,
     member: &Member,
 ) -> Result<Hints, Starved> {
-    let mut all = Seq::new(alloc);
+    let mut sheet = new_sheet(alloc);
     for (number, clause) in member.source.clauses.as_slice().iter().enumerate() {
-        put_clause_of(alloc, project, place, member, number, clause, &mut all)?;
+        let marks = marks_of(alloc, member.source.text.as_slice(), clause.toks.as_slice())?;
+        let here = Here {
+            alloc,
+            project: &*project,
+            member: &*member,
+            place,
+            clause,
+            marks: marks.as_slice(),
+        };
+        put_clause(&here, number, &mut sheet)?;
     }
-    Ok(all)
+    sheet.into_hints()
 }
 
 /// These findings of a file of this name.
@@ -195,11 +169,11 @@ pub fn member_told(
 
 /// The hints of a world: variables of its acts that occur once.
 pub fn world_told(alloc: Global, w: &ReadWorld) -> Result<HintsTold, Starved> {
-    let mut all = Seq::new(alloc);
+    let mut sheet = new_sheet(alloc);
     for piece in w.written.as_slice() {
         let marks = marks_of(alloc, w.text.as_slice(), piece.toks.as_slice())?;
-        put_singles(alloc, marks.as_slice(), None, &mut all)?;
+        put_singles(alloc, marks.as_slice(), None, &mut sheet);
     }
-    let findings = findings_of(alloc, w.bytes.as_slice(), all)?;
+    let findings = findings_of(alloc, w.bytes.as_slice(), sheet.into_hints()?)?;
     told_in(alloc, &w.file, findings)
 }

@@ -1,12 +1,10 @@
 //! A hint: a place in a file, a stable word for what it is, a reason and notes.
 
 use asl_lexer::token::Place;
-use asl_term::sequence::{Seq, Starved};
+use asl_term::sequence::Seq;
 use asl_term::syntax::Text;
 use look_reasons::mark::Mark;
-use look_reasons::phrase::joined;
 use look_reasons::reason::Reason;
-use std::alloc::Global;
 
 /// What a hint is about, in the order of the words.
 #[derive(Clone, Copy)]
@@ -109,18 +107,15 @@ pub fn span_of(m: &Mark<'_>) -> Span {
 
 /// The bytes of the token at a place; of the last one where there is none.
 pub fn span_at(marks: &[Mark<'_>], at: usize) -> Span {
-    match marks.get(at) {
+    match marks.get(at.min(marks.len().saturating_sub(1))) {
         Some(m) => span_of(m),
-        None => match marks.last() {
-            Some(m) => span_of(m),
-            None => Span {
-                place: Place {
-                    at: 0,
-                    line: 1,
-                    column: 1,
-                },
-                end: 0,
+        None => Span {
+            place: Place {
+                at: 0,
+                line: 1,
+                column: 1,
             },
+            end: 0,
         },
     }
 }
@@ -131,31 +126,4 @@ pub fn span_to(marks: &[Mark<'_>], at: usize, last: usize) -> Span {
         place: span_at(marks, at).place,
         end: span_at(marks, last).end,
     }
-}
-
-/// A hint whose reason is these parts, without notes.
-pub fn hint_at(alloc: Global, span: Span, code: Code, parts: &[&[u8]]) -> Result<Hint, Starved> {
-    Ok(Hint {
-        place: span.place,
-        end: span.end,
-        code,
-        text: joined(alloc, parts)?,
-        notes: Seq::new(alloc),
-    })
-}
-
-/// The hint with a note more.
-pub fn noted(alloc: Global, h: Hint, parts: &[&[u8]]) -> Result<Hint, Starved> {
-    let mut h = h;
-    h.notes.push(joined(alloc, parts)?)?;
-    Ok(h)
-}
-
-/// The hint with this note, where there is one.
-pub fn noted_if(h: Hint, note: Option<Text>) -> Result<Hint, Starved> {
-    let mut h = h;
-    if let Some(note) = note {
-        h.notes.push(note)?;
-    }
-    Ok(h)
 }

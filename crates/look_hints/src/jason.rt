@@ -1,21 +1,17 @@
 //! Forms of a plan that are read and mean something else than in Jason.
 
-use crate::hint::{Code, Hint, Hints, hint_at, noted, span_at, span_of};
 use crate::messages::put_message;
 use crate::places::{sign_from, text_from, trigger_at};
 use crate::project::Here;
+use crate::rules::Subject;
 use crate::sends::atom_of;
+use crate::sight::{Sight, asked_here, sight_at};
+use crate::telling::Sheet;
 use crate::uses::{Called, Uses};
 use asl_lexer::token::{Sign, Word};
 use asl_parser_tree::plain::is_plain;
-use asl_term::printing::print;
-use asl_term::sequence::{Seq, Starved};
 use asl_term::syntax::{ArgOf, Kind, Literal, Term, Text, Trigger};
 use look_reasons::mark::Mark;
-
-fn jason(here: Here<'_>, at: usize, parts: &[&[u8]]) -> Result<Hint, Starved> {
-    hint_at(here.alloc, span_at(here.marks, at), Code::Jason, parts)
-}
 
 /// Whether a failure has no annotation of this functor here.
 fn is_foreign(functor: &[u8]) -> bool {
@@ -60,32 +56,34 @@ fn error_name(l: &Literal) -> Option<&Text> {
     }
 }
 
+/// Puts a hint about a word of a failure's trigger.
+fn put_word<'a>(
+    here: &Here<'_>,
+    subject: Subject,
+    text: &'a [u8],
+    rest: &'a [u8],
+    sheet: &mut Sheet,
+) {
+    let at = text_from(here.marks, trigger_at(here.marks), text);
+    sheet.look(&Sight {
+        text,
+        rest,
+        ..sight_at(here, subject, at)
+    });
+}
+
 /// Puts hints at an annotation of a failure's trigger.
-fn put_annotation(here: Here<'_>, l: &Literal, all: &mut Hints) -> Result<(), Starved> {
-    let from = trigger_at(here.marks);
-    if is_foreign(l.functor.as_slice()) {
-        let at = text_from(here.marks, from, l.functor.as_slice());
-        let parts = [
-            b"a failure has error(E) alone: with ".as_slice(),
-            l.functor.as_slice(),
-            b" this plan is never relevant",
-        ];
-        all.push(jason(here, at, &parts)?)?;
+fn put_annotation(here: &Here<'_>, l: &Literal, sheet: &mut Sheet) {
+    let functor = l.functor.as_slice();
+    if is_foreign(functor) {
+        put_word(here, Subject::Annotation, functor, b"", sheet);
     }
-    let Some(name) = error_name(l) else {
-        return Ok(());
-    };
-    if is_error(name.as_slice()) {
-        return Ok(());
+    if let Some(name) = error_name(l) {
+        let name = name.as_slice();
+        if !is_error(name) {
+            put_word(here, Subject::Error, name, error_note(name), sheet);
+        }
     }
-    let at = text_from(here.marks, from, name.as_slice());
-    let parts = [
-        b"no error has the name ".as_slice(),
-        name.as_slice(),
-        b": this plan is never relevant",
-    ];
-    let h = jason(here, at, &parts)?;
-    all.push(noted(here.alloc, h, &[error_note(name.as_slice())])?)
 }
 
 /// Whether the internal action of this name is about a goal.
@@ -96,158 +94,106 @@ fn is_of_goal(name: &[u8]) -> bool {
 }
 
 /// Puts a hint where an internal action in a failure plan is about the goal that has failed.
-fn put_of_goal(
-    here: Here<'_>,
-    goal: &Literal,
-    c: &Called<'_>,
-    all: &mut Hints,
-) -> Result<(), Starved> {
-    if !is_of_goal(c.call.name.as_slice()) {
-        return Ok(());
-    }
-    let Some(m) = here.marks.get(c.at.saturating_add(2)) else {
-        return Ok(());
-    };
-    if m.text != goal.functor.as_slice() {
-        return Ok(());
-    }
+fn put_of_goal<'a>(here: &Here<'a>, goal: &'a Literal, c: &Called<'a>, sheet: &mut Sheet) {
     let name = c.call.name.as_slice();
-    let functor = goal.functor.as_slice();
-    let parts = [
-        b"the failed goal is gone while its failure plan runs: .".as_slice(),
-        name,
-        b" does not meet it",
-    ];
-    let h = jason(here, c.at, &parts)?;
-    let note = [
-        b"a goal above it: +!want <- !".as_slice(),
-        functor,
-        b"; and .",
-        name,
-        b"(want)",
-    ];
-    all.push(noted(here.alloc, h, &note)?)
+    let same = match here.marks.get(c.at.saturating_add(2)) {
+        Some(m) => m.text == goal.functor.as_slice(),
+        None => false,
+    };
+    if same && is_of_goal(name) {
+        sheet.look(&Sight {
+            text: name,
+            asked: asked_here(here, goal),
+            ..sight_at(here, Subject::FailedGoal, c.at)
+        });
+    }
 }
 
 /// Puts the hints at a plan for a failure.
-fn put_failure(
-    here: Here<'_>,
-    t: &Trigger,
-    uses: &Uses<'_>,
-    all: &mut Hints,
-) -> Result<(), Starved> {
+fn put_failure<'a>(here: &Here<'a>, t: &'a Trigger, uses: &Uses<'a>, sheet: &mut Sheet) {
     for a in t.lit.annots.as_slice() {
         if let Term::Lit(l) = a {
-            put_annotation(here, l, all)?;
+            put_annotation(here, l, sheet);
         }
     }
     for c in uses.calls.as_slice() {
-        put_of_goal(here, &t.lit, c, all)?;
+        put_of_goal(here, &t.lit, c, sheet);
     }
-    Ok(())
+}
+
+fn is_string(marks: &[Mark<'_>], at: usize) -> bool {
+    match marks.get(at) {
+        Some(m) => matches!(m.word, Word::Str),
+        None => false,
+    }
 }
 
 /// Whether a string stands beside a place.
 fn is_beside_string(marks: &[Mark<'_>], at: usize) -> bool {
-    let is_string = |k: usize| match marks.get(k) {
-        Some(m) => matches!(m.word, Word::Str),
-        None => false,
-    };
-    (at > 0 && is_string(at.saturating_sub(1))) || is_string(at.saturating_add(1))
+    (at > 0 && is_string(marks, at.saturating_sub(1))) || is_string(marks, at.saturating_add(1))
 }
 
-fn put_joined(here: Here<'_>, all: &mut Hints) -> Result<(), Starved> {
+/// Puts hints at signs beside strings: at the first `+`, and at each relation of numbers.
+fn put_signs(here: &Here<'_>, sheet: &mut Sheet) {
+    let mut joined = false;
     for (k, m) in here.marks.iter().enumerate() {
-        if matches!(m.word, Word::Sign(Sign::Plus)) && is_beside_string(here.marks, k) {
-            let words: &[u8] = b"+ joins no strings: it fails with arith";
-            let h = hint_at(here.alloc, span_of(m), Code::Jason, &[words])?;
-            let note: &[u8] = b".concat(\"a\", \"b\", R)";
-            return all.push(noted(here.alloc, h, &[note])?);
+        if is_beside_string(here.marks, k) {
+            match m.word {
+                Word::Sign(Sign::Plus) if !joined => {
+                    joined = true;
+                    sheet.look(&sight_at(here, Subject::Joined, k));
+                }
+                Word::Sign(Sign::Less | Sign::LessEq | Sign::More | Sign::MoreEq) => sheet.look(
+                    &Sight {
+                        text: m.text,
+                        ..sight_at(here, Subject::Compared, k)
+                    },
+                ),
+                _ => {}
+            }
         }
     }
-    Ok(())
-}
-
-/// Whether it is the sign of a relation between numbers.
-fn is_order(word: Word) -> bool {
-    match word {
-        Word::Sign(s) => matches!(s, Sign::Less | Sign::LessEq | Sign::More | Sign::MoreEq),
-        _ => false,
-    }
-}
-
-fn put_compared(here: Here<'_>, all: &mut Hints) -> Result<(), Starved> {
-    for (k, m) in here.marks.iter().enumerate() {
-        if is_order(m.word) && is_beside_string(here.marks, k) {
-            let parts = [
-                m.text,
-                b" holds of numbers alone: of a string it never does",
-            ];
-            all.push(hint_at(here.alloc, span_of(m), Code::Jason, &parts)?)?;
-        }
-    }
-    Ok(())
 }
 
 /// Puts a hint where what is collected has arithmetic.
-fn put_collected(here: Here<'_>, c: &Called<'_>, all: &mut Hints) -> Result<(), Starved> {
-    if c.call.name.as_slice() != b"findall".as_slice() {
-        return Ok(());
-    }
+fn put_collected(here: &Here<'_>, c: &Called<'_>, sheet: &mut Sheet) {
     let Some(ArgOf::Plain(t)) = c.call.args.as_slice().first() else {
-        return Ok(());
+        return;
     };
-    if is_plain(t) {
-        return Ok(());
+    if c.call.name.as_slice() == b"findall".as_slice() && !is_plain(t) {
+        sheet.look(&Sight {
+            term: Some(t),
+            ..sight_at(here, Subject::Collected, c.at)
+        });
     }
-    let mut term = Seq::new(here.alloc);
-    print(t, &mut term)?;
-    let words: &[u8] = b"what .findall collects is not calculated";
-    let h = jason(here, c.at, &[words])?;
-    let note = [
-        b".findall(Y, .. & Y = ".as_slice(),
-        term.as_slice(),
-        b", L)",
-    ];
-    all.push(noted(here.alloc, h, &note)?)
 }
 
 /// Puts a hint at a plan for a goal that nothing posts here.
-fn put_received(here: Here<'_>, t: &Trigger, all: &mut Hints) -> Result<(), Starved> {
-    let name = t.lit.functor.as_slice();
-    let received = matches!(name, b"kqml_received" | b"kqml_received_error");
-    if !received || !matches!(t.kind, Kind::Achieve) {
-        return Ok(());
+fn put_received<'a>(here: &Here<'a>, t: &'a Trigger, sheet: &mut Sheet) {
+    let received = matches!(
+        t.lit.functor.as_slice(),
+        b"kqml_received" | b"kqml_received_error"
+    );
+    if received && matches!(t.kind, Kind::Achieve) {
+        sheet.look(&Sight {
+            asked: asked_here(here, &t.lit),
+            ..sight_at(here, Subject::Received, trigger_at(here.marks))
+        });
     }
-    let parts = [
-        b"no rule posts !".as_slice(),
-        name,
-        b" here: this plan is never called",
-    ];
-    let h = jason(here, trigger_at(here.marks), &parts)?;
-    let note: &[u8] = b"a plan for +b[source(A)] or +!g[source(A)], with a context over A";
-    all.push(noted(here.alloc, h, &[note])?)
 }
 
 /// Puts the hints at the forms of a plan, and at what its body sends.
-pub fn put_forms(
-    here: Here<'_>,
-    t: &Trigger,
-    uses: &Uses<'_>,
-    all: &mut Hints,
-) -> Result<(), Starved> {
-    put_received(here, t, all)?;
+pub fn put_forms<'a>(here: &Here<'a>, t: &'a Trigger, uses: &Uses<'a>, sheet: &mut Sheet) {
+    put_received(here, t, sheet);
     if !t.add && !matches!(t.kind, Kind::Belief) {
-        put_failure(here, t, uses, all)?;
+        put_failure(here, t, uses, sheet);
     }
-    put_joined(here, all)?;
-    put_compared(here, all)?;
+    put_signs(here, sheet);
     let arrow = sign_from(here.marks, 0, Sign::LeftArrow);
     for c in uses.calls.as_slice() {
         if c.at > arrow {
-            put_message(here, c, all)?;
-            put_collected(here, c, all)?;
+            put_message(here, c, sheet);
+            put_collected(here, c, sheet);
         }
     }
-    Ok(())
 }

@@ -1,9 +1,7 @@
 //! Where the parts of a clause stand among its tokens. The clause is one that is read.
 
 use asl_lexer::token::{Sign, Word};
-use asl_term::sequence::Starved;
 use look_reasons::mark::{Mark, is_relation, is_sign};
-use std::alloc::Global;
 
 /// Whether this sign stands at a place.
 pub fn has_sign(marks: &[Mark<'_>], at: usize, sign: Sign) -> bool {
@@ -35,31 +33,60 @@ pub fn sign_from(marks: &[Mark<'_>], from: usize, sign: Sign) -> usize {
     marks.len()
 }
 
-fn is_open(word: Word) -> bool {
-    is_sign(word, Sign::Open) || is_sign(word, Sign::OpenSquare)
+/// Whether the internal action of this name stands at a place.
+fn is_inner(marks: &[Mark<'_>], at: usize, name: &[u8]) -> bool {
+    let Some(m) = marks.get(at) else {
+        return false;
+    };
+    match m.text {
+        [b'.', rest @ ..] => rest == name,
+        _ => false,
+    }
+}
+
+/// The first place from this one on with the internal action of this name; behind all where there is none.
+pub fn inner_from(marks: &[Mark<'_>], from: usize, name: &[u8]) -> usize {
+    for k in from..marks.len() {
+        if is_inner(marks, k, name) {
+            return k;
+        }
+    }
+    marks.len()
+}
+
+/// What the token at a place is.
+fn word_at(marks: &[Mark<'_>], at: usize) -> Word {
+    match marks.get(at) {
+        Some(m) => m.word,
+        None => Word::Other,
+    }
 }
 
 fn is_close(word: Word) -> bool {
-    is_sign(word, Sign::Close) || is_sign(word, Sign::CloseSquare)
+    matches!(word, Word::Sign(Sign::Close | Sign::CloseSquare))
+}
+
+/// How many brackets are open behind a token, where so many are before it.
+fn depth_behind(depth: u64, word: Word) -> u64 {
+    match word {
+        Word::Sign(Sign::Open | Sign::OpenSquare) => depth.saturating_add(1),
+        Word::Sign(Sign::Close | Sign::CloseSquare) => depth.saturating_sub(1),
+        _ => depth,
+    }
 }
 
 /// The place behind the brackets that open here; the same place where none do.
 pub fn behind_brackets(marks: &[Mark<'_>], at: usize) -> usize {
     let mut depth: u64 = 0;
     for k in at..marks.len() {
-        let Some(m) = marks.get(k) else {
-            return k;
-        };
-        if is_open(m.word) {
-            depth = depth.saturating_add(1);
-        } else if is_close(m.word) {
-            depth = depth.saturating_sub(1);
-            if depth == 0 {
-                return k.saturating_add(1);
-            }
-        }
+        let word = word_at(marks, k);
+        depth = depth_behind(depth, word);
         if depth == 0 {
-            return k;
+            return if is_close(word) {
+                k.saturating_add(1)
+            } else {
+                k
+            };
         }
     }
     marks.len()
@@ -77,30 +104,26 @@ pub fn behind_literal(marks: &[Mark<'_>], functor: usize) -> usize {
     at
 }
 
-/// Where the arguments begin between the brackets that open here.
-pub fn arguments(alloc: Global, marks: &[Mark<'_>], open: usize) -> Result<Vec<usize>, Starved> {
-    let mut all = Vec::new(alloc);
+/// Where an argument begins between the brackets that open here, the one of this number, from 0.
+pub fn argument(marks: &[Mark<'_>], open: usize, number: u64) -> Option<usize> {
     if !has_sign(marks, open, Sign::Open) {
-        return Ok(all);
+        return None;
     }
     let mut depth: u64 = 0;
+    let mut count: u64 = 0;
     for k in open..marks.len() {
-        let Some(m) = marks.get(k) else {
-            return Ok(all);
-        };
-        if is_open(m.word) {
-            depth = depth.saturating_add(1);
-        } else if is_close(m.word) {
-            depth = depth.saturating_sub(1);
-            if depth == 0 {
-                return Ok(all);
-            }
+        depth = depth_behind(depth, word_at(marks, k));
+        if depth == 0 {
+            return None;
         }
-        if depth == 1 && (k == open || is_sign(m.word, Sign::Comma)) {
-            all.push(k.saturating_add(1))?;
+        if depth == 1 && (k == open || has_sign(marks, k, Sign::Comma)) {
+            if count == number {
+                return Some(k.saturating_add(1));
+            }
+            count = count.saturating_add(1);
         }
     }
-    Ok(all)
+    None
 }
 
 /// Whether the right side of a relation ends with this token, where no bracket is open.
@@ -127,19 +150,14 @@ pub fn behind_relation(marks: &[Mark<'_>], from: usize) -> usize {
     let mut right = false;
     let mut depth: u64 = 0;
     for k in from..marks.len() {
-        let Some(m) = marks.get(k) else {
-            return k;
-        };
-        if right && depth == 0 && ends_side(m.word) {
+        let word = word_at(marks, k);
+        if right && depth == 0 && ends_side(word) {
             return k;
         }
-        if right && is_open(m.word) {
-            depth = depth.saturating_add(1);
+        if right {
+            depth = depth_behind(depth, word);
         }
-        if right && is_close(m.word) {
-            depth = depth.saturating_sub(1);
-        }
-        right = right || is_relation(m.word);
+        right = right || is_relation(word);
     }
     marks.len()
 }
@@ -148,39 +166,29 @@ pub fn behind_relation(marks: &[Mark<'_>], from: usize) -> usize {
 fn is_nothing(marks: &[Mark<'_>], from: usize) -> bool {
     let mut seen = false;
     for k in from..marks.len() {
-        let Some(m) = marks.get(k) else {
-            return false;
-        };
-        match m.word {
-            Word::True => {
-                if seen {
-                    return false;
-                }
-                seen = true;
-            }
-            Word::End => return seen,
-            Word::Sign(Sign::Semicolon) => return seen,
-            Word::Sign(Sign::Open) => {}
-            Word::Sign(Sign::Close) => {}
+        match word_at(marks, k) {
+            Word::True if !seen => seen = true,
+            Word::End | Word::Sign(Sign::Semicolon) => return seen,
+            Word::Sign(Sign::Open | Sign::Close) => {}
             _ => return false,
         }
     }
     false
 }
 
-/// Where the items of a body begin, but for those that are `true`.
-pub fn items(alloc: Global, marks: &[Mark<'_>]) -> Result<Vec<usize>, Starved> {
-    let mut all = Vec::new(alloc);
-    let arrow = sign_from(marks, 0, Sign::LeftArrow);
-    for k in arrow..marks.len() {
-        if has_sign(marks, k, Sign::LeftArrow) || has_sign(marks, k, Sign::Semicolon) {
-            let item = k.saturating_add(1);
-            if !is_nothing(marks, item) {
-                all.push(item)?;
-            }
+/// Where the next item of a body begins behind an arrow or a `;` from this place on, but for those that are `true`.
+pub fn next_item(marks: &[Mark<'_>], from: usize) -> Option<usize> {
+    for k in from..marks.len() {
+        let ends = matches!(
+            word_at(marks, k),
+            Word::Sign(Sign::LeftArrow | Sign::Semicolon)
+        );
+        let item = k.saturating_add(1);
+        if ends && !is_nothing(marks, item) {
+            return Some(item);
         }
     }
-    Ok(all)
+    None
 }
 
 /// Where the literal of a plan's trigger begins.

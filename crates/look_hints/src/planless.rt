@@ -4,14 +4,14 @@ ghost use Rattle.std.specs.Prelude.{◌≡◌, map, IfOk};
 ghost use Rattle.look_names.specs.Goals.{unplanned};
 ghost use Rattle.look_hints.specs.Planless as spec;
 
-use crate::hint::{Code, Hint, Hints, Span, hint_at, noted, noted_if, span_at};
-use crate::naming::{file_text, same_in};
+use crate::hint::{Code, Hint, Hints, Span, span_at};
 use crate::project::Member;
+use crate::rules::{Subject, planless_rule};
+use crate::sight::{Asked, Sight, sight_of};
+use crate::telling::told_by_rule;
 use asl_term::sequence::{Seq, Starved};
-use asl_term::syntax::{Kind, Literal};
-use look_names::clause::{ReadClause, has_plan};
+use look_names::clause::ReadClause;
 use look_names::goals::{PlacedGoal, unplanned};
-use look_names::name::literal_name;
 use look_reasons::mark::Mark;
 use std::alloc::Global;
 
@@ -30,39 +30,24 @@ fn goal_span(marks: &[Mark<'_>], p: &PlacedGoal) -> Span {
     }
 }
 
-/// The hint with what else there is for the goal.
-fn with_notes(alloc: Global, m: &Member, g: &Literal, h: Hint) -> Result<Hint, Starved> {
-    let clauses = m.source.clauses.as_slice();
-    let name = literal_name(alloc, g)?;
-    let mut h = noted_if(h, same_in(alloc, m.deeds.planned.as_slice(), g)?)?;
-    if has_plan(clauses, false, Kind::Achieve, g) {
-        h = noted(
-            alloc,
-            h,
-            &[b"its failure plan -!", name.as_slice(), b" is taken"],
-        )?;
-    }
-    if has_plan(clauses, true, Kind::Belief, g) {
-        h = noted(
-            alloc,
-            h,
-            &[b"there is a plan for the belief +", name.as_slice()],
-        )?;
-    }
-    Ok(h)
-}
-
-/// The reason of a hint, and its notes.
-fn worded(alloc: Global, m: &Member, marks: &[Mark<'_>], p: &PlacedGoal) -> Result<Hint, Starved> {
-    let name = literal_name(alloc, &p.goal)?;
-    let file = file_text(alloc, &m.source.file)?;
-    let h = hint_at(
-        alloc,
-        goal_span(marks, p),
-        Code::NoPlan,
-        &[b"no plan +!", name.as_slice(), b" in ", file.as_slice()],
-    )?;
-    with_notes(alloc, m, &p.goal, h)
+/// What is said of a goal.
+fn goal_hint<'a>(
+    alloc: Global,
+    m: &'a Member,
+    marks: &[Mark<'_>],
+    p: &'a PlacedGoal,
+) -> Result<Hint, Starved> {
+    let asked = Asked {
+        literal: &p.goal,
+        member: m,
+        world: None,
+        tells_plans: false,
+    };
+    let s = Sight {
+        asked: Some(asked),
+        ..sight_of(Subject::Planless, goal_span(marks, p))
+    };
+    told_by_rule(alloc, &s, planless_rule())
 }
 
 /// The hint at the place of a goal.
@@ -74,7 +59,7 @@ fn planless_hint(
 ) -> Result<Hint, Starved>
     ensures { IfOk result (λ h. spec.spot h ≡ spec.spot_of p.now) }
 {
-    let mut h = worded(alloc, m, marks, p)?;
+    let mut h = goal_hint(alloc, m, marks, p)?;
     h.place = p.place;
     h.code = Code::NoPlan;
     Ok(h)

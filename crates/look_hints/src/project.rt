@@ -105,19 +105,19 @@ pub fn project_of(
 }
 
 /// Whether agents may see facts of the name of a literal.
-fn is_seen(p: &ReadProject, l: &Literal) -> bool {
-    match &p.world {
+fn is_seen(world: Option<&ReadWorld>, l: &Literal) -> bool {
+    match world {
         Some(w) => w.any_fact || has_name(w.facts.as_slice(), l),
         None => false,
     }
 }
 
 /// Whether the agents of a source may know something of the name of a literal: it is written, added, replaced or told, the head of a rule, or seen.
-pub fn is_known(p: &ReadProject, d: &Deeds, l: &Literal) -> bool {
-    comes(d, l) || has_name(d.rules.as_slice(), l) || is_seen(p, l)
+pub fn is_known(world: Option<&ReadWorld>, d: &Deeds, l: &Literal) -> bool {
+    is_changing(world, d, l) || has_name(d.rules.as_slice(), l)
 }
 
 /// Whether a belief of the name of a literal may come or go, which the heads of rules do not.
-pub fn is_changing(p: &ReadProject, d: &Deeds, l: &Literal) -> bool {
-    comes(d, l) || is_seen(p, l)
+pub fn is_changing(world: Option<&ReadWorld>, d: &Deeds, l: &Literal) -> bool {
+    comes(d, l) || is_seen(world, l)
 }

@@ -1,16 +1,17 @@
 //! Variables that occur once.
 
-use crate::hint::{Code, Hint, Hints, hint_at, noted, noted_if, span_of};
+use crate::hint::span_of;
+use crate::rules::Subject;
+use crate::sight::{Sight, sight_of};
+use crate::telling::Sheet;
 use asl_lexer::token::{Sign, Word};
 use asl_parser::sentence::Sentence;
 use asl_parser_tree::plain::{is_plain, is_plain_literal};
 use asl_term::name::name_of;
-use asl_term::printing_expr::print_formula;
-use asl_term::sequence::{Seq, Starved};
-use asl_term::syntax::{ArgOf, Call, Expr, Formula, Literal, Plan, Term, Text, Var};
+use asl_term::sequence::Starved;
+use asl_term::syntax::{ArgOf, Call, Expr, Formula, Literal, Plan, Term, Var};
 use asl_term::variables::occurs;
 use look_reasons::mark::{Mark, is_sign};
-use look_reasons::phrase::joined;
 use std::alloc::Global;
 
 /// Whether a variable has this one token in its clause, and no `_` in front.
@@ -48,55 +49,78 @@ fn is_calculated_literal(l: &Literal, x: &Var) -> bool {
 /// The most parts of a formula.
 const MOST_PARTS: u64 = 10_000;
 
-/// Whether a part of a formula has a calculated term with this variable; other parts in it are kept for later.
-fn is_part_calculated<'a>(e: &'a Expr, x: &Var, left: &mut Vec<&'a Expr>) -> Result<bool, Starved> {
-    match e {
-        Expr::True | Expr::False => Ok(false),
-        Expr::Holds(l) => Ok(is_calculated_literal(l, x)),
-        Expr::Rel(r) => Ok(is_calculated(&r.left, x) || is_calculated(&r.right, x)),
-        Expr::Inner(c) => is_call_calculated(c, x, left),
-        Expr::Not(inner) => {
-            left.push(inner.get())?;
-            Ok(false)
-        }
-        Expr::And(first, second) | Expr::Or(first, second) => {
-            left.push(first.get())?;
-            left.push(second.get())?;
-            Ok(false)
-        }
+/// The parts of a formula that are still to be looked at, and whether memory was refused.
+struct Parts<'a> {
+    left: Vec<&'a Expr>,
+    spent: bool,
+}
+
+/// By hand, so that who lets one go proves nothing of its parts.
+impl<'a> Drop for Parts<'a> {
+    fn drop(self) {
+        let Parts { left: _, spent: _ } = self;
     }
 }
 
-/// The same of the arguments of a call.
-fn is_call_calculated<'a>(c: &'a Call, x: &Var, left: &mut Vec<&'a Expr>) -> Result<bool, Starved> {
-    for a in c.args.as_slice() {
-        match a {
-            ArgOf::Plain(t) => {
-                if is_calculated(t, x) {
-                    return Ok(true);
-                }
-            }
-            ArgOf::Logic(e) => left.push(e)?,
+impl<'a> Parts<'a> {
+    fn keep(&mut self, e: &'a Expr) {
+        if self.left.push(e).is_err() {
+            self.spent = true;
         }
     }
-    Ok(false)
+
+    /// Whether a part of a formula has a calculated term with this variable; other parts in it are kept for later.
+    fn is_calculated(&mut self, e: &'a Expr, x: &Var) -> bool {
+        match e {
+            Expr::True | Expr::False => false,
+            Expr::Holds(l) => is_calculated_literal(l, x),
+            Expr::Rel(r) => is_calculated(&r.left, x) || is_calculated(&r.right, x),
+            Expr::Inner(c) => self.is_call_calculated(c, x),
+            Expr::Not(inner) => {
+                self.keep(inner.get());
+                false
+            }
+            Expr::And(first, second) | Expr::Or(first, second) => {
+                self.keep(first.get());
+                self.keep(second.get());
+                false
+            }
+        }
+    }
+
+    /// The same of the arguments of a call.
+    fn is_call_calculated(&mut self, c: &'a Call, x: &Var) -> bool {
+        for a in c.args.as_slice() {
+            match a {
+                ArgOf::Plain(t) => {
+                    if is_calculated(t, x) {
+                        return true;
+                    }
+                }
+                ArgOf::Logic(e) => self.keep(e),
+            }
+        }
+        false
+    }
 }
 
 /// Whether a call has a calculated term with this variable.
 fn has_calculated(alloc: Global, c: &Call, x: &Var) -> Result<bool, Starved> {
-    let mut left = Vec::new(alloc);
-    if is_call_calculated(c, x, &mut left)? {
-        return Ok(true);
-    }
+    let mut parts = Parts {
+        left: Vec::new(alloc),
+        spent: false,
+    };
+    let mut found = parts.is_call_calculated(c, x);
     for _ in 0..MOST_PARTS {
-        let Some(e) = left.pop() else {
-            return Ok(false);
-        };
-        if is_part_calculated(e, x, &mut left)? {
-            return Ok(true);
+        if found || parts.spent {
+            break;
         }
+        let Some(e) = parts.left.pop() else {
+            break;
+        };
+        found = parts.is_calculated(e, x);
     }
-    Ok(false)
+    if parts.spent { Err(Starved) } else { Ok(found) }
 }
 
 /// Whether an item may fail since this variable has no value when it is calculated.
@@ -122,39 +146,48 @@ fn wanting(f: &Formula) -> Option<&Literal> {
     }
 }
 
-/// `it has no value: ITEM fails with ERROR`
-fn failing(alloc: Global, f: &Formula, how: &[u8]) -> Result<Text, Starved> {
-    let mut item = Seq::new(alloc);
-    print_formula(f, &mut item)?;
-    joined(alloc, &[b"it has no value: ", item.as_slice(), how])
+/// An item that fails, and how.
+#[derive(Clone, Copy)]
+struct Failing<'a> {
+    item: &'a Formula,
+    how: &'static [u8],
 }
 
-/// What becomes of the first item that wants a value for a variable without one.
-fn valueless(alloc: Global, p: &Plan, x: &Var) -> Result<Option<Text>, Starved> {
-    for f in p.body.as_slice() {
-        if let Some(l) = wanting(f) {
-            if stands_in_literal(l, x) {
-                let how: &[u8] = if is_plain_literal(l) {
-                    b" fails with not_ground"
-                } else {
-                    b" fails with arith"
-                };
-                return Ok(Some(failing(alloc, f, how)?));
-            }
+/// How an item fails since a variable has no value.
+fn failure(alloc: Global, f: &Formula, x: &Var) -> Result<&'static [u8], Starved> {
+    if let Some(l) = wanting(f) {
+        if stands_in_literal(l, x) {
+            return Ok(if is_plain_literal(l) {
+                b" fails with not_ground"
+            } else {
+                b" fails with arith"
+            });
         }
-        if may_fail(alloc, f, x)? {
-            return Ok(Some(failing(alloc, f, b" may fail with arith")?));
+    }
+    Ok(if may_fail(alloc, f, x)? {
+        b" may fail with arith"
+    } else {
+        b""
+    })
+}
+
+/// The first item that wants a value for a variable without one.
+fn first_failing<'a>(alloc: Global, p: &'a Plan, x: &Var) -> Result<Option<Failing<'a>>, Starved> {
+    for item in p.body.as_slice() {
+        let how = failure(alloc, item, x)?;
+        if !how.is_empty() {
+            return Ok(Some(Failing { item, how }));
         }
     }
     Ok(None)
 }
 
-/// The note where a variable of a plan has no value when an item wants it.
-fn valueless_note(
+/// The first item of a plan that wants a value for the variable of this name.
+fn failing_item<'a>(
     alloc: Global,
-    plan: Option<&Plan>,
+    plan: Option<&'a Plan>,
     name: &[u8],
-) -> Result<Option<Text>, Starved> {
+) -> Result<Option<Failing<'a>>, Starved> {
     let Some(p) = plan else {
         return Ok(None);
     };
@@ -162,74 +195,63 @@ fn valueless_note(
         name: name_of(alloc, name)?,
         number: 0,
     };
-    let note = valueless(alloc, p, &x);
+    let found = first_failing(alloc, p, &x);
     drop(x);
-    note
-}
-
-fn once(alloc: Global, plan: Option<&Plan>, m: &Mark<'_>) -> Result<Hint, Starved> {
-    let parts = [b"the variable ".as_slice(), m.text, b" occurs once"];
-    let h = hint_at(alloc, span_of(m), Code::Once, &parts)?;
-    match valueless_note(alloc, plan, m.text)? {
-        Some(note) => noted_if(h, Some(note)),
-        None => noted(alloc, h, &[b"_", m.text, b" or _ where it is meant"]),
-    }
+    found
 }
 
 /// Puts the hints at the variables of a clause that occur once; of the plan that it is.
-pub fn put_singles(
+pub fn put_singles<'a>(
     alloc: Global,
-    marks: &[Mark<'_>],
-    plan: Option<&Plan>,
-    all: &mut Hints,
-) -> Result<(), Starved> {
+    marks: &'a [Mark<'a>],
+    plan: Option<&'a Plan>,
+    sheet: &mut Sheet,
+) {
     for m in marks {
         if is_single(marks, m) {
-            all.push(once(alloc, plan, m)?)?;
+            let (item, rest): (Option<&Formula>, &[u8]) = match sheet.found(failing_item(
+                alloc, plan, m.text,
+            )) {
+                Some(f) => (Some(f.item), f.how),
+                None => (None, b""),
+            };
+            sheet.look(&Sight {
+                text: m.text,
+                rest,
+                item,
+                ..sight_of(Subject::Once, span_of(m))
+            });
         }
     }
-    Ok(())
 }
 
 /// The same of a belief.
-fn put_open(alloc: Global, marks: &[Mark<'_>], all: &mut Hints) -> Result<(), Starved> {
+fn put_open(marks: &[Mark<'_>], sheet: &mut Sheet) {
     for m in marks {
         if is_single(marks, m) {
-            let parts = [
-                b"the variable ".as_slice(),
-                m.text,
-                b" occurs once, and so this belief is a rule that holds for everything",
-            ];
-            let h = hint_at(alloc, span_of(m), Code::OpenBelief, &parts)?;
-            let note: &[u8] = b"a name begins with a small letter";
-            all.push(noted(alloc, h, &[note])?)?;
+            sheet.look(&Sight {
+                text: m.text,
+                ..sight_of(Subject::OpenBelief, span_of(m))
+            });
         }
     }
-    Ok(())
 }
 
 /// Whether a clause is a belief: it is no rule with a body.
 fn is_belief(marks: &[Mark<'_>]) -> bool {
-    !marks.iter().any(|m| is_sign(m.word, Sign::If))
+    for m in marks {
+        if is_sign(m.word, Sign::If) {
+            return false;
+        }
+    }
+    true
 }
 
 /// Puts the hints at the variables of a source's clause that occur once.
-pub fn put_once(
-    alloc: Global,
-    marks: &[Mark<'_>],
-    said: &Sentence,
-    all: &mut Hints,
-) -> Result<(), Starved> {
+pub fn put_once<'a>(alloc: Global, marks: &'a [Mark<'a>], said: &'a Sentence, sheet: &mut Sheet) {
     match said {
-        Sentence::Plan(p) => put_singles(alloc, marks, Some(p), all),
-        Sentence::Rule(_) => {
-            if is_belief(marks) {
-                put_open(alloc, marks, all)
-            } else {
-                put_singles(alloc, marks, None, all)
-            }
-        }
-        Sentence::Belief(_) => put_singles(alloc, marks, None, all),
-        Sentence::Goal(_) => put_singles(alloc, marks, None, all),
+        Sentence::Plan(p) => put_singles(alloc, marks, Some(p), sheet),
+        Sentence::Rule(_) if is_belief(marks) => put_open(marks, sheet),
+        _ => put_singles(alloc, marks, None, sheet),
     }
 }

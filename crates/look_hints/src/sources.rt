@@ -27,37 +27,26 @@ use mas_top_files::project as whole;
 use mas_top_status::status::Status;
 use std::alloc::Global;
 
-/// Agents of one source.
+/// The file of a source, the name of its agents, and how many there are where they are counted.
 struct Entry {
     file: Text,
-    agents: Seq<Text>,
+    name: Text,
+    count: Option<u64>,
 }
 
 /// By hand, so that who lets one go proves nothing of its parts.
 impl Drop for Entry {
     fn drop(self) {
-        let Entry { file: _, agents: _ } = self;
+        let Entry {
+            file: _,
+            name: _,
+            count: _,
+        } = self;
     }
 }
 
 type Entries = Seq<Entry>;
 
-fn put_agent(alloc: Global, all: &mut Entries, file: &Text, name: Text) -> Result<(), Starved> {
-    let found = all.as_slice().iter().position(|e| same_text(&e.file, file));
-    if let Some(k) = found {
-        if (k as u64) < all.len() {
-            return all.at_mut(k as u64).agents.push(name);
-        }
-    }
-    let mut agents = Seq::new(alloc);
-    agents.push(name)?;
-    all.push(Entry {
-        file: copy_text(alloc, file)?,
-        agents,
-    })
-}
-
-/// Puts the agents of an entry: one of this name, or as many as counted, with numbers behind it.
 fn put_entry(
     alloc: Global,
     all: &mut Entries,
@@ -65,15 +54,11 @@ fn put_entry(
     file: &Text,
     count: Option<u64>,
 ) -> Result<(), Starved> {
-    let Some(count) = count else {
-        return put_agent(alloc, all, file, copy_text(alloc, name)?);
-    };
-    for k in 0..count.min(1024) {
-        let mut numbered = copy_text(alloc, name)?;
-        write_number(alloc, k.saturating_add(1), &mut numbered)?;
-        put_agent(alloc, all, file, numbered)?;
-    }
-    Ok(())
+    all.push(Entry {
+        file: copy_text(alloc, file)?,
+        name: copy_text(alloc, name)?,
+        count,
+    })
 }
 
 fn entries_of(alloc: Global, p: &ProjectText) -> Result<Entries, Starved> {
@@ -154,14 +139,25 @@ fn entries<S: Shelf>(alloc: Global, word: &Text, shelf: &mut S) -> Result<Entrie
     }
 }
 
+/// Puts the agents of an entry: one of this name, or as many as counted, with numbers behind it.
+fn put_agents(alloc: Global, e: &Entry, agents: &mut Seq<Text>) -> Result<(), Starved> {
+    let Some(count) = e.count else {
+        return agents.push(copy_text(alloc, &e.name)?);
+    };
+    for k in 0..count.min(1024) {
+        let mut numbered = copy_text(alloc, &e.name)?;
+        write_number(alloc, k.saturating_add(1), &mut numbered)?;
+        agents.push(numbered)?;
+    }
+    Ok(())
+}
+
 /// The agents of a source.
 fn agents_of(alloc: Global, all: &Entries, file: &Text) -> Result<Seq<Text>, Starved> {
     let mut agents = Seq::new(alloc);
     for e in all.as_slice() {
         if same_text(&e.file, file) {
-            for name in e.agents.as_slice() {
-                agents.push(copy_text(alloc, name)?)?;
-            }
+            put_agents(alloc, e, &mut agents)?;
         }
     }
     Ok(agents)

@@ -13,11 +13,10 @@ use env_file::clauses::statement;
 use env_file::fault::WorldFault;
 use env_file::statement::Statement;
 use env_file::taking::make;
-use look_names::name::{Name, NameSet, put_name};
+use look_names::name::{Name, NameSet, has_name, put_name};
 use look_reasons::bytes::mended_of;
 use mas_world::acts::WorldText;
 use std::alloc::Global;
-use std::mem::replace;
 
 /// What is known of a world: the names of the facts that agents may see, whether they may see any, the names of its acts, whether
 /// there may be others, and its bytes with the tokens of its acts.
@@ -82,28 +81,37 @@ fn take(alloc: Global, known: &Names, made: &mut WorldText, toks: &[Tok]) -> Res
     }
 }
 
-/// Puts the name of a fact, and of the fact in `for(A, F)`, which the agent A alone sees. Whether that may be any.
-fn put_fact(alloc: Global, w: &mut ReadWorld, l: &Literal) -> Result<(), Starved> {
-    put_name(alloc, &mut w.facts, l)?;
-    if l.functor.as_slice() == b"for".as_slice() {
-        if let [_, fact] = l.args.as_slice() {
-            match fact {
-                Term::Lit(inner) => put_name(alloc, &mut w.facts, inner)?,
-                _ => w.any_fact = true,
-            }
-        }
+/// Puts the name of a fact, unless no agent sees facts of its functor.
+fn put_seen(alloc: Global, w: &mut ReadWorld, hidden: &Names, l: &Literal) -> Result<(), Starved> {
+    match find(hidden, &l.functor) {
+        Some(_) => Ok(()),
+        None => put_name(alloc, &mut w.facts, l),
     }
-    Ok(())
+}
+
+/// Puts the name of a fact, and of the fact in `for(A, F)`, which the agent A alone sees; that may be any.
+fn put_fact(alloc: Global, w: &mut ReadWorld, hidden: &Names, l: &Literal) -> Result<(), Starved> {
+    put_seen(alloc, w, hidden, l)?;
+    match l.args.as_slice() {
+        [_, fact] if l.functor.as_slice() == b"for".as_slice() => match fact {
+            Term::Lit(inner) => put_seen(alloc, w, hidden, inner),
+            _ => {
+                w.any_fact = true;
+                Ok(())
+            }
+        },
+        _ => Ok(()),
+    }
 }
 
 fn put_facts(alloc: Global, w: &mut ReadWorld, made: &WorldText) -> Result<(), Starved> {
     for l in made.facts.as_slice() {
-        put_fact(alloc, w, l)?;
+        put_fact(alloc, w, &made.hidden, l)?;
     }
     for act in made.acts.as_slice() {
         put_name(alloc, &mut w.acts, &act.head)?;
         for l in act.adds.as_slice() {
-            put_fact(alloc, w, l)?;
+            put_fact(alloc, w, &made.hidden, l)?;
         }
     }
     Ok(())
@@ -119,7 +127,12 @@ fn plain_name(alloc: Global, functor: &[u8], count: u64) -> Result<Name, Starved
 }
 
 /// Puts what an artifact of this name shows and does. One that is not known may do anything.
-fn put_artifact(alloc: Global, w: &mut ReadWorld, name: &Text) -> Result<(), Starved> {
+fn put_artifact(
+    alloc: Global,
+    w: &mut ReadWorld,
+    hidden: &Names,
+    name: &Text,
+) -> Result<(), Starved> {
     let acts: &[(&[u8], u64)] = match name.as_slice() {
         b"tally" => &[(b"tally_add", 1)],
         b"slot" => &[(b"slot_take", 0), (b"slot_give", 0)],
@@ -130,22 +143,21 @@ fn put_artifact(alloc: Global, w: &mut ReadWorld, name: &Text) -> Result<(), Sta
             return Ok(());
         }
     };
-    w.facts.push(plain_name(alloc, name.as_slice(), 1)?)?;
+    if find(hidden, name).is_none() {
+        w.facts.push(plain_name(alloc, name.as_slice(), 1)?)?;
+    }
     for (functor, count) in acts {
         w.acts.push(plain_name(alloc, *functor, *count)?)?;
     }
     Ok(())
 }
 
-/// Takes away the names of facts with a functor that no agent sees.
-fn hide(alloc: Global, w: &mut ReadWorld, hidden: &Names) -> Result<(), Starved> {
-    let facts = replace(&mut w.facts, Seq::new(alloc));
-    for n in facts.into_vec() {
-        if find(hidden, &n.functor).is_none() {
-            w.facts.push(n)?;
-        }
+/// Whether a world has an act of the name of a literal, or may have any.
+pub fn has_act(world: Option<&ReadWorld>, l: &Literal) -> bool {
+    match world {
+        Some(w) => w.any_act || has_name(w.acts.as_slice(), l),
+        None => false,
     }
-    Ok(())
 }
 
 /// The world of a file with these bytes, where there are artifacts of these names.
@@ -176,9 +188,8 @@ pub fn world_of(
     put_facts(alloc, &mut w, &made)?;
     for k in 0..made.uses.len() {
         if let Some(name) = made.uses.at(k.saturating_add(1)) {
-            put_artifact(alloc, &mut w, name)?;
+            put_artifact(alloc, &mut w, &made.hidden, name)?;
         }
     }
-    hide(alloc, &mut w, &made.hidden)?;
     Ok(w)
 }

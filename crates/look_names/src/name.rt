@@ -5,7 +5,7 @@ ghost use Rattle.std.specs.List.{list_any};
 ghost use Rattle.look_names.specs.Names as spec;
 
 use asl_term::compare::same_text;
-use asl_term::copying::{copy_text, text_of};
+use asl_term::copying::copy_text;
 use asl_term::printing::write_number;
 use asl_term::sequence::{Seq, Starved};
 use asl_term::syntax::{Literal, Text};
@@ -72,18 +72,20 @@ pub fn put_name(alloc: Global, names: &mut NameSet, l: &Literal) -> Result<(), S
     names.push(name_of(alloc, l)?)
 }
 
-/// `p/1`, `~q/2`
-pub fn name_text(alloc: Global, neg: bool, functor: &Text, count: u64) -> Result<Text, Starved> {
-    let mut out = text_of(alloc, if neg { b"~".as_slice() } else { b"".as_slice() })?;
+/// Writes a name: `p/1`, `~q/2`.
+pub fn write_name(
+    alloc: Global,
+    neg: bool,
+    functor: &Text,
+    count: u64,
+    out: &mut Text,
+) -> Result<(), Starved> {
+    if neg {
+        out.push(b'~')?;
+    }
     out.append(functor.as_slice())?;
-    out.append(b"/")?;
-    write_number(alloc, count, &mut out)?;
-    Ok(out)
-}
-
-/// The text of the name of a literal.
-pub fn literal_name(alloc: Global, l: &Literal) -> Result<Text, Starved> {
-    name_text(alloc, l.neg, &l.functor, l.args.len())
+    out.push(b'/')?;
+    write_number(alloc, count, out)
 }
 
 /// Whether it is the name of a literal but for the number of arguments.

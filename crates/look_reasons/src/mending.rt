@@ -338,10 +338,10 @@ pub fn expected(alloc: Global, p: &Piece<'_>, at: usize) -> Result<Text, Starved
     let mut t = trial_at(alloc, p, at);
     let mut words = text_of(alloc, b"here may stand:")?;
     let mut count: usize = 0;
-    for (name, one, other) in KINDS {
-        if t.goes_over(one) || t.goes_over(other) {
+    for (name, one, other) in &KINDS {
+        if t.goes_over(*one) || t.goes_over(*other) {
             words.append(if count == 0 { b" " } else { b"  " })?;
-            words.append(name)?;
+            words.append(*name)?;
             count = count.saturating_add(1);
         }
     }

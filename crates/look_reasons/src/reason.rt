@@ -170,91 +170,115 @@ fn fits(a: &Around<'_>, rule: &Rule) -> bool {
     true
 }
 
-fn control_note(text: &[u8]) -> &'static [u8] {
-    match text {
-        b"if" => b"two plans for one goal: +!g : p <- .. and +!g <- ..",
-        b"for" => b".findall into a list, and a goal over the list",
-        b"while" => b"a plan that calls its goal again: +!g : p <- ..; !g. and +!g.",
-        _ => b"",
-    }
-}
-
-/// Internal actions of other programs, beside those that have words of their own.
-const ELSEWHERE: [&[u8]; 34] = [
-    b".suspend",
-    b".resume",
-    b".suspended",
-    b".current_intention",
-    b".add_plan",
-    b".remove_plan",
-    b".relevant_plans",
-    b".drop_all_desires",
-    b".drop_all_intentions",
-    b".drop_all_events",
-    b".drop_event",
-    b".fork",
-    b".include",
-    b".create_agent",
-    b".kill_agent",
-    b".puts",
-    b".printf",
-    b".log",
-    b".asserta",
-    b".assertz",
-    b".foreach",
-    b".if_then_else",
-    b".loop",
-    b".belief",
-    b".plan_label",
-    b".version",
-    b".abort",
-    b".perceive",
-    b".structure",
-    b".ground_all",
-    b".namespace",
-    b".list_plans",
-    b".list_rules",
-    b".add_nested_source",
+/// What stands in place of a word of control.
+const NO_CONTROL: [(&[u8], &[u8]); 3] = [
+    (
+        b"if",
+        b"two plans for one goal: +!g : p <- .. and +!g <- ..",
+    ),
+    (b"for", b".findall into a list, and a goal over the list"),
+    (
+        b"while",
+        b"a plan that calls its goal again: +!g : p <- ..; !g. and +!g.",
+    ),
 ];
 
-fn is_elsewhere(text: &[u8]) -> bool {
-    for name in ELSEWHERE {
-        if name == text {
-            return true;
+fn control_note(text: &[u8]) -> &'static [u8] {
+    beside(&NO_CONTROL, text)
+}
+
+/// Internal actions of other programs, each with what stands in its place.
+const ELSEWHERE: [(&[u8], &[u8]); 56] = [
+    (b".println", b"write .print: it ends its line itself"),
+    (
+        b".wait",
+        b"no clock and no waiting: a plan for the event, or a goal that calls itself",
+    ),
+    (
+        b".at",
+        b"no clock and no waiting: a plan for the event, or a goal that calls itself",
+    ),
+    (
+        b".random",
+        b"no chance and no time: a run depends on its files and its schedule alone",
+    ),
+    (
+        b".date",
+        b"no chance and no time: a run depends on its files and its schedule alone",
+    ),
+    (
+        b".time",
+        b"no chance and no time: a run depends on its files and its schedule alone",
+    ),
+    (b".sort", RULE),
+    (b".range", RULE),
+    (b".union", RULE),
+    (b".difference", RULE),
+    (b".intersection", RULE),
+    (b".delete", RULE),
+    (b".empty", RULE),
+    (b".sublist", RULE),
+    (b".shuffle", RULE),
+    (b".prefix", RULE),
+    (b".suffix", RULE),
+    (b".set", RULE),
+    (b".replace", RULE),
+    (b".substring", RULE),
+    (b".term2string", RULE),
+    (b".eval", RULE),
+    (b".suspend", NO_ACTION),
+    (b".resume", NO_ACTION),
+    (b".suspended", NO_ACTION),
+    (b".current_intention", NO_ACTION),
+    (b".add_plan", NO_ACTION),
+    (b".remove_plan", NO_ACTION),
+    (b".relevant_plans", NO_ACTION),
+    (b".drop_all_desires", NO_ACTION),
+    (b".drop_all_intentions", NO_ACTION),
+    (b".drop_all_events", NO_ACTION),
+    (b".drop_event", NO_ACTION),
+    (b".fork", NO_ACTION),
+    (b".include", NO_ACTION),
+    (b".create_agent", NO_ACTION),
+    (b".kill_agent", NO_ACTION),
+    (b".puts", NO_ACTION),
+    (b".printf", NO_ACTION),
+    (b".log", NO_ACTION),
+    (b".asserta", NO_ACTION),
+    (b".assertz", NO_ACTION),
+    (b".foreach", NO_ACTION),
+    (b".if_then_else", NO_ACTION),
+    (b".loop", NO_ACTION),
+    (b".belief", NO_ACTION),
+    (b".plan_label", NO_ACTION),
+    (b".version", NO_ACTION),
+    (b".abort", NO_ACTION),
+    (b".perceive", NO_ACTION),
+    (b".structure", NO_ACTION),
+    (b".ground_all", NO_ACTION),
+    (b".namespace", NO_ACTION),
+    (b".list_plans", NO_ACTION),
+    (b".list_rules", NO_ACTION),
+    (b".add_nested_source", NO_ACTION),
+];
+
+const RULE: &[u8] = b"not in the table of internal actions: a rule does it";
+
+const NO_ACTION: &[u8] = b"not in the table of internal actions";
+
+/// What stands beside a word in a table; nothing where it is not there.
+fn beside(table: &'static [(&'static [u8], &'static [u8])], word: &[u8]) -> &'static [u8] {
+    for (name, note) in table {
+        if *name == word {
+            return note;
         }
     }
-    false
+    b""
 }
 
 /// What stands in place of an internal action that is not there.
 fn not_here(text: &[u8]) -> &'static [u8] {
-    match text {
-        b".println" => b"write .print: it ends its line itself",
-        b".wait" | b".at" => {
-            b"no clock and no waiting: a plan for the event, or a goal that calls itself"
-        }
-        b".random" | b".date" | b".time" => {
-            b"no chance and no time: a run depends on its files and its schedule alone"
-        }
-        b".sort"
-        | b".range"
-        | b".union"
-        | b".difference"
-        | b".intersection"
-        | b".delete"
-        | b".empty"
-        | b".sublist"
-        | b".shuffle"
-        | b".prefix"
-        | b".suffix"
-        | b".set"
-        | b".replace"
-        | b".substring"
-        | b".term2string"
-        | b".eval" => { b"not in the table of internal actions: a rule does it" }
-        _ if is_elsewhere(text) => b"not in the table of internal actions",
-        _ => b"",
-    }
+    beside(&ELSEWHERE, text)
 }
 
 fn part_name(part: Part) -> &'static [u8] {
@@ -367,25 +391,20 @@ fn rule_at(a: &Around<'_>) -> &'static Rule {
     last_rule()
 }
 
-/// Whether a change is of use for a reason of this code.
-fn is_mended(code: &[u8]) -> bool {
-    !matches!(
-        code,
-        b"decimal"
-            | b"decimal-rest"
-            | b"glued-dot"
-            | b"own-inner"
-            | b"goal-term"
-            | b"control"
-            | b"directive"
-            | b"braces"
-            | b"context"
-    )
-}
+/// Reasons for which a change is of no use, and those that say nothing of the place.
+const UNMENDED: &[&[u8]] = &[
+    b"decimal",
+    b"decimal-rest",
+    b"glued-dot",
+    b"own-inner",
+    b"goal-term",
+    b"control",
+    b"directive",
+    b"braces",
+    b"context",
+];
 
-fn is_general(code: &[u8]) -> bool {
-    matches!(code, b"syntax" | b"world" | b"no-formula")
-}
+const GENERAL: &[&[u8]] = &[b"syntax", b"world", b"no-formula"];
 
 /// Puts the change with which the piece is read in place of a note that says what to write.
 fn put_fix(alloc: Global, fix: &Fix, note: Text, notes: &mut Seq<Text>) -> Result<(), Starved> {
@@ -404,13 +423,13 @@ fn put_change(
 ) -> Result<(), Starved> {
     let note = said_at(alloc, a, rule.note)?;
     if let Some(fix) = a.fix {
-        if is_mended(rule.code) {
+        if !UNMENDED.contains(&rule.code) {
             return put_fix(alloc, &fix, note, notes);
         }
         return put_note(note, notes);
     }
     put_note(note, notes)?;
-    if is_general(rule.code) {
+    if GENERAL.contains(&rule.code) {
         put_note(expected(alloc, &a.piece, a.place)?, notes)?;
     }
     Ok(())

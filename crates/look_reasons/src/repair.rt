@@ -126,24 +126,56 @@ fn own_action(marks: &[Mark<'_>], r: &Reading<'_>) -> Option<Repair> {
     }
 }
 
+/// What is done for a fault.
+#[derive(Clone, Copy)]
+enum Way {
+    Arrow,
+    Comma,
+    Label,
+    Control,
+    Own,
+    Inner,
+    Variable,
+    Relation,
+}
+
+const WAYS: [(&[u8], Way); 8] = [
+    (b"arrow", Way::Arrow),
+    (b"comma", Way::Comma),
+    (b"label", Way::Label),
+    (b"control", Way::Control),
+    (b"own-inner", Way::Own),
+    (b"no-inner", Way::Inner),
+    (b"variable", Way::Variable),
+    (b"relation", Way::Relation),
+];
+
+fn way_for(code: &[u8]) -> Option<Way> {
+    for (name, way) in &WAYS {
+        if *name == code {
+            return Some(*way);
+        }
+    }
+    None
+}
+
 /// What the fault of this code is taken for.
 fn repair_of(marks: &[Mark<'_>], r: &Reading<'_>, code: &[u8]) -> Option<Repair> {
-    match code {
-        b"arrow" => Some(instead(r.at, 1, b"<-")),
-        b"comma" => match r.halt {
+    match way_for(code)? {
+        Way::Arrow => Some(instead(r.at, 1, b"<-")),
+        Way::Comma => match r.halt {
             Some(Halt::ItemEnd) => Some(instead(r.at, 1, b";")),
             _ => Some(instead(r.at, 1, b"&")),
         },
-        b"label" => without_annotations(marks, r.at),
-        b"control" => without_control(marks, r.item?),
-        b"own-inner" => own_action(marks, r),
-        b"no-inner" => action(marks, r, 1),
-        b"variable" => match r.halt {
+        Way::Label => without_annotations(marks, r.at),
+        Way::Control => without_control(marks, r.item?),
+        Way::Own => own_action(marks, r),
+        Way::Inner => action(marks, r, 1),
+        Way::Variable => match r.halt {
             Some(Halt::Literal) => Some(instead(r.at, 1, b"p")),
             _ => None,
         },
-        b"relation" => relation(marks, r),
-        _ => None,
+        Way::Relation => relation(marks, r),
     }
 }
 
