@@ -1,1 +1,6 @@
 pub mod Verdicts
+pub mod Walking
+pub mod Reported
+pub mod Owned
+pub mod Paged
+pub mod Rowed

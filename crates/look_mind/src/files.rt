@@ -1,12 +1,14 @@
-//! A look at the run of a project.
+//! A look at the run of a project, and what changes in the minds of its agents along it.
 
 ghost use Rattle.std.specs.Prelude.{◌≡◌, ◌≤◌, MatchResult};
 ghost use Rattle.mas_report.specs.Limits.{defaults};
 ghost use Rattle.mas_top_files.specs.Known.{known};
 ghost use Rattle.mas_top_files.specs.Sources.{AreRefused};
 ghost use Rattle.mas_top_opening.specs.Opening.{objects_of};
-ghost use Rattle.look_mind.specs.Looks as spec;
+ghost use Rattle.look_mind.specs.Looks.{IsLookIn};
+ghost use Rattle.look_mind.specs.Own.{IsToldIn};
 
+use crate::changes::{MindChanges, changes_at};
 use crate::look::{Look, look_at};
 use asl_term::syntax::Text;
 use mas_io::shelf::Shelf;
@@ -33,12 +35,40 @@ pub fn look_in<S: Shelf, A: Artifact>(
     ensures answer { let held = S.holds shelf.old in
         let objects = objects_of A.named A.table A.facts artifacts.items in
         MatchResult result
-        (spec.IsLookIn objects held project.now bytes.now name.now turn)
+        (IsLookIn objects held project.now bytes.now name.now turn)
         (AreRefused (known objects) defaults.cycles held project.now (S.faults shelf.old) (S.faults shelf.new)) }
 {
     let usual = default_options();
     match read_source(alloc, usual.cycles, project, &artifacts, shelf) {
         Ok(source) => Ok(look_at(alloc, source, artifacts, bytes, name, turn)?),
+        Err(status) => {
+            drop(artifacts);
+            Err(status)
+        }
+    }
+}
+
+/// What changes along the run of the project of this word, where there are these artifacts and the bytes are the report of its run; or why a
+/// file of the project is refused.
+#[tactic(auto, using(mas_top_opening::proofs::Able::can_run, crate::proofs::Owned::told_in))]
+pub fn changes_in<S: Shelf, A: Artifact>(
+    alloc: Global,
+    artifacts: Vec<A>,
+    project: &Text,
+    bytes: &Text,
+    shelf: &mut S,
+) -> Result<Option<MindChanges>, Status>
+    ensures same { S.holds shelf.new ≡ S.holds shelf.old }
+    ensures later { S.faults shelf.old ≤ S.faults shelf.new }
+    ensures answer { let held = S.holds shelf.old in
+        let objects = objects_of A.named A.table A.facts artifacts.items in
+        MatchResult result
+        (IsToldIn objects held project.now bytes.now)
+        (AreRefused (known objects) defaults.cycles held project.now (S.faults shelf.old) (S.faults shelf.new)) }
+{
+    let usual = default_options();
+    match read_source(alloc, usual.cycles, project, &artifacts, shelf) {
+        Ok(source) => Ok(changes_at(alloc, source, artifacts, bytes)?),
         Err(status) => {
             drop(artifacts);
             Err(status)
