@@ -15,7 +15,7 @@ use Rattle.mas_top_files.specs.Sources.{HasSource}
 use Rattle.mas_top_opening.specs.Opening.{setup, opening}
 use Rattle.mas_top_check.specs.Checking.{TellsRun}
 use Rattle.mas_top_check.proofs.Verdicts.{not_own}
-use Rattle.look_again.specs.Before.{AreBefore}
+use Rattle.look_run.specs.Before.{AreBefore}
 use Rattle.look_drops.specs.declared.fallen.RunFalls.{RunFalls}
 use Rattle.look_drops.specs.Fallen.{IsFallen, IsFallenIn}
 use Rattle.look_drops.specs.Stacks.{IsTold, IsToldIn}

@@ -14,7 +14,7 @@ use Rattle.mas_top_files.specs.Known.{known}
 use Rattle.mas_top_files.specs.Sources.{HasSource}
 use Rattle.mas_top_opening.specs.Opening.{setup, opening}
 use Rattle.mas_top_check.specs.Checking.{IsAllowed}
-use Rattle.look_again.specs.Falling.{HaveFallen}
+use Rattle.look_run.specs.Falling.{HaveFallen}
 use Rattle.look_drops.specs.declared.fallen.RunFalls.{RunFalls}
 
 -- the same options, with which each row is shown

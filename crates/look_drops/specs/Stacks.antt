@@ -9,7 +9,7 @@ use Rattle.mas_top_files.specs.Known.{known}
 use Rattle.mas_top_files.specs.Sources.{HasSource}
 use Rattle.mas_top_opening.specs.Opening.{setup, opening}
 use Rattle.mas_top_check.specs.Checking.{IsOwn}
-use Rattle.look_again.specs.Before.{AreBefore}
+use Rattle.look_run.specs.Before.{AreBefore}
 use Rattle.look_drops.specs.Texts.{agent_texts}
 
 -- the bytes are the report of a run of this source, and these are the texts before the marked ones of its turns

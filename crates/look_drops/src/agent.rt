@@ -12,7 +12,7 @@ use asl_intend::agenda::{Acting, Event};
 use asl_intend::stack::Stack;
 use asl_term::sequence::{Seq, Starved};
 use asl_term::syntax::Text;
-use look_again::texts::MindTexts;
+use look_run::texts::MindTexts;
 use look_text::agendas::{put_asks, put_trigger};
 use look_text::stacks::put_stack;
 use std::alloc::Global;

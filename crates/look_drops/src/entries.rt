@@ -10,9 +10,9 @@ use crate::reasons::{StackPlace, place_of, why};
 use asl_term::printing::write_number;
 use asl_term::sequence::Starved;
 use asl_term::syntax::Text;
-use look_again::before::TextsBefore;
 use look_falls::falls::FallLine;
 use look_falls::words::words;
+use look_run::before::TextsBefore;
 use mas_report::options::Options;
 use std::alloc::Global;
 

@@ -7,14 +7,14 @@ ghost use Rattle.mas_report.specs.Limits.{IsWithin};
 ghost use Rattle.mas_top_check.specs.Checking.{IsAllowed};
 ghost use Rattle.mas_top_opening.specs.Fits.{CanRun};
 ghost use Rattle.mas_top_opening.specs.Opening.{objects_of, opening, setup};
-ghost use Rattle.look_again.specs.Falling.{HaveFallen};
+ghost use Rattle.look_run.specs.Falling.{HaveFallen};
 ghost use Rattle.look_drops.specs.Fallen as spec;
 
 use asl_exec_circumstance::shared::SharedNames;
 use asl_term::sequence::{Seq, Starved};
 use asl_term::syntax::{Numbers, Text};
-use look_again::falling::falls_after;
 use look_falls::falls::FallLines;
+use look_run::falling::falls_after;
 use mas_mind::mind::Level;
 use mas_report::options::Options;
 use mas_report::reading::Told;

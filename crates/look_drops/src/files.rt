@@ -11,7 +11,7 @@ ghost use Rattle.look_drops.specs.Stacks.{IsToldIn};
 use crate::fallen::{RunFalls, fallen_at};
 use crate::stacks::stacks_at;
 use asl_term::syntax::Text;
-use look_again::before::TextsBefore;
+use look_run::before::TextsBefore;
 use mas_io::shelf::Shelf;
 use mas_report::options::default_options;
 use mas_top_opening::reading::read_source;

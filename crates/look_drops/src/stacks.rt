@@ -7,14 +7,14 @@ ghost use Rattle.mas_report.specs.Report.{IsAnyReport};
 ghost use Rattle.mas_report_schedule.specs.Schedule.{IsVersion, printed};
 ghost use Rattle.mas_top_opening.specs.Fits.{CanRun};
 ghost use Rattle.mas_top_opening.specs.Opening.{objects_of, opening, setup};
-ghost use Rattle.look_again.specs.Before.{AreBefore};
+ghost use Rattle.look_run.specs.Before.{AreBefore};
 ghost use Rattle.look_drops.specs.Stacks as spec;
 ghost use Rattle.look_drops.specs.Texts.{agent_texts};
 
 use crate::agent::AgentTexts;
 use asl_term::sequence::Starved;
 use asl_term::syntax::Text;
-use look_again::before::{TextsBefore, texts_along};
+use look_run::before::{TextsBefore, texts_along};
 use mas_report::reading::Told;
 use mas_top_check::checking::told_in;
 use mas_top_files::sources::Source;

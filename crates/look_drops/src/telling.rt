@@ -12,10 +12,10 @@ use asl_term::names::Names;
 use asl_term::printing::write_number;
 use asl_term::sequence::{Seq, Starved};
 use asl_term::syntax::{Numbers, Text};
-use look_again::before::TextsBefore;
 use look_answer::answer::Output;
 use look_falls::falls::{FallLine, FallLines};
 use look_falls::words::words;
+use look_run::before::TextsBefore;
 use std::alloc::Global;
 
 /// Whether a failure is told, by a line with this word.

@@ -3,8 +3,8 @@ use Rattle.mas_core.specs.Platform.{opening_platform}
 use Rattle.mas_report.specs.Report.{Decided}
 use Rattle.look_run.proofs.Looking.{looks_nowhere}
 use Rattle.look_run.specs.Steps.{LeadsToReport}
-use Rattle.look_again.proofs.Reported.{are_theirs, is_foreign, is_own}
-use Rattle.look_again.proofs.before.texts_along.Goals as goal
+use Rattle.look_run.proofs.Reported.{are_theirs, is_foreign, is_own}
+use Rattle.look_run.proofs.before.texts_along.Goals as goal
 
 pub returns-in-None : goal.returns-in-None
 returns-in-None g c =

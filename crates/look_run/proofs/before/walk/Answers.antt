@@ -1,7 +1,7 @@
 use Rattle.std.proofs.Common.{◌+◌, get_or, Some, sym, subst, arith}
-use Rattle.look_again.specs.Before.{HasStepped}
-use Rattle.look_again.proofs.Walking.{Walking, all_told, begun, gone, stopped, walked}
-use Rattle.look_again.proofs.before.walk.Goals as goal
+use Rattle.look_run.specs.Before.{HasStepped}
+use Rattle.look_run.proofs.Walking.{Walking, all_told, begun, gone, stopped, walked}
+use Rattle.look_run.proofs.before.walk.Goals as goal
 
 pub loop-at-init : goal.loop-at-init
 loop-at-init g c =

@@ -6,12 +6,12 @@ ghost use Rattle.mas_core.specs.Platform.{opening_platform, run, turn};
 ghost use Rattle.mas_report.specs.Report.{IsAnyReport};
 ghost use Rattle.mas_report_schedule.specs.Schedule.{IsVersion, printed};
 ghost use Rattle.look_run.specs.Steps.{HasGone};
-ghost use Rattle.look_again.specs.Before as spec;
+ghost use Rattle.look_run.specs.Before as spec;
 
+use crate::steps::leads_to_report;
 use crate::texts::MindTexts;
 use asl_term::sequence::{Seq, Starved};
 use asl_term::syntax::{Numbers, Text};
-use look_run::steps::leads_to_report;
 use mas_board::board::Board;
 use mas_core::play::Play;
 use mas_mind::thinking::Mind;

@@ -8,7 +8,7 @@ use Rattle.mas_report.specs.Report.{IsAnyReport}
 use Rattle.mas_report_schedule.specs.Schedule.{printed}
 use Rattle.look_run.specs.Steps.{HasGone, LeadsToReport}
 use Rattle.look_run.proofs.Looking.{not_own, own}
-use Rattle.look_again.specs.Before.{AreBefore}
+use Rattle.look_run.specs.Before.{AreBefore}
 
 module _ {V : Type 0} (k : Kind V) (version : ℕ) (o : Options) (bytes turns front rest : List ℕ) (t : ℕ) (f : front ≡ take t turns) (r : rest ≡ drop t turns)
     (n : printed bytes ≡ turns) (p : Platform V) (first here : Played V) (e : first.platform ≡ p) (opens : first.schedule ≡ [])

@@ -7,7 +7,7 @@ use Rattle.mas_core.specs.Platform.{Platform, turn, run, and_run}
 use Rattle.mas_core.specs.Fits.{Played, TurnMade}
 use Rattle.mas_core.proofs.Turns.{one-turn, run-append, run-on}
 use Rattle.look_run.specs.Steps.{HasGone}
-use Rattle.look_again.specs.Before.{AreBefore, HasStepped, IsBefore, is_marked, texts_if}
+use Rattle.look_run.specs.Before.{AreBefore, HasStepped, IsBefore, is_marked, texts_if}
 
 -- ---- a turn
 

@@ -6,7 +6,7 @@ use Rattle.mas_core.specs.Fits.{Played}
 use Rattle.look_run.specs.Steps.{HasGone}
 use Rattle.look_falls.specs.declared.falls.FallLine.{FallLine}
 use Rattle.look_falls.specs.Falls.{falls}
-use Rattle.look_again.specs.Falling.{HaveFallen}
+use Rattle.look_run.specs.Falling.{HaveFallen}
 
 pub not_gone : {V : Type 0} (k : Kind V) (p : Platform V) (first : Played V) (turns : List ℕ) → first.platform ≡ p → run k first.platform turns ≡ None →
     run k p turns ≡ None
