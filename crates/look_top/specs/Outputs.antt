@@ -20,7 +20,7 @@ use Rattle.look_mind.specs.Own.{IsToldIn}
 use Rattle.look_mind.specs.Page.{IsPageOf}
 use Rattle.look_mind.specs.declared.changes.MindChanges.{MindChanges}
 use Rattle.look_where.specs.Showing.{IsWhere, IsUnread}
-use Rattle.look_words.specs.Asked.{Asked, Dropping, Minding, help, version, places, hints, messages, mind, page, drops}
+use Rattle.look_top.specs.Asked.{Asked, Dropping, Minding, help, version, places, hints, messages, mind, page, drops}
 use Rattle.look_top.specs.declared.ends.TheConstants.{USAGE, VERSION}
 use Rattle.look_top.specs.Reports.{HasReport, LacksReport}
 

@@ -7,11 +7,11 @@ use Rattle.clap.specs.Faults.{fault_of}
 use Rattle.clap.specs.Simple.{App, matches_of}
 use Rattle.clap.specs.ValueTests.{is_numeral}
 use Rattle.clap.specs.Walk.{Row, first_of, is_empty}
-use Rattle.look_words.specs.declared.words.LookAsked as code
-use Rattle.look_words.specs.declared.words.LookAsked.TheVariants as code_variant
-use Rattle.look_words.specs.declared.words.MindWords as code_mind
-use Rattle.look_words.specs.declared.words.DropsWords as code_drops
-use Rattle.look_words.specs.Apps.{project_app, messages_app, mind_app, page_app, drops_app}
+use Rattle.look_top.specs.declared.words.LookAsked as code
+use Rattle.look_top.specs.declared.words.LookAsked.TheVariants as code_variant
+use Rattle.look_top.specs.declared.words.MindWords as code_mind
+use Rattle.look_top.specs.declared.words.DropsWords as code_drops
+use Rattle.look_top.specs.Apps.{project_app, messages_app, mind_app, page_app, drops_app}
 
 -- what the agent of this name has in mind after so many turns of the run of a project and its report; without a number after all turns
 pub record Minding : Type 0 where

@@ -7,7 +7,7 @@ use Rattle.std.specs.Str.Parse.{AllDigits, ParsesUnsigned, digits_value, without
 use Rattle.std.proofs.lemmas.Bool.{ltb-true, lt-ltb}
 use Rattle.clap.specs.ValueTests.{is_numeral}
 use Rattle.clap.proofs.WalkLemmas.{both}
-use Rattle.look_words.specs.Asked.{number_in}
+use Rattle.look_top.specs.Asked.{number_in}
 
 digits_pass : (ds : List ℕ) → AllDigits 10 ds → list_all (λ d. nat_lt (digit_value d) 10) ds ≡ true
 digits_pass [] h = refl

@@ -1,7 +1,7 @@
 //! What the text of a turn says.
 
 ghost use Rattle.std.specs.Prelude.{◌≡◌};
-ghost use Rattle.look_words.specs.Asked as spec;
+ghost use Rattle.look_top.specs.Asked as spec;
 
 /// A number below 2^64, in front of which a plus may stand.
 #[tactic(auto, using(crate::proofs::Numerals::is_read, crate::proofs::Numerals::is_unread))]

@@ -6,7 +6,7 @@ ghost use Rattle.clap.specs.Faults.{is_simple_and_free};
 ghost use Rattle.clap.specs.Matches.{found_of};
 ghost use Rattle.clap.specs.Simple.{app_of};
 ghost use Rattle.clap.specs.Walk.{first_of, rows_of};
-ghost use Rattle.look_words.specs.Asked as spec;
+ghost use Rattle.look_top.specs.Asked as spec;
 
 use crate::apps::{drops_app, messages_app, mind_app, page_app, project_app};
 use crate::turns::turn_in;

@@ -1,7 +1,7 @@
 use Rattle.std.proofs.Common.{map, string_bytes, ◌∙◌}
 use Rattle.clap.specs.Simple.{app_of}
-use Rattle.look_words.proofs.Claps.{taken, refused}
-use Rattle.look_words.proofs.taken.matches_of.Goals as goal
+use Rattle.look_top.proofs.Claps.{taken, refused}
+use Rattle.look_top.proofs.taken.matches_of.Goals as goal
 
 pub returns-in-Ok : goal.returns-in-Ok
 returns-in-Ok c =

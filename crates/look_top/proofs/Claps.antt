@@ -11,8 +11,8 @@ use Rattle.clap.specs.declared.error.Error.{Error}
 use Rattle.clap.specs.declared.error.kind.ErrorKind.{ErrorKind}
 use Rattle.clap.specs.declared.error.kind.ErrorKind.TheVariants.{OutOfMemory}
 use Rattle.clap.specs.declared.parser.matches.ArgMatches.{ArgMatches}
-use Rattle.look_words.specs.Apps.{project_app, messages_app, mind_app, page_app, drops_app}
-use Rattle.look_words.specs.Asked.{rows_by}
+use Rattle.look_top.specs.Apps.{project_app, messages_app, mind_app, page_app, drops_app}
+use Rattle.look_top.specs.Asked.{rows_by}
 
 -- ---- the commands are simple
 

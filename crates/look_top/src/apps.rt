@@ -2,7 +2,7 @@
 
 ghost use Rattle.std.specs.Prelude.{◌≡◌, codes, IfOk};
 ghost use Rattle.clap.specs.Simple.{app_of, with_rule};
-ghost use Rattle.look_words.specs.Apps as spec;
+ghost use Rattle.look_top.specs.Apps as spec;
 
 use clap::{Arg, ArgAction, Command};
 use std::alloc::{AllocError, Global};

@@ -1,7 +1,7 @@
 //! Whether standard input is asked for.
 
 ghost use Rattle.std.specs.Prelude.{◌≡◌, map, string_bytes, option_map, IfOk};
-ghost use Rattle.look_words.specs.Asked as spec;
+ghost use Rattle.look_top.specs.Asked as spec;
 
 use crate::taken::asked_of;
 use crate::words::LookAsked;
