@@ -1,27 +1,15 @@
 -- A run along numbers, and what each of its turns changes.
-use Rattle.std.proofs.Common.{ℕ, ◌≡◌, ◌≤◌, ◌+◌, ◌<◌, arith, Bool, true, false, not, List, [], ◌∷◌, ◌++◌, length, take, drop, get_or, take-append-drop, if◌then◌else◌, Option, None, Some, refl, ap, sym, subst, ◌∙◌, append_assoc, append-nil, below_more}
+use Rattle.std.proofs.Common.{ℕ, ◌≡◌, ◌≤◌, ◌+◌, ◌<◌, arith, List, [], ◌∷◌, ◌++◌, length, take, drop, get_or, take-append-drop}
+use Rattle.std.proofs.Common.{None, Some, refl, ap, sym, subst, ◌∙◌, append_assoc, append-nil, below_more}
 use Rattle.std.proofs.lemmas.List.{drop_more, get_or_append_left, get_or_push, length_push, take_all, take_more}
 use Rattle.mas_mind.specs.Minds.{Kind}
 use Rattle.mas_core.specs.Platform.{Platform, turn, run, and_run}
-use Rattle.mas_core.specs.Fits.{Played, TurnMade}
+use Rattle.mas_core.specs.Fits.{Played}
 use Rattle.mas_core.proofs.Turns.{one-turn, run-append, run-on}
 use Rattle.look_run.specs.Steps.{HasGone}
 use Rattle.look_change.specs.Changes.{change}
 use Rattle.look_change.specs.declared.change.ChangedLine.{ChangedLine}
-use Rattle.look_mind.specs.Along.{AreChanges, HasStepped, IsChangeAt, parts_at}
-
--- ---- a turn
-
-pub not_made : {V : Type 0} (turned : Option (Platform V)) (old new : Played V) (a : ℕ) (made : Bool) → TurnMade turned old new a made → not made ≡ true → turned ≡ None
-not_made turned old new a false h e = h.turn
-not_made turned old new a true h e = cc
-
-pub was_made : {V : Type 0} (turned : Option (Platform V)) (old new : Played V) (a : ℕ) (made : Bool) → TurnMade turned old new a made → not made ≡ false →
-    (turned ≡ Some new.platform) × (new.schedule ≡ old.schedule ++ a ∷ [])
-was_made turned old new a true h e = (h.turn, h.schedule)
-was_made turned old new a false h e = cc
-
--- ---- many turns
+use Rattle.look_mind.specs.Along.{AreChanges, HasStepped, IsChangeAt}
 
 -- the first i numbers had their turn, and these are their changes
 pub record Walking {V : Type 0} (k : Kind V) (parts : V → List (List ℕ)) (first : Played V) (names : List ℕ) (play : Played V)
@@ -72,3 +60,9 @@ module _ {V : Type 0} (k : Kind V) (parts : V → List (List ℕ)) (first : Play
 
     pub all_told : i ≡ length names → AreChanges k parts first.platform names cs
     all_told e = record { number = h.number ∙ e; each = λ t less. h.each t (subst (λ n. t < n) (sym e) less) }
+
+-- the first of the turns of a run, over a platform that is the same
+pub are_theirs : {V : Type 0} (k : Kind V) (parts : V → List (List ℕ)) (turns front : List ℕ) (t : ℕ) (q p : Platform V) (cs : List (List ChangedLine)) →
+    front ≡ take t turns → q ≡ p → AreChanges k parts q front cs → AreChanges k parts p (take t turns) cs
+are_theirs k parts turns front t q p cs f e h =
+    subst (λ x. AreChanges k parts x (take t turns) cs) e (subst (λ names. AreChanges k parts q names cs) f h)

@@ -5,13 +5,13 @@ ghost use Rattle.look_lines.specs.Lines.{literal_line, part};
 ghost use Rattle.look_text.specs.Agendas.{acting_text, ask_text, event_text, intentions_text};
 ghost use Rattle.look_mind.specs.Parts as spec;
 
-use crate::parts::MindParts;
 use asl_cycle::agent::Agent;
 use asl_term::names::Names;
 use asl_term::sequence::{Seq, Starved};
 use asl_term::syntax::Text;
 use look_lines::lines::put_literals;
 use look_run::mind::MindText;
+use look_run::texts::MindTexts;
 use look_text::agendas::{put_acting, put_agenda, put_asks, put_events, put_running};
 use look_text::plans::{put_plans, put_rules};
 use std::alloc::Global;
@@ -114,12 +114,12 @@ fn agent_texts(alloc: Global, m: &Agent) -> Result<Seq<Text>, Starved>
 #[derive(Clone, Copy)]
 pub struct AgentParts;
 
-impl MindParts<Agent> for AgentParts {
+impl MindTexts<Agent> for AgentParts {
     ghost use Rattle.look_mind.specs.Parts.{agent_texts};
 
-    ghost parts = { agent_texts };
+    ghost texts = { agent_texts };
 
-    fn parts_of(&self, alloc: Global, m: &Agent) -> Result<Seq<Text>, Starved> {
+    fn texts_of(&self, alloc: Global, m: &Agent) -> Result<Seq<Text>, Starved> {
         agent_texts(alloc, m)
     }
 }

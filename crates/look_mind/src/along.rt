@@ -9,11 +9,12 @@ ghost use Rattle.look_run.specs.Steps.{HasGone};
 ghost use Rattle.look_change.specs.Changes.{change};
 ghost use Rattle.look_mind.specs.Along as spec;
 
-use crate::parts::MindParts;
 use asl_term::sequence::{Seq, Starved};
 use asl_term::syntax::{Numbers, Text};
 use look_change::change::{ChangedLine, change};
+use look_run::before::texts_at;
 use look_run::steps::leads_to_report;
+use look_run::texts::MindTexts;
 use mas_board::board::Board;
 use mas_core::play::Play;
 use mas_mind::thinking::Mind;
@@ -31,47 +32,28 @@ pub struct Walked<M: Mind, A: Artifact> {
 }
 
 /// A play after a turn, where there was one, and its change.
-#[derive(Drop)]
 struct Stepped<M: Mind, A: Artifact> {
     play: Play<M, A>,
     change: Option<Change>,
 }
 
-/// The texts of the parts of the mind of the agent of this number; none where there is no such mind.
-fn parts_at<M: Mind, A: Artifact, W: MindParts<M>>(
-    alloc: Global,
-    writer: &W,
-    play: &Play<M, A>,
-    a: u64,
-) -> Result<Seq<Text>, Starved>
-    ensures { IfOk result (λ texts. texts ≡ spec.parts_at W.parts play.now.platform a) }
-{
-    if a == 0 || a > play.agents() as u64 {
-        return Ok(Seq::new(alloc));
-    }
-    match play.mind(a as u32) {
-        Some(m) => writer.parts_of(alloc, m),
-        None => Ok(Seq::new(alloc)),
-    }
-}
-
 /// A turn of the agent of this number, and what it changes in the agent's mind.
-#[tactic(auto, using(crate::proofs::Walking::not_made, crate::proofs::Walking::was_made))]
-fn step<M: Mind, A: Artifact, W: MindParts<M>>(
+#[tactic(auto, using(look_run::proofs::Walking::not_made, look_run::proofs::Walking::was_made))]
+fn step<M: Mind, A: Artifact, W: MindTexts<M>>(
     alloc: Global,
     writer: &W,
     play: Play<M, A>,
     a: u64,
 ) -> Result<Stepped<M, A>, Starved>
-    ensures { IfOk result (λ s. spec.HasStepped M.kind W.parts play a s.play s.change) }
+    ensures { IfOk result (λ s. spec.HasStepped M.kind W.texts play a s.play s.change) }
 {
-    let befores = parts_at(alloc, writer, &play, a)?;
+    let befores = texts_at(alloc, writer, &play, a)?;
     let turned = play.turn(alloc, a)?;
     let play = turned.play;
     if !turned.made {
         return Ok(Stepped { play, change: None });
     }
-    let afters = parts_at(alloc, writer, &play, a)?;
+    let afters = texts_at(alloc, writer, &play, a)?;
     let lines = change(alloc, befores.as_slice(), afters.as_slice())?;
     Ok(Stepped {
         play,
@@ -80,7 +62,7 @@ fn step<M: Mind, A: Artifact, W: MindParts<M>>(
 }
 
 /// The play after a turn for each number, and what these change; none where one of them has no turn.
-fn walk<M: Mind, A: Artifact, W: MindParts<M>>(
+fn walk<M: Mind, A: Artifact, W: MindTexts<M>>(
     alloc: Global,
     writer: &W,
     play: Play<M, A>,
@@ -88,14 +70,17 @@ fn walk<M: Mind, A: Artifact, W: MindParts<M>>(
 ) -> Result<Option<Walked<M, A>>, Starved>
     ensures { let p = play.platform in
         IfOk result (λ r. MatchOption r (run M.kind p names.now ≡ None)
-        (λ w. HasGone M.kind play names.now w.play × spec.AreChanges M.kind W.parts p names.now w.changes)) }
+        (λ w. HasGone M.kind play names.now w.play × spec.AreChanges M.kind W.texts p names.now w.changes)) }
 {
     let mut play = play;
     let mut changes = Seq::new(alloc);
     for a in names {
         let stepped = step(alloc, writer, play, *a)?;
-        play = stepped.play;
-        let told = stepped.change;
+        let Stepped {
+            play: after,
+            change: told,
+        } = stepped;
+        play = after;
         match told {
             Some(lines) => changes.push(lines)?,
             None => {
@@ -109,7 +94,7 @@ fn walk<M: Mind, A: Artifact, W: MindParts<M>>(
 
 /// What the first `t` turns of the run of these minds over this board change, where its report, of this version, is these bytes; none where
 /// it is not.
-pub fn changes_along<M: Mind, A: Artifact, W: MindParts<M>>(
+pub fn changes_along<M: Mind, A: Artifact, W: MindTexts<M>>(
     alloc: Global,
     writer: &W,
     version: u32,
@@ -126,7 +111,7 @@ pub fn changes_along<M: Mind, A: Artifact, W: MindParts<M>>(
     requires within { t ≤ length turns.now }
     ensures { let p = opening_platform board.state minds in
         IfOk result (λ r. MatchOption r (IsAnyReport M.kind version o.now p bytes.now → ⊥)
-        (λ cs. IsAnyReport M.kind version o.now p bytes.now × spec.AreChanges M.kind W.parts p (take t turns.now) cs)) }
+        (λ cs. IsAnyReport M.kind version o.now p bytes.now × spec.AreChanges M.kind W.texts p (take t turns.now) cs)) }
 {
     let play = Play::open(alloc, board, minds)?;
     let (front, rest) = turns.as_slice().split_at(t as usize);

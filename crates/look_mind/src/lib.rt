@@ -13,4 +13,3 @@ pub mod files;
 pub mod html;
 pub mod lines;
 pub mod look;
-pub mod parts;

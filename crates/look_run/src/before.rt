@@ -29,7 +29,6 @@ pub struct Walked<M: Mind, A: Artifact> {
 }
 
 /// A play after a turn, where there was one, and its texts.
-#[derive(Drop)]
 struct Stepped<M: Mind, A: Artifact> {
     play: Play<M, A>,
     texts: Option<Seq<Text>>,
@@ -46,7 +45,7 @@ fn is_marked(marks: &[bool], at: usize) -> bool
 }
 
 /// The texts of the mind of the agent of this number; none where there is no such mind.
-fn texts_at<M: Mind, A: Artifact, W: MindTexts<M>>(
+pub fn texts_at<M: Mind, A: Artifact, W: MindTexts<M>>(
     alloc: Global,
     writer: &W,
     play: &Play<M, A>,
@@ -119,8 +118,11 @@ fn walk<M: Mind, A: Artifact, W: MindTexts<M>>(
     let mut texts = Seq::new(alloc);
     for at in 0..names.len() {
         let stepped = step(alloc, writer, play, names[at], is_marked(marks, at))?;
-        play = stepped.play;
-        let told = stepped.texts;
+        let Stepped {
+            play: after,
+            texts: told,
+        } = stepped;
+        play = after;
         match told {
             Some(told) => texts.push(told)?,
             None => {

@@ -3,7 +3,8 @@ use Rattle.mas_core.specs.Platform.{opening_platform}
 use Rattle.mas_report.specs.Report.{Decided}
 use Rattle.look_run.proofs.Looking.{looks_nowhere}
 use Rattle.look_run.specs.Steps.{LeadsToReport}
-use Rattle.look_mind.proofs.Reported.{are_theirs, is_foreign, is_own}
+use Rattle.look_run.proofs.Reported.{is_foreign, is_own}
+use Rattle.look_mind.proofs.Walking.{are_theirs}
 use Rattle.look_mind.proofs.along.changes_along.Goals as goal
 
 pub returns-in-None : goal.returns-in-None
@@ -32,8 +33,7 @@ returns-then-leads g c =
     let leads = subst (Decided (LeadsToReport k a.version a.o.now a.bytes.now here rest)) c.if-leads.true c.in_ok-leads.ensures in (
       is_own k a.version a.o.now a.bytes.now a.turns.now front rest a.t f r c.requires.last p first here c.in_ok-play.ensures.platform
           c.in_ok-play.ensures.schedule seen.0 leads,
-      are_theirs k a.version a.o.now a.bytes.now a.turns.now front rest a.t f r c.requires.last p first here c.in_ok-play.ensures.platform
-          c.in_ok-play.ensures.schedule seen.0 g.W.MindParts.parts c.in-Some.walked.changes seen.1,
+      are_theirs k g.W.MindTexts.texts a.turns.now front a.t first.platform p c.in-Some.walked.changes f c.in_ok-play.ensures.platform seen.1,
     )
 
 pub returns : goal.returns

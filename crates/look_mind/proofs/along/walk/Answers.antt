@@ -6,12 +6,12 @@ pub loop-a-init : goal.loop-a-init
 loop-a-init g c =
     let first = c.args.play in
     let names = c.args.names.now in
-    subst (λ cs. Walking g.M.Mind.kind g.W.MindParts.parts first names first cs 0) (sym c.new-changes.ensures) (begun g.M.Mind.kind g.W.MindParts.parts first names)
+    subst (λ cs. Walking g.M.Mind.kind g.W.MindTexts.texts first names first cs 0) (sym c.new-changes.ensures) (begun g.M.Mind.kind g.W.MindTexts.texts first names)
 
 pub loop-a-preserved : goal.loop-a-preserved
 loop-a-preserved g c =
     let k = g.M.Mind.kind in
-    let parts = g.W.MindParts.parts in
+    let parts = g.W.MindTexts.texts in
     let first = c.args.play in
     let names = c.args.names.now in
     let here = c.loop-a in
@@ -23,14 +23,14 @@ loop-a-preserved g c =
 pub returns-in-None : goal.returns-in-None
 returns-in-None g c =
     let here = c.loop-a in
-    stopped g.M.Mind.kind g.W.MindParts.parts c.args.play c.args.names.now here.play here.changes here.a-index here.invariant c.loop-a-test.true
+    stopped g.M.Mind.kind g.W.MindTexts.texts c.args.play c.args.names.now here.play here.changes here.a-index here.invariant c.loop-a-test.true
     (rw c.in-None.is at c.in_ok-stepped.ensures)
 
 pub returns : goal.returns
 returns g c =
     let here = c.loop-a in
     let k = g.M.Mind.kind in
-    let parts = g.W.MindParts.parts in (
+    let parts = g.W.MindTexts.texts in (
       gone k parts c.args.play c.args.names.now here.play here.changes here.a-index here.invariant c.loop-a-test.false,
       all_told k parts c.args.play c.args.names.now here.play here.changes here.a-index here.invariant (omega arith),
     )
