@@ -3,3 +3,8 @@ pub mod Walking
 pub mod Owned
 pub mod Paged
 pub mod Rowed
+pub mod Loud
+pub mod Stacked
+pub mod Counted
+pub mod Marking
+pub mod Told

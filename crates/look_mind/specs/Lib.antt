@@ -4,3 +4,10 @@ pub mod Along
 pub mod Own
 pub mod Rows
 pub mod Page
+pub mod Texts
+pub mod Fallen
+pub mod Stacks
+pub mod Reasons
+pub mod Marks
+pub mod Entries
+pub mod Drops

@@ -89,7 +89,7 @@ fn waiting_text(alloc: Global, m: &Agent) -> Result<Text, Starved>
     Ok(out)
 }
 
-fn asks_text(alloc: Global, m: &Agent) -> Result<Text, Starved>
+pub fn asks_text(alloc: Global, m: &Agent) -> Result<Text, Starved>
     ensures { IfOk result (λ t. t ≡ part (codes "asks") ask_text m.now.parts.agenda.asks) }
 {
     let mut out = Seq::new(alloc);

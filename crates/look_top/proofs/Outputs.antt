@@ -14,7 +14,7 @@ use Rattle.look_answer.specs.declared.answer.LookFault.TheVariants.{Ended, Unfit
 use Rattle.look_answer.specs.declared.answer.Output.{Output}
 use Rattle.look_answer.specs.Answers.{IsUnfit}
 use Rattle.look_messages.specs.Runs.{TellsRun}
-use Rattle.look_drops.specs.Drops.{IsDroppedIn, AreRefusedIn}
+use Rattle.look_mind.specs.Drops.{IsDroppedIn, AreRefusedIn}
 use Rattle.look_mind.specs.Looks.{IsLookIn}
 use Rattle.look_mind.specs.declared.look.Look.{Look}
 use Rattle.look_mind.specs.declared.look.Look.TheVariants.{Shown}
