@@ -8,9 +8,9 @@
 
 use asl_term::sequence::Starved;
 use look_top::ends::{LookEnd, end_code, end_line, starved, unread};
+use look_top::input::reads_input;
 use look_top::reports::MOST_INPUT_BYTES;
 use look_top::top::look_words;
-use look_words::input::reads_input;
 use mas_artifact::opening::all_kinds;
 use mas_io::real::{FileShelf, OutSink};
 use std::io::Read;

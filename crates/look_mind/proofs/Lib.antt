@@ -1,1 +1,10 @@
 pub mod Verdicts
+pub mod Walking
+pub mod Owned
+pub mod Paged
+pub mod Rowed
+pub mod Loud
+pub mod Stacked
+pub mod Counted
+pub mod Marking
+pub mod Told

@@ -1,2 +1,13 @@
 pub mod Parts
 pub mod Looks
+pub mod Along
+pub mod Own
+pub mod Rows
+pub mod Page
+pub mod Texts
+pub mod Fallen
+pub mod Stacks
+pub mod Reasons
+pub mod Marks
+pub mod Entries
+pub mod Drops

@@ -7,7 +7,7 @@ use Rattle.mas_world.specs.Worlds.{Used}
 use Rattle.look_answer.specs.declared.answer.LookFault.{LookFault}
 use Rattle.look_answer.specs.declared.answer.LookFault.TheVariants.{Ended}
 use Rattle.look_answer.specs.declared.answer.Output.{Output}
-use Rattle.look_words.specs.Asked.{Asked}
+use Rattle.look_top.specs.Asked.{Asked}
 use Rattle.look_top.specs.declared.ends.LookEnd.{LookEnd}
 use Rattle.look_top.specs.declared.ends.LookEnd.TheVariants.{Written, Refused, Cut, Usage}
 use Rattle.look_top.specs.Ends.{Caused, AskedCaused, WroteOutput}

@@ -1,3 +1,6 @@
 pub mod Caused
 pub mod Inputs
 pub mod Outputs
+pub mod Claps
+pub mod Texts
+pub mod Numerals

@@ -10,7 +10,7 @@ use Rattle.look_answer.specs.declared.answer.LookFault.{LookFault}
 use Rattle.look_answer.specs.declared.answer.LookFault.TheVariants.{Ended, Unfit}
 use Rattle.look_answer.specs.declared.answer.Output.{Output}
 use Rattle.look_answer.specs.Answers.{found_code, fault_code}
-use Rattle.look_words.specs.Asked.{Asked, asked}
+use Rattle.look_top.specs.Asked.{Asked, asked}
 use Rattle.look_top.specs.declared.ends.LookEnd.{LookEnd}
 use Rattle.look_top.specs.declared.ends.LookEnd.TheVariants.{Written, Refused, Cut, Usage}
 use Rattle.look_top.specs.Outputs.{IsOutput, Lacks}

@@ -1,3 +1,5 @@
 pub mod Reports
 pub mod Outputs
 pub mod Ends
+pub mod Apps
+pub mod Asked

@@ -12,15 +12,15 @@ use Rattle.look_answer.specs.declared.answer.LookFault.TheVariants.{Ended, Unfit
 use Rattle.look_answer.specs.declared.answer.Output.{Output}
 use Rattle.look_answer.specs.Answers.{IsUnfit}
 use Rattle.look_messages.specs.Runs.{TellsRun}
-use Rattle.look_drops.specs.Drops.{IsDroppedIn}
+use Rattle.look_mind.specs.Drops.{IsDroppedIn}
 use Rattle.look_mind.specs.Looks.{IsLookIn}
 use Rattle.look_mind.specs.declared.look.Look.{Look}
 use Rattle.look_mind.specs.declared.look.Look.TheVariants.{Shown}
-use Rattle.look_page.specs.Own.{IsToldIn}
-use Rattle.look_page.specs.Page.{IsPageOf}
-use Rattle.look_page.specs.declared.looking.MindChanges.{MindChanges}
+use Rattle.look_mind.specs.Own.{IsToldIn}
+use Rattle.look_mind.specs.Page.{IsPageOf}
+use Rattle.look_mind.specs.declared.changes.MindChanges.{MindChanges}
 use Rattle.look_where.specs.Showing.{IsWhere, IsUnread}
-use Rattle.look_words.specs.Asked.{Asked, Dropping, Minding, help, version, places, hints, messages, mind, page, drops}
+use Rattle.look_top.specs.Asked.{Asked, Dropping, Minding, help, version, places, hints, messages, mind, page, drops}
 use Rattle.look_top.specs.declared.ends.TheConstants.{USAGE, VERSION}
 use Rattle.look_top.specs.Reports.{HasReport, LacksReport}
 

@@ -2,17 +2,17 @@
 
 ghost use Rattle.std.specs.Prelude.{◌≡◌, ◌≤◌, option_map, MatchResult};
 ghost use Rattle.mas_top_opening.specs.Opening.{objects_of};
-ghost use Rattle.look_drops.specs.Drops.{IsDroppedIn, AreRefusedIn};
-ghost use Rattle.look_words.specs.Asked as asked;
+ghost use Rattle.look_mind.specs.Drops.{IsDroppedIn, AreRefusedIn};
+ghost use Rattle.look_top.specs.Asked as asked;
 ghost use Rattle.look_top.specs.Outputs as spec;
 
 use crate::minding::foreign;
 use crate::reports::report_bytes;
+use crate::words::DropsWords;
 use asl_term::copying::text_of;
 use asl_term::syntax::Text;
 use look_answer::answer::{LookFault, Output};
-use look_drops::drops::drops;
-use look_words::words::DropsWords;
+use look_mind::drops::drops;
 use mas_io::shelf::Shelf;
 use mas_top_status::status::Status;
 use mas_world::artifact::Artifact;

@@ -3,7 +3,7 @@
 ghost use Rattle.std.specs.Prelude.{◌≡◌, ◌≤◌, Some, map, string_bytes, option_map};
 ghost use Rattle.mas_io.specs.Told.{told_of, IsKept};
 ghost use Rattle.mas_top_opening.specs.Opening.{objects_of};
-ghost use Rattle.look_words.specs.Asked.{asked_of};
+ghost use Rattle.look_top.specs.Asked.{asked_of};
 ghost use Rattle.look_top.specs.Ends as spec;
 ghost use Rattle.look_top.specs.Outputs.{Answers};
 
@@ -12,10 +12,10 @@ use crate::ends::{LookEnd, USAGE, VERSION};
 use crate::looking::{hints_output, messages_output, plain_output, print_output, where_output};
 use crate::minding::mind_output;
 use crate::paging::page_output;
+use crate::taken::asked_of;
+use crate::words::LookAsked;
 use asl_term::sequence::Starved;
 use look_answer::answer::{LookFault, Output};
-use look_words::taken::asked_of;
-use look_words::words::LookAsked;
 use mas_io::shelf::Shelf;
 use mas_io::sink::Sink;
 use mas_top_status::status::Status;

@@ -1,4 +1,4 @@
-use Rattle.look_words.specs.Asked.{dropping_of}
+use Rattle.look_top.specs.Asked.{dropping_of}
 use Rattle.look_top.proofs.Outputs.{drops_no_project, dropped_so}
 use Rattle.look_top.proofs.dropping.drops_output.Goals as goal
 

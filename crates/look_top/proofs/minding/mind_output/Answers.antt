@@ -1,4 +1,4 @@
-use Rattle.look_words.specs.Asked.{minding_of}
+use Rattle.look_top.specs.Asked.{minding_of}
 use Rattle.look_top.proofs.Outputs.{mind_no_project, seen}
 use Rattle.look_top.proofs.minding.mind_output.Goals as goal
 

@@ -1,3 +1,0 @@
-pub mod Fallen
-pub mod Walking
-pub mod Reported

@@ -1,5 +1,0 @@
-use Rattle.std.proofs.Common.{◌≡◌, [], replicate}
-use Rattle.look_drops.proofs.marks.empty_lists.Given as goal
-
-abbrev pub invariant-lists : goal.invariant-lists
-invariant-lists l = l.all ≡ replicate l.k []

@@ -1,5 +1,0 @@
-use Rattle.look_drops.proofs.Marking.{MarkingAll}
-use Rattle.look_drops.proofs.marks.mark_all.Given as goal
-
-abbrev pub invariant-falls : goal.invariant-falls
-invariant-falls l = MarkingAll l.initial.marks.items l.marks.items l.own l.falls l.fall-index

@@ -1,5 +1,0 @@
-pub mod Walking
-pub mod Reported
-pub mod Owned
-pub mod Paged
-pub mod Rowed

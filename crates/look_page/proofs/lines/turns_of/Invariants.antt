@@ -1,5 +1,0 @@
-use Rattle.look_page.specs.Rows.{HasTurns}
-use Rattle.look_page.proofs.lines.turns_of.Given as goal
-
-abbrev pub invariant-loop-at : goal.invariant-loop-at
-invariant-loop-at l = HasTurns l.turns l.name l.at l.own.items

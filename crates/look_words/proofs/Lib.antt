@@ -1,3 +1,0 @@
-pub mod Claps
-pub mod Texts
-pub mod Numerals
