@@ -1,6 +1,6 @@
 //! Lines of sources as they are shown: as UTF-8, without a control byte.
 
-use crate::bytes::line_end;
+use crate::bytes::{byte_at, line_end};
 use crate::mark::between;
 use asl_term::printing::write_number;
 use asl_term::sequence::{Seq, Starved};
@@ -32,34 +32,29 @@ fn sign_at(bytes: &[u8]) -> Option<(char, usize)> {
     None
 }
 
-fn digit(n: u8) -> u8 {
-    b"0123456789abcdef"[(n % 16) as usize]
-}
-
+/// Whether a sign is no control sign.
 fn is_shown(sign: char) -> bool {
     let n = sign as u32;
     n == 9 || (n >= 32 && !(n >= 127 && n < 160) && n != 0xfeff)
 }
 
+const DIGITS: &[u8] = b"0123456789abcdef";
+
 /// Puts the signs of bytes: a byte that is no UTF-8 as `\xNN`, a control sign as `?`.
 fn put_signs(bytes: &[u8], signs: &mut Vec<char>) -> Result<(), Starved> {
-    let mut rest = bytes;
-    for _ in 0..bytes.len() {
-        let Some((byte, after)) = rest.split_first() else {
-            return Ok(());
-        };
-        match sign_at(rest) {
-            Some((sign, len)) => {
-                signs.push(if is_shown(sign) { sign } else { '?' })?;
-                rest = between(rest, len, rest.len());
-            }
-            None => {
-                let high = digit(*byte / 16);
-                let low = digit(*byte);
-                for b in [b'\\', b'x', high, low] {
-                    signs.push(char::from(b))?;
-                }
-                rest = after;
+    let mut behind = 0;
+    for (at, byte) in bytes.iter().enumerate() {
+        if at < behind {
+            continue;
+        }
+        if let Some((sign, len)) = sign_at(between(bytes, at, bytes.len())) {
+            signs.push(if is_shown(sign) { sign } else { '?' })?;
+            behind = at.saturating_add(len);
+        } else {
+            let high = byte_at(DIGITS, (*byte / 16) as usize);
+            let low = byte_at(DIGITS, (*byte % 16) as usize);
+            for b in [b'\\', b'x', high, low] {
+                signs.push(char::from(b))?;
             }
         }
     }
@@ -89,38 +84,26 @@ pub fn shown(alloc: Global, bytes: &[u8]) -> Result<Text, Starved> {
     Ok(out)
 }
 
-/// A line without its carriage returns at the end.
-fn without_returns(line: &[u8]) -> &[u8] {
-    let mut rest = line;
-    for _ in 0..line.len() {
+/// Bytes without these at the end.
+fn without<'a>(bytes: &'a [u8], ends: &[u8]) -> &'a [u8] {
+    let mut rest = bytes;
+    for _ in bytes {
         match rest {
-            [before @ .., b'\r'] => rest = before,
+            [before @ .., last] if ends.contains(last) => rest = before,
             _ => return rest,
         }
     }
     rest
 }
 
-/// Takes away blanks at the end.
-fn trim(out: &mut Text) {
-    for _ in 0..out.len() {
-        match out.as_slice() {
-            [.., b' ' | b'\t'] => {
-                let _ = out.pop();
-            }
-            _ => return,
-        }
-    }
-}
-
 /// A number in five columns at least.
 fn put_wide(alloc: Global, n: u64, out: &mut Text) -> Result<(), Starved> {
-    let mut digits = Seq::new(alloc);
-    write_number(alloc, n, &mut digits)?;
-    for _ in digits.len()..5 {
-        out.push(b' ')?;
+    for least in [10, 100, 1000, 10000] {
+        if n < least {
+            out.push(b' ')?;
+        }
     }
-    out.append(digits.as_slice())
+    write_number(alloc, n, out)
 }
 
 /// A line in three parts: what stands before the place, what is marked, and what is behind.
@@ -147,12 +130,14 @@ fn parts_of(signs: &[char], from: usize, to: usize) -> Parts<'_> {
             behind: b"",
         };
     }
-    let (before, kept): (&'static [u8], &[char]) = if head.len() > BEFORE {
-        (b".. ", &head[head.len() - KEPT..])
+    let long = head.len() > BEFORE;
+    let kept = if long {
+        &head[head.len() - KEPT..]
     } else {
-        (b"", head)
+        head
     };
     let most = marked.len().min(MARKED);
+    let before: &'static [u8] = if long { b".. " } else { b"" };
     let wide = kept.len().saturating_add(before.len()).saturating_add(most);
     Parts {
         head: kept,
@@ -163,23 +148,17 @@ fn parts_of(signs: &[char], from: usize, to: usize) -> Parts<'_> {
     }
 }
 
-fn put_line(alloc: Global, line: u64, p: &Parts<'_>, out: &mut Text) -> Result<(), Starved> {
-    put_wide(alloc, line, out)?;
-    out.append(b" | ")?;
+/// Puts a line, and carets below what is marked.
+fn put_parts(alloc: Global, p: &Parts<'_>, out: &mut Text) -> Result<(), Starved> {
     out.append(p.before)?;
     for signs in [p.head, p.marked, p.tail] {
         put_text(alloc, signs, out)?;
     }
     out.append(p.behind)?;
-    trim(out);
-    out.push(b'\n')
-}
-
-fn put_caret(p: &Parts<'_>, out: &mut Text) -> Result<(), Starved> {
-    out.append(b"      | ")?;
-    for _ in p.before {
-        out.push(b' ')?;
-    }
+    let len = without(out.as_slice(), b" \t").len();
+    out.truncate(len as u64);
+    out.append(b"\n      | ")?;
+    out.append(if p.before.is_empty() { b"" } else { b"   " })?;
     for sign in p.head {
         out.push(if *sign == '\t' { b'\t' } else { b' ' })?;
     }
@@ -202,7 +181,7 @@ pub struct Marked {
 pub fn put_excerpt(alloc: Global, bytes: &[u8], m: Marked, out: &mut Text) -> Result<(), Starved> {
     let before = (m.column as usize).saturating_sub(1);
     let start = m.at.saturating_sub(before);
-    let line = without_returns(between(bytes, start, line_end(bytes, start)));
+    let line = without(between(bytes, start, line_end(bytes, start)), b"\r");
     let from = before.min(line.len());
     let len = m.end.saturating_sub(m.at).max(1);
     let to = from.saturating_add(len).min(line.len());
@@ -212,7 +191,7 @@ pub fn put_excerpt(alloc: Global, bytes: &[u8], m: Marked, out: &mut Text) -> Re
     put_signs(between(line, from, to), &mut signs)?;
     let last = signs.len();
     put_signs(between(line, to, line.len()), &mut signs)?;
-    let parts = parts_of(signs.as_slice(), first, last);
-    put_line(alloc, m.line, &parts, out)?;
-    put_caret(&parts, out)
+    put_wide(alloc, m.line, out)?;
+    out.append(b" | ")?;
+    put_parts(alloc, &parts_of(signs.as_slice(), first, last), out)
 }
