@@ -172,14 +172,6 @@ enum Fill {
     Blank,
 }
 
-fn filled(fill: Fill, byte: u8, is_edge: bool) -> u8 {
-    match fill {
-        Fill::Byte(b) => b,
-        Fill::String => if is_edge { b'"' } else { b'x' },
-        Fill::Blank => if byte == b'\n' { b'\n' } else { b' ' },
-    }
-}
-
 /// What bytes outside strings are taken for, and whether that is meant.
 fn meant(raw: &[u8], behind: u8) -> (Fill, bool) {
     let first = byte_at(raw, 0);
@@ -249,9 +241,14 @@ fn patched(alloc: Global, bytes: &[u8], fault: Spoilt, fill: Fill) -> Result<Tex
     let mut text = Seq::new(alloc);
     let last = fault.end.saturating_sub(1);
     for (at, b) in bytes.iter().enumerate() {
-        let out = at < fault.at || at > last;
         let edge = at == fault.at || at == last;
-        text.push(if out { *b } else { filled(fill, *b, edge) })?;
+        let filled = match fill {
+            Fill::Byte(b) => b,
+            Fill::String => if edge { b'"' } else { b'x' },
+            Fill::Blank => if *b == b'\n' { b'\n' } else { b' ' },
+        };
+        let within = fault.at <= at && at <= last;
+        text.push(if within { filled } else { *b })?;
     }
     Ok(text)
 }

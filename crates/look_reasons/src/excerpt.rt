@@ -40,14 +40,24 @@ fn is_shown(sign: char) -> bool {
 
 const DIGITS: &[u8] = b"0123456789abcdef";
 
-/// Puts the signs of bytes: a byte that is no UTF-8 as `\xNN`, a control sign as `?`.
-fn put_signs(bytes: &[u8], signs: &mut Vec<char>) -> Result<(), Starved> {
+/// Puts the signs of a line: a byte that is no UTF-8 as `\xNN`, a control sign as `?`. Gives how many of them stand before one place of the line
+/// and before another; no sign goes over these.
+fn put_signs(
+    line: &[u8],
+    from: usize,
+    to: usize,
+    signs: &mut Vec<char>,
+) -> Result<(usize, usize), Starved> {
+    let mut first = 0;
+    let mut last = 0;
     let mut behind = 0;
-    for (at, byte) in bytes.iter().enumerate() {
+    for (at, byte) in line.iter().enumerate() {
         if at < behind {
             continue;
         }
-        if let Some((sign, len)) = sign_at(between(bytes, at, bytes.len())) {
+        let within = if at < to { to } else { line.len() };
+        let end = if at < from { from } else { within };
+        if let Some((sign, len)) = sign_at(between(line, at, end)) {
             signs.push(if is_shown(sign) { sign } else { '?' })?;
             behind = at.saturating_add(len);
         } else {
@@ -57,8 +67,10 @@ fn put_signs(bytes: &[u8], signs: &mut Vec<char>) -> Result<(), Starved> {
                 signs.push(char::from(b))?;
             }
         }
+        first = if at < from { signs.len() } else { first };
+        last = if at < to { signs.len() } else { last };
     }
-    Ok(())
+    Ok((first, last))
 }
 
 /// Puts signs as UTF-8.
@@ -73,7 +85,7 @@ fn put_text(alloc: Global, signs: &[char], out: &mut Text) -> Result<(), Starved
 /// Puts bytes of a source as they are shown.
 pub fn put_shown(alloc: Global, bytes: &[u8], out: &mut Text) -> Result<(), Starved> {
     let mut signs = Vec::new(alloc);
-    put_signs(bytes, &mut signs)?;
+    put_signs(bytes, 0, 0, &mut signs)?;
     put_text(alloc, signs.as_slice(), out)
 }
 
@@ -96,73 +108,58 @@ fn without<'a>(bytes: &'a [u8], ends: &[u8]) -> &'a [u8] {
     rest
 }
 
-/// A number in five columns at least.
+/// A number in five columns at least, and what stands between it and the line.
 fn put_wide(alloc: Global, n: u64, out: &mut Text) -> Result<(), Starved> {
     for least in [10, 100, 1000, 10000] {
         if n < least {
             out.push(b' ')?;
         }
     }
-    write_number(alloc, n, out)
+    write_number(alloc, n, out)?;
+    out.append(b" | ")
 }
 
-/// A line in three parts: what stands before the place, what is marked, and what is behind.
-#[derive(Clone, Copy)]
-struct Parts<'a> {
-    head: &'a [char],
-    marked: &'a [char],
-    tail: &'a [char],
-    /// What stands for what is left out before the head, and behind the tail.
-    before: &'static [u8],
-    behind: &'static [u8],
-}
-
-/// The parts of a line of which the signs from one place to another are marked, of a long line shortened.
-fn parts_of(signs: &[char], from: usize, to: usize) -> Parts<'_> {
+/// The parts of a line of which the signs from one place to another are marked: what stands for what is left out of a long line, what stands before
+/// the place, what is marked, what is behind, and what stands for what is left out there.
+fn parts_of(signs: &[char], from: usize, to: usize) -> [&[char]; 5] {
     let (front, tail) = signs.split_at(to.min(signs.len()));
     let (head, marked) = front.split_at(from.min(front.len()));
     if signs.len() <= WIDE {
-        return Parts {
-            head,
-            marked,
-            tail,
-            before: b"",
-            behind: b"",
-        };
+        return [&[], head, marked, tail, &[]];
     }
-    let long = head.len() > BEFORE;
-    let kept = if long {
-        &head[head.len() - KEPT..]
-    } else {
-        head
-    };
+    let mut kept = head;
+    let mut before: &[char] = &[];
+    if head.len() > BEFORE {
+        kept = &head[head.len() - KEPT..];
+        before = &['.', '.', ' '];
+    }
     let most = marked.len().min(MARKED);
-    let before: &'static [u8] = if long { b".. " } else { b"" };
     let wide = kept.len().saturating_add(before.len()).saturating_add(most);
-    Parts {
-        head: kept,
-        marked: &marked[..most],
-        tail: &tail[..tail.len().min(WIDE.saturating_sub(wide))],
+    let rest = tail.len().min(WIDE.saturating_sub(wide));
+    [
         before,
-        behind: b" ..",
-    }
+        kept,
+        &marked[..most],
+        &tail[..rest],
+        &[' ', '.', '.'],
+    ]
 }
 
-/// Puts a line, and carets below what is marked.
-fn put_parts(alloc: Global, p: &Parts<'_>, out: &mut Text) -> Result<(), Starved> {
-    out.append(p.before)?;
-    for signs in [p.head, p.marked, p.tail] {
-        put_text(alloc, signs, out)?;
+/// Puts the parts of a line, and carets below what is marked.
+fn put_parts(alloc: Global, parts: [&[char]; 5], out: &mut Text) -> Result<(), Starved> {
+    for part in parts {
+        put_text(alloc, part, out)?;
     }
-    out.append(p.behind)?;
     let len = without(out.as_slice(), b" \t").len();
     out.truncate(len as u64);
     out.append(b"\n      | ")?;
-    out.append(if p.before.is_empty() { b"" } else { b"   " })?;
-    for sign in p.head {
-        out.push(if *sign == '\t' { b'\t' } else { b' ' })?;
+    let [before, head, marked, _, _] = parts;
+    for part in [before, head] {
+        for sign in part {
+            out.push(if *sign == '\t' { b'\t' } else { b' ' })?;
+        }
     }
-    for _ in 0..p.marked.len().max(1) {
+    for _ in 0..marked.len().max(1) {
         out.push(b'^')?;
     }
     out.push(b'\n')
@@ -186,12 +183,7 @@ pub fn put_excerpt(alloc: Global, bytes: &[u8], m: Marked, out: &mut Text) -> Re
     let len = m.end.saturating_sub(m.at).max(1);
     let to = from.saturating_add(len).min(line.len());
     let mut signs = Vec::new(alloc);
-    put_signs(between(line, 0, from), &mut signs)?;
-    let first = signs.len();
-    put_signs(between(line, from, to), &mut signs)?;
-    let last = signs.len();
-    put_signs(between(line, to, line.len()), &mut signs)?;
+    let (first, last) = put_signs(line, from, to, &mut signs)?;
     put_wide(alloc, m.line, out)?;
-    out.append(b" | ")?;
-    put_parts(alloc, &parts_of(signs.as_slice(), first, last), out)
+    put_parts(alloc, parts_of(signs.as_slice(), first, last), out)
 }

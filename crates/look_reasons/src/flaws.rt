@@ -290,19 +290,38 @@ fn too_deep<'a>(marks: &[Mark<'a>]) -> Option<Mark<'a>> {
 
 /// Which limit a piece passes.
 pub fn limit_reason(alloc: Global, p: &Piece<'_>) -> Result<Reason, Starved> {
-    if let Some(m) = too_deep(p.marks) {
-        let words = [Phrase::Words(b"more than 250 brackets are open here")];
-        return reason_of(alloc, (m.at, m.end), b"limit", &words, &[]);
-    }
-    let span = match p.marks.first() {
-        Some(m) => (m.at, m.end),
-        None => (0, 1),
+    let (span, words, note): (_, &[u8], &[u8]) = match (too_deep(p.marks), p.marks.first()) {
+        (Some(m), _) => ((m.at, m.end), b"more than 250 brackets are open here", b""),
+        (None, Some(m)) => ((m.at, m.end), TOO_LARGE, BREAK_UP),
+        (None, None) => ((0, 1), TOO_LARGE, BREAK_UP),
     };
-    let words = [Phrase::Words(
-        b"a term or formula of this clause has more than 10,000 nodes or 250 levels",
-    )];
-    let note = [Phrase::Words(b"break it up into rules")];
-    reason_of(alloc, span, b"limit", &words, &note)
+    reason_of(
+        alloc,
+        span,
+        b"limit",
+        &[Phrase::Words(words)],
+        &[Phrase::Words(note)],
+    )
+}
+
+const TOO_LARGE: &[u8] =
+    b"a term or formula of this clause has more than 10,000 nodes or 250 levels";
+
+const BREAK_UP: &[u8] = b"break it up into rules";
+
+/// A reason that names a token behind some words.
+fn reason_naming(
+    alloc: Global,
+    m: &Mark<'_>,
+    code: &'static [u8],
+    words: &[u8],
+    note: &[Phrase<'_>],
+) -> Result<Option<Reason>, Starved> {
+    let words = [Phrase::Words(words), Phrase::Words(m.text)];
+    match reason_of(alloc, (m.at, m.end), code, &words, note) {
+        Ok(r) => Ok(Some(r)),
+        Err(_) => Err(Starved),
+    }
 }
 
 /// Why a piece is refused that uses an artifact which is not there, where these are.
@@ -311,22 +330,17 @@ pub fn artifact_reason(
     p: &Piece<'_>,
     known: &[u8],
 ) -> Result<Option<Reason>, Starved> {
-    let Some(m) = p.marks.get(1) else {
-        return Ok(None);
-    };
-    let note = [Phrase::Words(b"there are:"), Phrase::Words(known)];
-    let words = [Phrase::Words(b"no artifact "), Phrase::Words(m.text)];
-    let span = (m.at, m.end);
-    Ok(Some(reason_of(alloc, span, b"artifact", &words, &note)?))
+    match p.marks.get(1) {
+        Some(m) => {
+            let note = [Phrase::Words(b"there are:"), Phrase::Words(known)];
+            reason_naming(alloc, m, b"artifact", b"no artifact ", &note)
+        }
+        None => Ok(None),
+    }
 }
 
 const UNBOUND: &[u8] =
     b"a variable of an effect stands in the act, behind by, or in a literal of the guard without not";
-
-fn is_named(m: &Mark<'_>, name: &[u8]) -> bool {
-    let unnamed = m.text == b"_".as_slice() && name.starts_with(b"_ ");
-    matches!(m.word, Word::Var) && (unnamed || m.text == name)
-}
 
 /// Why a piece is refused of which an effect has a variable of this name that nothing binds.
 pub fn unbound_reason(
@@ -341,11 +355,10 @@ pub fn unbound_reason(
     }
     let from = r.arrow.min(p.marks.len());
     for m in &p.marks[from..] {
-        if is_named(m, name) {
+        let unnamed = m.text == b"_".as_slice() && name.starts_with(b"_ ");
+        if matches!(m.word, Word::Var) && (unnamed || m.text == name) {
             let note = [Phrase::Words(UNBOUND)];
-            let words = [Phrase::Words(b"nothing binds "), Phrase::Words(m.text)];
-            let span = (m.at, m.end);
-            return Ok(Some(reason_of(alloc, span, b"unbound", &words, &note)?));
+            return reason_naming(alloc, m, b"unbound", b"nothing binds ", &note);
         }
     }
     Ok(None)

@@ -27,23 +27,6 @@ pub fn between(bytes: &[u8], from: usize, to: usize) -> &[u8] {
     }
 }
 
-fn mark_of<'a>(bytes: &'a [u8], t: &Tok) -> Mark<'a> {
-    let at = (t.at as usize).min(bytes.len());
-    let len = match token_at(&bytes[at..]) {
-        Some((_, len)) => len,
-        None => 0,
-    };
-    let end = at.saturating_add(len).min(bytes.len());
-    Mark {
-        word: word(t),
-        text: between(bytes, at, end),
-        at,
-        end,
-        line: t.line,
-        column: t.column,
-    }
-}
-
 /// The tokens of a piece of these bytes.
 pub fn marks_of<'a>(
     alloc: Global,
@@ -52,7 +35,20 @@ pub fn marks_of<'a>(
 ) -> Result<Vec<Mark<'a>>, Starved> {
     let mut all = Vec::new(alloc);
     for t in toks {
-        all.push(mark_of(bytes, t))?;
+        let at = (t.at as usize).min(bytes.len());
+        let len = match token_at(&bytes[at..]) {
+            Some((_, len)) => len,
+            None => 0,
+        };
+        let end = at.saturating_add(len).min(bytes.len());
+        all.push(Mark {
+            word: word(t),
+            text: between(bytes, at, end),
+            at,
+            end,
+            line: t.line,
+            column: t.column,
+        })?;
     }
     Ok(all)
 }

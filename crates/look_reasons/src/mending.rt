@@ -1,5 +1,6 @@
 //! Changes at the place where a reading stops: the first with which the whole piece is read, and what may stand there.
 
+use crate::bytes::byte_at;
 use crate::mark::{Mark, cut_at, is_any_sign, mark_at, spliced};
 use crate::reading::read;
 use asl_lexer::token::Word;
@@ -44,13 +45,10 @@ pub struct Fix {
     pub column: u64,
 }
 
-/// What is tried before a token, and in its place.
-const MISSING: &[u8] = b"; ) ] & , <- : <=";
-
-const INSTEAD: &[u8] = b"; ) ] & , <- : <= .print .";
-
-/// Pairs of signs, each with the sign that is meant.
-const PAIRS: &[u8] = b"=< <= => >= != \\== && & || |";
+/// Changes in the order in which they are tried, one in each line: a letter for what is done, what is put, and in place of which pair of signs.
+const CHANGES: &[u8] =
+    b"l .\nm ;\nb )\nb ]\nm &\nm ,\nm <-\nm :\nm <=\ne .\ni ;\ni )\ni ]\ni &\ni ,\ni <-\ni :\ni <=\ni .print\ni .\n\
+    r <= =<\nr >= =>\nr \\== !=\nr & &&\nr | ||\nx";
 
 /// A piece of which changes are tried, and whether memory was refused.
 #[derive(Clone, Copy)]
@@ -93,32 +91,27 @@ impl<'a> Trial<'a> {
     }
 
     /// The change at the place; its line and column are those behind the token before.
-    fn fix(&self, kind: FixKind, put: &'static [u8]) -> Fix {
+    fn fix(&self, kind: FixKind, put: &'static [u8], pair: &'static [u8]) -> Fix {
         let m = mark_at(self.piece.marks, self.at.saturating_sub(1));
         let len = m.end.saturating_sub(m.at) as u64;
         Fix {
             kind,
             put,
-            pair: b"",
+            pair,
             line: m.line,
             column: m.column.saturating_add(len),
         }
     }
 
-    /// The first of these words with which the piece is read, in place of so many tokens; no bytes where it is none.
-    fn first_put(&mut self, words: &'static [u8], removed: usize) -> &'static [u8] {
+    /// Whether the piece is read where this stands in place of this pair of signs, at the place or directly before it.
+    fn is_read_for_pair(&mut self, put: &'static [u8], pair: &[u8]) -> bool {
         let at = self.at;
-        let text = mark_at(self.piece.marks, at).text;
-        let mut rest = words;
-        for _ in words {
-            let (put, behind) = cut_at(rest, b' ');
-            let other = removed == 0 || is_other(put, text);
-            if other && !put.is_empty() && self.is_read(at, removed, put) {
-                return put;
+        for from in at.saturating_sub(1)..at.saturating_add(1) {
+            if is_pair(self.piece.marks, from, pair) && self.is_read(from, 2, put) {
+                return true;
             }
-            rest = behind;
         }
-        b""
+        false
     }
 }
 
@@ -140,46 +133,17 @@ pub fn is_pair(marks: &[Mark<'_>], at: usize, pair: &[u8]) -> bool {
         && pair.ends_with(second)
 }
 
-fn any_pair(t: &mut Trial<'_>) -> Fix {
-    let at = t.at;
-    let mut rest = PAIRS;
-    for _ in PAIRS {
-        let (pair, behind) = cut_at(rest, b' ');
-        let (put, behind) = cut_at(behind, b' ');
-        if put.is_empty() {
-            return t.fix(FixKind::None, b"");
-        }
-        for from in at.saturating_sub(1)..at.saturating_add(1) {
-            if is_pair(t.piece.marks, from, pair) && t.is_read(from, 2, put) {
-                return Fix {
-                    pair,
-                    ..t.fix(FixKind::Relation, put)
-                };
-            }
-        }
-        rest = behind;
+/// What is done by a change of this letter.
+fn kind_of(letter: u8) -> FixKind {
+    match letter {
+        // A dot before a token that stands as far left as the first, and before any.
+        b'l' | b'e' => FixKind::Dot,
+        b'b' => FixKind::Bracket,
+        b'm' => FixKind::Missing,
+        b'i' => FixKind::Instead,
+        b'r' => FixKind::Relation,
+        _ => FixKind::Extra,
     }
-    t.fix(FixKind::None, b"")
-}
-
-/// The change where another token stands in place of this, or none.
-fn changed(t: &mut Trial<'_>, m: Mark<'_>) -> Fix {
-    if is_any_sign(m.word) || matches!(m.word, Word::Inner) {
-        let put = t.first_put(INSTEAD, 1);
-        if !put.is_empty() {
-            return t.fix(FixKind::Instead, put);
-        }
-        let fix = any_pair(t);
-        if fix.kind != FixKind::None {
-            return fix;
-        }
-    }
-    let at = t.at;
-    let last = at.saturating_add(1) >= t.piece.marks.len();
-    if !matches!(m.word, Word::End) && !last && t.is_read(at, 1, b"") {
-        return t.fix(FixKind::Extra, b"");
-    }
-    t.fix(FixKind::None, b"")
 }
 
 /// The first change at the place with which the whole piece is read.
@@ -187,28 +151,32 @@ fn first_fix(t: &mut Trial<'_>) -> Fix {
     let at = t.at;
     let count = t.piece.marks.len();
     let m = mark_at(t.piece.marks, at);
-    let open = at >= count || (at > 0 && !matches!(m.word, Word::End));
-    let ends = open && t.is_read(at, count, b".");
-    if ends && (at >= count || m.column <= mark_at(t.piece.marks, 0).column) {
-        return t.fix(FixKind::Dot, b".");
-    }
-    if at >= count {
-        return t.fix(FixKind::None, b"");
-    }
-    let put = if at > 0 { t.first_put(MISSING, 0) } else { b"" };
-    if !put.is_empty() {
-        let bracket = put == b")".as_slice() || put == b"]".as_slice();
-        let kind = if bracket {
-            FixKind::Bracket
-        } else {
-            FixKind::Missing
+    let end = matches!(m.word, Word::End);
+    let within = at > 0 && at < count;
+    let ends = (at >= count || (at > 0 && !end)) && t.is_read(at, count, b".");
+    let left = at >= count || m.column <= mark_at(t.piece.marks, 0).column;
+    let sign = is_any_sign(m.word) || matches!(m.word, Word::Inner);
+    let mut rest = CHANGES;
+    for _ in CHANGES {
+        let (line, behind) = cut_at(rest, b'\n');
+        let (way, words) = cut_at(line, b' ');
+        let (put, pair) = cut_at(words, b' ');
+        let letter = byte_at(way, 0);
+        let mends = match letter {
+            b'l' => ends && left,
+            b'e' => ends && within && t.is_read(0, at, b""),
+            b'b' | b'm' => within && t.is_read(at, 0, put),
+            b'i' => sign && is_other(put, m.text) && t.is_read(at, 1, put),
+            b'r' => sign && t.is_read_for_pair(put, pair),
+            b'x' => !end && at.saturating_add(1) < count && t.is_read(at, 1, b""),
+            _ => false,
         };
-        return t.fix(kind, put);
+        if mends {
+            return t.fix(kind_of(letter), put, pair);
+        }
+        rest = behind;
     }
-    if ends && t.is_read(0, at, b"") {
-        return t.fix(FixKind::Dot, b".");
-    }
-    changed(t, m)
+    t.fix(FixKind::None, b"", b"")
 }
 
 /// The first change at the place with which the whole piece is read.
