@@ -76,19 +76,16 @@ enum Run {
     Letters,
 }
 
-fn is_in(run: Run, byte: u8) -> bool {
-    match run {
-        Run::Line => byte != b'\n',
-        Run::Digits => byte.is_ascii_digit(),
-        Run::Letters => byte >= 128,
-    }
-}
-
 /// The place behind a run of bytes.
 fn run_end(bytes: &[u8], from: usize, run: Run) -> usize {
     let mut at = from;
     for b in between(bytes, from, bytes.len()) {
-        if !is_in(run, *b) {
+        let within = match run {
+            Run::Line => *b != b'\n',
+            Run::Digits => b.is_ascii_digit(),
+            Run::Letters => *b >= 128,
+        };
+        if !within {
             return at;
         }
         at = at.saturating_add(1);
@@ -126,50 +123,43 @@ fn behind_in_line(bytes: &[u8], from: usize, with: &[u8]) -> Option<usize> {
     None
 }
 
-fn quote_end(bytes: &[u8], at: usize) -> usize {
-    let inside = at.saturating_add(3);
-    if let Some(end) = behind_in_line(bytes, inside, CLOSE_QUOTE) {
-        return end;
+/// The place behind the first of these bytes in the line that are there; with none of them, the place itself.
+fn quote_end(bytes: &[u8], inside: usize, closing: &[&[u8]]) -> usize {
+    for with in closing {
+        if let Some(end) = behind_in_line(bytes, inside, *with) {
+            return end;
+        }
     }
-    if let Some(end) = behind_in_line(bytes, inside, OPEN_QUOTE) {
-        return end;
-    }
-    behind_in_line(bytes, inside, b"\"").unwrap_or(inside)
+    inside
 }
 
 /// Where the bytes end that a byte in no token belongs to.
 fn byte_end(bytes: &[u8], at: usize) -> usize {
     let next = at.saturating_add(1);
-    if begins(bytes, at, MARK) {
-        return at.saturating_add(3);
-    }
+    let behind = at.saturating_add(3);
     let byte = byte_at(bytes, at);
-    if byte == b'\'' {
-        return behind_in_line(bytes, next, b"'").unwrap_or(next);
+    if begins(bytes, at, MARK) {
+        behind
+    } else if byte == b'\'' {
+        quote_end(bytes, next, &[b"'"])
+    } else if byte == b'%' {
+        line_end(bytes, at)
+    } else if is_quote(bytes, at) {
+        quote_end(bytes, behind, &[CLOSE_QUOTE, OPEN_QUOTE, b"\""])
+    } else if byte >= 128 {
+        run_end(bytes, next, Run::Letters)
+    } else {
+        next
     }
-    if byte == b'%' {
-        return line_end(bytes, at);
-    }
-    if is_quote(bytes, at) {
-        return quote_end(bytes, at);
-    }
-    if byte >= 128 {
-        return run_end(bytes, next, Run::Letters);
-    }
-    next
 }
 
 /// Whether the bytes are a string in other quotes, without which it is taken for a string.
 fn is_quoted(raw: &[u8]) -> bool {
-    let last = match raw {
-        [.., last] => *last,
-        [] => 0,
-    };
+    let last = byte_at(raw, raw.len().saturating_sub(1));
     let closed = last == b'\'' || last == b'"' || last == 0x9c || last == 0x9d;
-    if begins(raw, 0, b"'") {
-        return closed && raw.len() > 1;
-    }
-    is_quote(raw, 0) && closed && raw.len() > 3
+    let least = if byte_at(raw, 0) == b'\'' { 1 } else { 3 };
+    let opened = least == 1 || is_quote(raw, 0);
+    opened && closed && raw.len() > least
 }
 
 /// What bytes are taken for.
@@ -182,94 +172,83 @@ enum Fill {
     Blank,
 }
 
-fn filled(fill: Fill, byte: u8, is_edge: bool) -> u8 {
-    match fill {
-        Fill::Byte(b) => b,
-        Fill::String => if is_edge { b'"' } else { b'x' },
-        Fill::Blank => if byte == b'\n' { b'\n' } else { b' ' },
-    }
-}
-
 /// What bytes outside strings are taken for, and whether that is meant.
 fn meant(raw: &[u8], behind: u8) -> (Fill, bool) {
-    match raw {
-        b"/" => (Fill::Byte(b'*'), true),
-        b"\\" if behind == b'=' => (Fill::Byte(b'='), true),
-        _ if is_quoted(raw) => (Fill::String, true),
-        _ => (Fill::Byte(b' '), begins(raw, 0, b"%") || raw == MARK),
+    let first = byte_at(raw, 0);
+    if raw.len() == 1 && first == b'/' {
+        return (Fill::Byte(b'*'), true);
     }
-}
-
-fn is_inside(alloc: Global, bytes: &[u8], at: usize) -> Result<bool, Starved> {
-    match tokens(alloc, between(bytes, 0, at)) {
-        Ok(_) => Ok(false),
-        Err(LexFault::Memory) => Err(Starved),
-        Err(_) => Ok(true),
+    if raw.len() == 1 && first == b'\\' && behind == b'=' {
+        return (Fill::Byte(b'='), true);
     }
+    if is_quoted(raw) {
+        return (Fill::String, true);
+    }
+    (Fill::Byte(b' '), first == b'%' || raw == MARK)
 }
 
 /// A fault, and what stands in its place.
 type Patch = (Spoilt, Fill);
 
-fn patch_of(flaw: Flaw, at: usize, end: usize, fill: Fill, mended: bool) -> Patch {
+fn byte_patch(alloc: Global, bytes: &[u8], at: usize) -> Result<Patch, Starved> {
+    let end = byte_end(bytes, at).min(bytes.len());
+    let (fill, mended) = meant(between(bytes, at, end), byte_at(bytes, end));
     let fault = Spoilt {
-        flaw,
+        flaw: Flaw::Byte,
         at,
         end,
         mended,
     };
-    (fault, fill)
-}
-
-fn byte_patch(bytes: &[u8], at: usize, inside: bool) -> Patch {
-    if inside {
-        return patch_of(
-            Flaw::Inside,
-            at,
-            at.saturating_add(1),
-            Fill::Byte(b'x'),
-            true,
-        );
+    match tokens(alloc, between(bytes, 0, at)) {
+        Ok(_) => Ok((fault, fill)),
+        Err(LexFault::Memory) => Err(Starved),
+        Err(_) => {
+            let inside = Spoilt {
+                flaw: Flaw::Inside,
+                at,
+                end: at.saturating_add(1),
+                mended: true,
+            };
+            Ok((inside, Fill::Byte(b'x')))
+        }
     }
-    let end = byte_end(bytes, at).min(bytes.len());
-    let (fill, mended) = meant(between(bytes, at, end), byte_at(bytes, end));
-    patch_of(Flaw::Byte, at, end, fill, mended)
 }
 
 fn patch_for(alloc: Global, bytes: &[u8], why: LexFault) -> Result<Patch, Starved> {
-    match why {
-        LexFault::Memory => Err(Starved),
-        LexFault::BadByte(at) => {
-            let at = at as usize;
-            Ok(byte_patch(bytes, at, is_inside(alloc, bytes, at)?))
-        }
-        LexFault::OpenString(at) => {
-            let end = line_end(bytes, at as usize);
-            Ok(patch_of(Flaw::String, at as usize, end, Fill::Byte(b' '), false))
-        }
-        LexFault::OpenComment(at) => Ok(patch_of(
-            Flaw::Comment,
-            at as usize,
-            bytes.len(),
-            Fill::Blank,
-            false,
-        )),
-        LexFault::NumberRange(at) => {
-            let end = run_end(bytes, at as usize, Run::Digits);
-            Ok(patch_of(Flaw::Number, at as usize, end, Fill::Byte(b'0'), true))
-        }
-    }
+    let (flaw, at, fill) = match why {
+        LexFault::Memory => return Err(Starved),
+        LexFault::BadByte(at) => return byte_patch(alloc, bytes, at as usize),
+        LexFault::OpenString(at) => (Flaw::String, at, Fill::Byte(b' ')),
+        LexFault::OpenComment(at) => (Flaw::Comment, at, Fill::Blank),
+        LexFault::NumberRange(at) => (Flaw::Number, at, Fill::Byte(b'0')),
+    };
+    let at = at as usize;
+    let end = match flaw {
+        Flaw::String => line_end(bytes, at),
+        Flaw::Number => run_end(bytes, at, Run::Digits),
+        _ => bytes.len(),
+    };
+    let fault = Spoilt {
+        flaw,
+        at,
+        end,
+        mended: flaw == Flaw::Number,
+    };
+    Ok((fault, fill))
 }
 
 fn patched(alloc: Global, bytes: &[u8], fault: Spoilt, fill: Fill) -> Result<Text, Starved> {
     let mut text = Seq::new(alloc);
     let last = fault.end.saturating_sub(1);
     for (at, b) in bytes.iter().enumerate() {
-        if at < fault.at || at > last {
-            text.push(*b)?;
-        } else {
-            text.push(filled(fill, *b, at == fault.at || at == last))?;
-        }
+        let edge = at == fault.at || at == last;
+        let filled = match fill {
+            Fill::Byte(b) => b,
+            Fill::String => if edge { b'"' } else { b'x' },
+            Fill::Blank => if *b == b'\n' { b'\n' } else { b' ' },
+        };
+        let within = fault.at <= at && at <= last;
+        text.push(if within { filled } else { *b })?;
     }
     Ok(text)
 }

@@ -1,134 +1,294 @@
-//! The steps in the clauses of an agent.
+//! The rows of the clauses of an agent.
 
-use crate::reading::{Halt, Left, Mode, Part, Reading, Sort, Want};
-use asl_lexer::token::{Sign, Word};
+use crate::grammar::{Act, Also, Class, Mode, Place, Row, State};
+use crate::reading::{Halt, Left, Part, Sort};
+use asl_lexer::token::Sign;
 
-/// Wants a literal without arithmetic.
-pub fn pattern(r: &mut Reading<'_>, part: Part) {
-    r.plain = true;
-    r.want(Want::WithArithmetic);
-    r.want(Want::Literal(part));
+const CLAUSES: [Row; 11] = [
+    (
+        State::Clause,
+        Class::Sign(Sign::At),
+        Place::Any,
+        Also::Nothing,
+        &[Act::Sort(Sort::Plan), Act::Go, Act::Want(State::Label)],
+    ),
+    (
+        State::Clause,
+        Class::Either(Sign::Plus, Sign::Minus),
+        Place::Any,
+        Also::Nothing,
+        &[Act::Sort(Sort::Plan), Act::Want(State::Trigger)],
+    ),
+    (
+        State::Clause,
+        Class::Sign(Sign::Bang),
+        Place::Any,
+        Also::Nothing,
+        &[
+            Act::Sort(Sort::Goal),
+            Act::Go,
+            Act::Want(State::HeadEnd),
+            Act::Part(Part::Goal),
+            Act::Want(State::Pattern),
+        ],
+    ),
+    (
+        State::Clause,
+        Class::Any,
+        Place::Any,
+        Also::Nothing,
+        &[
+            Act::Want(State::BeliefRest),
+            Act::Part(Part::Belief),
+            Act::Want(State::Pattern),
+        ],
+    ),
+    (
+        State::Label,
+        Class::Atom,
+        Place::Any,
+        Also::Nothing,
+        &[Act::Go, Act::Want(State::Trigger)],
+    ),
+    (
+        State::Label,
+        Class::Any,
+        Place::Any,
+        Also::Nothing,
+        &[Act::Stop(Halt::Label)],
+    ),
+    (
+        State::Trigger,
+        Class::Either(Sign::Plus, Sign::Minus),
+        Place::Any,
+        Also::Nothing,
+        &[
+            Act::Go,
+            Act::Want(State::TriggerRest),
+            Act::Part(Part::Trigger),
+            Act::Want(State::Pattern),
+            Act::Want(State::TriggerKind),
+        ],
+    ),
+    (
+        State::Trigger,
+        Class::Any,
+        Place::Any,
+        Also::Nothing,
+        &[Act::Stop(Halt::Trigger)],
+    ),
+    (
+        State::TriggerKind,
+        Class::Either(Sign::Bang, Sign::Question),
+        Place::Any,
+        Also::Nothing,
+        &[Act::Go],
+    ),
+    (
+        State::Pattern,
+        Class::Any,
+        Place::Any,
+        Also::Nothing,
+        &[
+            Act::Plain(true),
+            Act::Want(State::WithArithmetic),
+            Act::Want(State::Literal),
+        ],
+    ),
+    (
+        State::WithArithmetic,
+        Class::Any,
+        Place::Any,
+        Also::Nothing,
+        &[Act::Plain(false)],
+    ),
+];
+
+const RESTS: [Row; 10] = [
+    (
+        State::BeliefRest,
+        Class::Sign(Sign::If),
+        Place::Any,
+        Also::Nothing,
+        &[
+            Act::Sort(Sort::Rule),
+            Act::Go,
+            Act::Want(State::FormulaEnd),
+            Act::In(Mode::Formula),
+            Act::Want(State::Or),
+        ],
+    ),
+    (
+        State::BeliefRest,
+        Class::Any,
+        Place::Any,
+        Also::Nothing,
+        &[Act::End(Halt::BeliefEnd)],
+    ),
+    (
+        State::TriggerRest,
+        Class::Sign(Sign::Colon),
+        Place::Any,
+        Also::Nothing,
+        &[
+            Act::Go,
+            Act::Want(State::ContextRest),
+            Act::In(Mode::Formula),
+            Act::Want(State::Or),
+        ],
+    ),
+    (
+        State::TriggerRest,
+        Class::Sign(Sign::LeftArrow),
+        Place::Any,
+        Also::Nothing,
+        &[Act::Go, Act::Want(State::Item)],
+    ),
+    (
+        State::TriggerRest,
+        Class::Any,
+        Place::Any,
+        Also::Nothing,
+        &[Act::End(Halt::TriggerEnd)],
+    ),
+    (
+        State::ContextRest,
+        Class::Sign(Sign::LeftArrow),
+        Place::Any,
+        Also::Nothing,
+        &[Act::Go, Act::Want(State::Item)],
+    ),
+    (
+        State::ContextRest,
+        Class::Any,
+        Place::Any,
+        Also::Nothing,
+        &[Act::End(Halt::ContextEnd)],
+    ),
+    (
+        State::HeadEnd,
+        Class::Any,
+        Place::Any,
+        Also::Nothing,
+        &[Act::End(Halt::HeadEnd)],
+    ),
+    (
+        State::FormulaEnd,
+        Class::Any,
+        Place::Any,
+        Also::Nothing,
+        &[Act::End(Halt::FormulaEnd)],
+    ),
+    (
+        State::FactEnd,
+        Class::Any,
+        Place::Any,
+        Also::Nothing,
+        &[Act::End(Halt::FactEnd)],
+    ),
+];
+
+const ITEMS: [Row; 9] = [
+    (
+        State::Item,
+        Class::Either(Sign::Bang, Sign::Bangs),
+        Place::Any,
+        Also::Nothing,
+        &[
+            Act::Item,
+            Act::Go,
+            Act::Want(State::MoreItems),
+            Act::Part(Part::Posted),
+            Act::Want(State::Literal),
+        ],
+    ),
+    (
+        State::Item,
+        Class::Sign(Sign::Question),
+        Place::Any,
+        Also::Nothing,
+        &[
+            Act::Item,
+            Act::Go,
+            Act::Want(State::MoreItems),
+            Act::Part(Part::Tested),
+            Act::Want(State::Literal),
+        ],
+    ),
+    (
+        State::Item,
+        Class::Change,
+        Place::Any,
+        Also::Nothing,
+        &[
+            Act::Item,
+            Act::Go,
+            Act::Want(State::MoreItems),
+            Act::Part(Part::Changed),
+            Act::Want(State::Literal),
+        ],
+    ),
+    (
+        State::Item,
+        Class::Any,
+        Place::Any,
+        Also::Nothing,
+        &[
+            Act::Item,
+            Act::Want(State::MoreItems),
+            Act::Want(State::ItemDone),
+            Act::In(Mode::Item),
+            Act::Want(State::Or),
+        ],
+    ),
+    (
+        State::ItemDone,
+        Class::Any,
+        Place::Any,
+        Also::Left(Left::Marked),
+        &[Act::Stop(Halt::Marked)],
+    ),
+    (
+        State::ItemDone,
+        Class::Any,
+        Place::Any,
+        Also::Left(Left::False),
+        &[Act::Stop(Halt::False)],
+    ),
+    (
+        State::ItemDone,
+        Class::Any,
+        Place::Any,
+        Also::Left(Left::Term),
+        &[Act::Stop(Halt::Bare)],
+    ),
+    (
+        State::MoreItems,
+        Class::Sign(Sign::Semicolon),
+        Place::Any,
+        Also::Nothing,
+        &[Act::Go, Act::Want(State::Item)],
+    ),
+    (
+        State::MoreItems,
+        Class::Any,
+        Place::Any,
+        Also::Nothing,
+        &[Act::End(Halt::ItemEnd)],
+    ),
+];
+
+/// What a clause begins with.
+pub fn clause_rows() -> &'static [Row] {
+    &CLAUSES
 }
 
-/// Goes over a label; whether it is one, or there is none.
-fn label(r: &mut Reading<'_>) -> bool {
-    if !r.is_sign(Sign::At) {
-        return true;
-    }
-    r.go();
-    let named = r.is_atom();
-    if named {
-        r.go();
-    }
-    named
+/// What stands behind a head or a trigger.
+pub fn rest_rows() -> &'static [Row] {
+    &RESTS
 }
 
-fn plan(r: &mut Reading<'_>) {
-    r.sort = Sort::Plan;
-    if !label(r) {
-        r.stop(Halt::Label);
-        return;
-    }
-    if !matches!(r.word(), Word::Sign(Sign::Plus | Sign::Minus)) {
-        r.stop(Halt::Trigger);
-        return;
-    }
-    r.go();
-    if matches!(r.word(), Word::Sign(Sign::Bang | Sign::Question)) {
-        r.go();
-    }
-    r.want(Want::TriggerRest);
-    pattern(r, Part::Trigger);
-}
-
-/// The first want of a clause.
-pub fn begin(r: &mut Reading<'_>) {
-    match r.word() {
-        Word::Sign(Sign::At | Sign::Plus | Sign::Minus) => plan(r),
-        Word::Sign(Sign::Bang) => {
-            r.sort = Sort::Goal;
-            r.go();
-            r.want(Want::End(Halt::HeadEnd));
-            pattern(r, Part::Goal);
-        }
-        _ => {
-            r.want(Want::BeliefRest);
-            pattern(r, Part::Belief);
-        }
-    }
-}
-
-fn belief_rest(r: &mut Reading<'_>) {
-    if !r.is_sign(Sign::If) {
-        r.want(Want::End(Halt::BeliefEnd));
-        return;
-    }
-    r.sort = Sort::Rule;
-    r.go();
-    r.want(Want::End(Halt::FormulaEnd));
-    r.want(Want::Or(Mode::Formula));
-}
-
-fn trigger_rest(r: &mut Reading<'_>) {
-    if !r.is_sign(Sign::Colon) {
-        r.want(Want::Body(Halt::TriggerEnd));
-        return;
-    }
-    r.go();
-    r.want(Want::Body(Halt::ContextEnd));
-    r.want(Want::Or(Mode::Formula));
-}
-
-/// Goes over a sign and wants what is behind it, or the end where it does not stand here.
-pub fn behind(r: &mut Reading<'_>, sign: Sign, next: Want, halt: Halt) {
-    if r.is_sign(sign) {
-        r.go();
-        r.want(next);
-    } else {
-        r.want(Want::End(halt));
-    }
-}
-
-fn posted(word: Word) -> Option<Part> {
-    match word {
-        Word::Sign(Sign::Bang | Sign::Bangs) => Some(Part::Posted),
-        Word::Sign(Sign::Question) => Some(Part::Tested),
-        Word::Sign(Sign::Plus | Sign::Minus | Sign::MinusPlus) => Some(Part::Changed),
-        _ => None,
-    }
-}
-
-fn item(r: &mut Reading<'_>) {
-    r.item = Some(r.at);
-    r.want(Want::MoreItems);
-    match posted(r.word()) {
-        Some(part) => {
-            r.go();
-            r.want(Want::Literal(part));
-        }
-        None => {
-            r.want(Want::ItemDone);
-            r.want(Want::Or(Mode::Item));
-        }
-    }
-}
-
-fn item_done(r: &mut Reading<'_>) {
-    match r.left {
-        Left::Marked => r.stop(Halt::Marked),
-        Left::False => r.stop(Halt::False),
-        Left::Term => r.stop(Halt::Bare),
-        _ => {}
-    }
-}
-
-pub fn step(r: &mut Reading<'_>, want: Want) {
-    match want {
-        Want::BeliefRest => belief_rest(r),
-        Want::TriggerRest => trigger_rest(r),
-        Want::Body(halt) => behind(r, Sign::LeftArrow, Want::Item, halt),
-        Want::Item => item(r),
-        Want::ItemDone => item_done(r),
-        _ => behind(r, Sign::Semicolon, Want::Item, Halt::ItemEnd),
-    }
+/// The items of a body.
+pub fn item_rows() -> &'static [Row] {
+    &ITEMS
 }

@@ -1,6 +1,6 @@
 //! Lines of sources as they are shown: as UTF-8, without a control byte.
 
-use crate::bytes::line_end;
+use crate::bytes::{byte_at, line_end};
 use crate::mark::between;
 use asl_term::printing::write_number;
 use asl_term::sequence::{Seq, Starved};
@@ -32,38 +32,45 @@ fn sign_at(bytes: &[u8]) -> Option<(char, usize)> {
     None
 }
 
-fn digit(n: u8) -> u8 {
-    b"0123456789abcdef"[(n % 16) as usize]
-}
-
+/// Whether a sign is no control sign.
 fn is_shown(sign: char) -> bool {
     let n = sign as u32;
     n == 9 || (n >= 32 && !(n >= 127 && n < 160) && n != 0xfeff)
 }
 
-/// Puts the signs of bytes: a byte that is no UTF-8 as `\xNN`, a control sign as `?`.
-fn put_signs(bytes: &[u8], signs: &mut Vec<char>) -> Result<(), Starved> {
-    let mut rest = bytes;
-    for _ in 0..bytes.len() {
-        let Some((byte, after)) = rest.split_first() else {
-            return Ok(());
-        };
-        match sign_at(rest) {
-            Some((sign, len)) => {
-                signs.push(if is_shown(sign) { sign } else { '?' })?;
-                rest = between(rest, len, rest.len());
-            }
-            None => {
-                let high = digit(*byte / 16);
-                let low = digit(*byte);
-                for b in [b'\\', b'x', high, low] {
-                    signs.push(char::from(b))?;
-                }
-                rest = after;
+const DIGITS: &[u8] = b"0123456789abcdef";
+
+/// Puts the signs of a line: a byte that is no UTF-8 as `\xNN`, a control sign as `?`. Gives how many of them stand before one place of the line
+/// and before another; no sign goes over these.
+fn put_signs(
+    line: &[u8],
+    from: usize,
+    to: usize,
+    signs: &mut Vec<char>,
+) -> Result<(usize, usize), Starved> {
+    let mut first = 0;
+    let mut last = 0;
+    let mut behind = 0;
+    for (at, byte) in line.iter().enumerate() {
+        if at < behind {
+            continue;
+        }
+        let within = if at < to { to } else { line.len() };
+        let end = if at < from { from } else { within };
+        if let Some((sign, len)) = sign_at(between(line, at, end)) {
+            signs.push(if is_shown(sign) { sign } else { '?' })?;
+            behind = at.saturating_add(len);
+        } else {
+            let high = byte_at(DIGITS, (*byte / 16) as usize);
+            let low = byte_at(DIGITS, (*byte % 16) as usize);
+            for b in [b'\\', b'x', high, low] {
+                signs.push(char::from(b))?;
             }
         }
+        first = if at < from { signs.len() } else { first };
+        last = if at < to { signs.len() } else { last };
     }
-    Ok(())
+    Ok((first, last))
 }
 
 /// Puts signs as UTF-8.
@@ -78,7 +85,7 @@ fn put_text(alloc: Global, signs: &[char], out: &mut Text) -> Result<(), Starved
 /// Puts bytes of a source as they are shown.
 pub fn put_shown(alloc: Global, bytes: &[u8], out: &mut Text) -> Result<(), Starved> {
     let mut signs = Vec::new(alloc);
-    put_signs(bytes, &mut signs)?;
+    put_signs(bytes, 0, 0, &mut signs)?;
     put_text(alloc, signs.as_slice(), out)
 }
 
@@ -89,101 +96,70 @@ pub fn shown(alloc: Global, bytes: &[u8]) -> Result<Text, Starved> {
     Ok(out)
 }
 
-/// A line without its carriage returns at the end.
-fn without_returns(line: &[u8]) -> &[u8] {
-    let mut rest = line;
-    for _ in 0..line.len() {
+/// Bytes without these at the end.
+fn without<'a>(bytes: &'a [u8], ends: &[u8]) -> &'a [u8] {
+    let mut rest = bytes;
+    for _ in bytes {
         match rest {
-            [before @ .., b'\r'] => rest = before,
+            [before @ .., last] if ends.contains(last) => rest = before,
             _ => return rest,
         }
     }
     rest
 }
 
-/// Takes away blanks at the end.
-fn trim(out: &mut Text) {
-    for _ in 0..out.len() {
-        match out.as_slice() {
-            [.., b' ' | b'\t'] => {
-                let _ = out.pop();
-            }
-            _ => return,
+/// A number in five columns at least, and what stands between it and the line.
+fn put_wide(alloc: Global, n: u64, out: &mut Text) -> Result<(), Starved> {
+    for least in [10, 100, 1000, 10000] {
+        if n < least {
+            out.push(b' ')?;
         }
     }
+    write_number(alloc, n, out)?;
+    out.append(b" | ")
 }
 
-/// A number in five columns at least.
-fn put_wide(alloc: Global, n: u64, out: &mut Text) -> Result<(), Starved> {
-    let mut digits = Seq::new(alloc);
-    write_number(alloc, n, &mut digits)?;
-    for _ in digits.len()..5 {
-        out.push(b' ')?;
-    }
-    out.append(digits.as_slice())
-}
-
-/// A line in three parts: what stands before the place, what is marked, and what is behind.
-#[derive(Clone, Copy)]
-struct Parts<'a> {
-    head: &'a [char],
-    marked: &'a [char],
-    tail: &'a [char],
-    /// What stands for what is left out before the head, and behind the tail.
-    before: &'static [u8],
-    behind: &'static [u8],
-}
-
-/// The parts of a line of which the signs from one place to another are marked, of a long line shortened.
-fn parts_of(signs: &[char], from: usize, to: usize) -> Parts<'_> {
+/// The parts of a line of which the signs from one place to another are marked: what stands for what is left out of a long line, what stands before
+/// the place, what is marked, what is behind, and what stands for what is left out there.
+fn parts_of(signs: &[char], from: usize, to: usize) -> [&[char]; 5] {
     let (front, tail) = signs.split_at(to.min(signs.len()));
     let (head, marked) = front.split_at(from.min(front.len()));
     if signs.len() <= WIDE {
-        return Parts {
-            head,
-            marked,
-            tail,
-            before: b"",
-            behind: b"",
-        };
+        return [&[], head, marked, tail, &[]];
     }
-    let (before, kept): (&'static [u8], &[char]) = if head.len() > BEFORE {
-        (b".. ", &head[head.len() - KEPT..])
-    } else {
-        (b"", head)
-    };
+    let mut kept = head;
+    let mut before: &[char] = &[];
+    if head.len() > BEFORE {
+        kept = &head[head.len() - KEPT..];
+        before = &['.', '.', ' '];
+    }
     let most = marked.len().min(MARKED);
     let wide = kept.len().saturating_add(before.len()).saturating_add(most);
-    Parts {
-        head: kept,
-        marked: &marked[..most],
-        tail: &tail[..tail.len().min(WIDE.saturating_sub(wide))],
+    let rest = tail.len().min(WIDE.saturating_sub(wide));
+    [
         before,
-        behind: b" ..",
-    }
+        kept,
+        &marked[..most],
+        &tail[..rest],
+        &[' ', '.', '.'],
+    ]
 }
 
-fn put_line(alloc: Global, line: u64, p: &Parts<'_>, out: &mut Text) -> Result<(), Starved> {
-    put_wide(alloc, line, out)?;
-    out.append(b" | ")?;
-    out.append(p.before)?;
-    for signs in [p.head, p.marked, p.tail] {
-        put_text(alloc, signs, out)?;
+/// Puts the parts of a line, and carets below what is marked.
+fn put_parts(alloc: Global, parts: [&[char]; 5], out: &mut Text) -> Result<(), Starved> {
+    for part in parts {
+        put_text(alloc, part, out)?;
     }
-    out.append(p.behind)?;
-    trim(out);
-    out.push(b'\n')
-}
-
-fn put_caret(p: &Parts<'_>, out: &mut Text) -> Result<(), Starved> {
-    out.append(b"      | ")?;
-    for _ in p.before {
-        out.push(b' ')?;
+    let len = without(out.as_slice(), b" \t").len();
+    out.truncate(len as u64);
+    out.append(b"\n      | ")?;
+    let [before, head, marked, _, _] = parts;
+    for part in [before, head] {
+        for sign in part {
+            out.push(if *sign == '\t' { b'\t' } else { b' ' })?;
+        }
     }
-    for sign in p.head {
-        out.push(if *sign == '\t' { b'\t' } else { b' ' })?;
-    }
-    for _ in 0..p.marked.len().max(1) {
+    for _ in 0..marked.len().max(1) {
         out.push(b'^')?;
     }
     out.push(b'\n')
@@ -202,17 +178,12 @@ pub struct Marked {
 pub fn put_excerpt(alloc: Global, bytes: &[u8], m: Marked, out: &mut Text) -> Result<(), Starved> {
     let before = (m.column as usize).saturating_sub(1);
     let start = m.at.saturating_sub(before);
-    let line = without_returns(between(bytes, start, line_end(bytes, start)));
+    let line = without(between(bytes, start, line_end(bytes, start)), b"\r");
     let from = before.min(line.len());
     let len = m.end.saturating_sub(m.at).max(1);
     let to = from.saturating_add(len).min(line.len());
     let mut signs = Vec::new(alloc);
-    put_signs(between(line, 0, from), &mut signs)?;
-    let first = signs.len();
-    put_signs(between(line, from, to), &mut signs)?;
-    let last = signs.len();
-    put_signs(between(line, to, line.len()), &mut signs)?;
-    let parts = parts_of(signs.as_slice(), first, last);
-    put_line(alloc, m.line, &parts, out)?;
-    put_caret(&parts, out)
+    let (first, last) = put_signs(line, from, to, &mut signs)?;
+    put_wide(alloc, m.line, out)?;
+    put_parts(alloc, parts_of(signs.as_slice(), first, last), out)
 }

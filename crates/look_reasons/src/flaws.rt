@@ -1,263 +1,270 @@
 //! Why bytes are refused, in words.
 
 use crate::bytes::{Flaw, Spoilt, byte_at};
-use crate::mark::{Mark, between, is_sign};
+use crate::mark::{Mark, between, cut_at, is_sign};
 use crate::mending::Piece;
-use crate::phrase::{Phrase, put_phrase};
+use crate::phrase::Phrase;
 use crate::reading::read;
 use crate::reason::{Reason, reason_of};
 use asl_lexer::token::{Sign, Word};
-use asl_term::sequence::{Seq, Starved};
-use asl_term::syntax::Text;
+use asl_term::sequence::Starved;
 use std::alloc::Global;
 
-/// What holds of bytes at fault.
+/// What is told of bytes.
+struct Rule {
+    flaw: Flaw,
+    /// They begin with these, and the first is this byte at least, and at most.
+    begins: &'static [u8],
+    least: u8,
+    most: u8,
+    also: Also,
+    /// Of them, or of the first two.
+    pair: bool,
+    /// In lines: a stable word, the reason, and a note where there is one. `$b` stands for the bytes as they are shown, `$n` for the number of
+    /// the first, `$i` for the bytes without the first and the last.
+    told: &'static [u8],
+}
+
+/// What else has to hold.
 #[derive(Clone, Copy)]
-enum Test {
-    Flaw(Flaw),
-    Begins(&'static [u8]),
+enum Also {
+    Nothing,
     /// They begin the file.
     Front,
     /// They are one byte, and this one is behind it.
     Single,
     Next(u8),
-    /// The first of them is this byte at least, and at most.
-    Least(u8),
-    Most(u8),
 }
 
-/// A part of what is told.
-#[derive(Clone, Copy)]
-enum Say {
-    Words(&'static [u8]),
-    /// The bytes as they are shown, and without the first and the last.
-    Bytes,
-    Inner,
-    /// The number of the first.
-    Number,
-}
-
-/// What is told of bytes of which all of these tests hold: of them, or of the first two.
-struct Rule {
-    tests: &'static [Test],
-    pair: bool,
-    code: &'static [u8],
-    words: &'static [Say],
-    note: &'static [Say],
-}
-
-/// The first of which all tests hold is told, or else the other.
+/// The first that holds is told, or else the other.
 const RULES: [Rule; 18] = [
     Rule {
-        tests: &[Test::Flaw(Flaw::String)],
+        flaw: Flaw::String,
+        begins: b"",
+        least: 0,
+        most: 255,
+        also: Also::Nothing,
         pair: false,
-        code: b"open-string",
-        words: &[Say::Words(b"the string that begins here is not closed in its line")],
-        note: &[Say::Words(b"a \" is missing; \\n stands for a line feed")],
+        told: b"open-string\nthe string that begins here is not closed in its line\na \" is missing; \\n stands for a line feed",
     },
     Rule {
-        tests: &[Test::Flaw(Flaw::Comment)],
+        flaw: Flaw::Comment,
+        begins: b"",
+        least: 0,
+        most: 255,
+        also: Also::Nothing,
         pair: true,
-        code: b"open-comment",
-        words: &[Say::Words(b"the comment that begins here is not closed")],
-        note: &[Say::Words(b"*/ is missing")],
+        told: b"open-comment\nthe comment that begins here is not closed\n*/ is missing",
     },
     Rule {
-        tests: &[Test::Flaw(Flaw::Number)],
+        flaw: Flaw::Number,
+        begins: b"",
+        least: 0,
+        most: 255,
+        also: Also::Nothing,
         pair: false,
-        code: b"number",
-        words: &[Say::Words(b"no number above 9223372036854775807")],
-        note: &[],
+        told: b"number\nno number above 9223372036854775807",
     },
     Rule {
-        tests: &[Test::Flaw(Flaw::Inside), Test::Begins(b"\\")],
+        flaw: Flaw::Inside,
+        begins: b"\\",
+        least: 0,
+        most: 255,
+        also: Also::Nothing,
         pair: true,
-        code: b"escape",
-        words: &[Say::Words(b"in a string \\ stands before \" \\ n t alone")],
-        note: &[Say::Words(b"\\\\ is the sign itself")],
+        told: b"escape\nin a string \\ stands before \" \\ n t alone\n\\\\ is the sign itself",
     },
     Rule {
-        tests: &[Test::Flaw(Flaw::Inside), Test::Begins(b"\t")],
+        flaw: Flaw::Inside,
+        begins: b"\t",
+        least: 0,
+        most: 255,
+        also: Also::Nothing,
         pair: false,
-        code: b"control",
-        words: &[Say::Words(b"a tab in a string")],
-        note: &[Say::Words(b"write \\t")],
+        told: b"control\na tab in a string\nwrite \\t",
     },
     Rule {
-        tests: &[Test::Flaw(Flaw::Inside)],
+        flaw: Flaw::Inside,
+        begins: b"",
+        least: 0,
+        most: 255,
+        also: Also::Nothing,
         pair: false,
-        code: b"control",
-        words: &[
-            Say::Words(b"the byte "),
-            Say::Number,
-            Say::Words(b" in a string"),
-        ],
-        note: &[],
+        told: b"control\nthe byte $n in a string",
     },
     Rule {
-        tests: &[Test::Begins(b"\xef\xbb\xbf")],
+        flaw: Flaw::Byte,
+        begins: b"\xef\xbb\xbf",
+        least: 0,
+        most: 255,
+        also: Also::Nothing,
         pair: false,
-        code: b"bom",
-        words: &[Say::Words(b"the file begins with a byte order mark")],
-        note: &[Say::Words(b"save it as UTF-8 without BOM")],
+        told: b"bom\nthe file begins with a byte order mark\nsave it as UTF-8 without BOM",
     },
     Rule {
-        tests: &[Test::Front, Test::Begins(b"\xff\xfe")],
+        flaw: Flaw::Byte,
+        begins: b"\xff\xfe",
+        least: 0,
+        most: 255,
+        also: Also::Front,
         pair: true,
-        code: b"utf16",
-        words: &[Say::Words(b"the file is in UTF-16")],
-        note: &[Say::Words(b"save it as UTF-8 without BOM")],
+        told: b"utf16\nthe file is in UTF-16\nsave it as UTF-8 without BOM",
     },
     Rule {
-        tests: &[Test::Front, Test::Begins(b"\xfe\xff")],
+        flaw: Flaw::Byte,
+        begins: b"\xfe\xff",
+        least: 0,
+        most: 255,
+        also: Also::Front,
         pair: true,
-        code: b"utf16",
-        words: &[Say::Words(b"the file is in UTF-16")],
-        note: &[Say::Words(b"save it as UTF-8 without BOM")],
+        told: b"utf16\nthe file is in UTF-16\nsave it as UTF-8 without BOM",
     },
     Rule {
-        tests: &[Test::Begins(b"'"), Test::Single],
+        flaw: Flaw::Byte,
+        begins: b"'",
+        least: 0,
+        most: 255,
+        also: Also::Single,
         pair: false,
-        code: b"byte",
-        words: &[Say::Words(b"' stands in no token")],
-        note: &[Say::Words(b"strings have double quotes")],
+        told: b"byte\n' stands in no token\nstrings have double quotes",
     },
     Rule {
-        tests: &[Test::Begins(b"'")],
+        flaw: Flaw::Byte,
+        begins: b"'",
+        least: 0,
+        most: 255,
+        also: Also::Nothing,
         pair: false,
-        code: b"quoted-atom",
-        words: &[Say::Words(b"no quoted atoms, and no strings in single quotes")],
-        note: &[Say::Words(b"a string is \""), Say::Inner, Say::Words(b"\"")],
+        told: b"quoted-atom\nno quoted atoms, and no strings in single quotes\na string is \"$i\"",
     },
     Rule {
-        tests: &[Test::Begins(b"%")],
+        flaw: Flaw::Byte,
+        begins: b"%",
+        least: 0,
+        most: 255,
+        also: Also::Nothing,
         pair: false,
-        code: b"comment-sign",
-        words: &[Say::Words(b"% begins no comment here")],
-        note: &[Say::Words(b"write //")],
+        told: b"comment-sign\n% begins no comment here\nwrite //",
     },
     Rule {
-        tests: &[Test::Begins(b"/")],
+        flaw: Flaw::Byte,
+        begins: b"/",
+        least: 0,
+        most: 255,
+        also: Also::Nothing,
         pair: false,
-        code: b"division",
-        words: &[Say::Words(b"no / here")],
-        note: &[Say::Words(b"whole numbers: A div B")],
+        told: b"division\nno / here\nwhole numbers: A div B",
     },
     Rule {
-        tests: &[Test::Begins(b"\\"), Test::Next(b'=')],
+        flaw: Flaw::Byte,
+        begins: b"\\",
+        least: 0,
+        most: 255,
+        also: Also::Next(b'='),
         pair: true,
-        code: b"relation",
-        words: &[Say::Words(b"no \\= here")],
-        note: &[Say::Words(b"write \\==")],
+        told: b"relation\nno \\= here\nwrite \\==",
     },
     Rule {
-        tests: &[Test::Begins(b"\xe2\x80\x9c")],
+        flaw: Flaw::Byte,
+        begins: b"\xe2\x80\x9c",
+        least: 0,
+        most: 255,
+        also: Also::Nothing,
         pair: false,
-        code: b"typographic",
-        words: &[Say::Words(b"typographic quotes")],
-        note: &[Say::Words(b"strings have the plain sign \"")],
+        told: b"typographic\ntypographic quotes\nstrings have the plain sign \"",
     },
     Rule {
-        tests: &[Test::Begins(b"\xe2\x80\x9d")],
+        flaw: Flaw::Byte,
+        begins: b"\xe2\x80\x9d",
+        least: 0,
+        most: 255,
+        also: Also::Nothing,
         pair: false,
-        code: b"typographic",
-        words: &[Say::Words(b"typographic quotes")],
-        note: &[Say::Words(b"strings have the plain sign \"")],
+        told: b"typographic\ntypographic quotes\nstrings have the plain sign \"",
     },
     Rule {
-        tests: &[Test::Least(128)],
+        flaw: Flaw::Byte,
+        begins: b"",
+        least: 128,
+        most: 255,
+        also: Also::Nothing,
         pair: false,
-        code: b"letter",
-        words: &[Say::Bytes, Say::Words(b" is no letter of the language")],
-        note: &[Say::Words(b"in strings and comments it may stand")],
+        told: b"letter\n$b is no letter of the language\nin strings and comments it may stand",
     },
     Rule {
-        tests: &[Test::Least(33), Test::Most(126)],
+        flaw: Flaw::Byte,
+        begins: b"",
+        least: 33,
+        most: 126,
+        also: Also::Nothing,
         pair: false,
-        code: b"byte",
-        words: &[Say::Bytes, Say::Words(b" stands in no token")],
-        note: &[],
+        told: b"byte\n$b stands in no token",
     },
 ];
 
 const OTHERWISE: Rule = Rule {
-    tests: &[],
+    flaw: Flaw::Byte,
+    begins: b"",
+    least: 0,
+    most: 255,
+    also: Also::Nothing,
     pair: false,
-    code: b"byte",
-    words: &[
-        Say::Words(b"the byte "),
-        Say::Number,
-        Say::Words(b" stands in no token"),
-    ],
-    note: &[],
+    told: b"byte\nthe byte $n stands in no token",
 };
-
-fn holds(bytes: &[u8], x: &Spoilt, raw: &[u8], test: Test) -> bool {
-    match test {
-        Test::Flaw(flaw) => x.flaw == flaw,
-        Test::Begins(with) => raw.starts_with(with),
-        Test::Front => x.at == 0,
-        Test::Single => raw.len() < 2,
-        Test::Next(byte) => byte_at(bytes, x.at.saturating_add(1)) == byte,
-        Test::Least(byte) => byte_at(raw, 0) >= byte,
-        Test::Most(byte) => byte_at(raw, 0) <= byte,
-    }
-}
-
-fn fits(bytes: &[u8], x: &Spoilt, raw: &[u8], rule: &Rule) -> bool {
-    for test in rule.tests {
-        if !holds(bytes, x, raw, *test) {
-            return false;
-        }
-    }
-    true
-}
 
 /// The first rule that fits.
 fn rule_for(bytes: &[u8], x: &Spoilt, raw: &[u8]) -> &'static Rule {
+    let first = byte_at(raw, 0);
     for rule in &RULES {
-        if fits(bytes, x, raw, rule) {
+        let also = match rule.also {
+            Also::Nothing => true,
+            Also::Front => x.at == 0,
+            Also::Single => raw.len() < 2,
+            Also::Next(byte) => byte_at(bytes, x.at.saturating_add(1)) == byte,
+        };
+        let within = rule.least <= first && first <= rule.most;
+        if also && within && x.flaw == rule.flaw && raw.starts_with(rule.begins) {
             return rule;
         }
     }
     &OTHERWISE
 }
 
-fn phrase_of(raw: &[u8], say: Say) -> Phrase<'_> {
-    match say {
-        Say::Words(words) => Phrase::Words(words),
-        Say::Bytes => Phrase::Shown(raw),
-        Say::Inner => Phrase::Shown(between(raw, 1, raw.len().saturating_sub(1))),
-        Say::Number => Phrase::Number(byte_at(raw, 0) as u64),
-    }
-}
-
-fn said_of(alloc: Global, raw: &[u8], says: &[Say]) -> Result<Text, Starved> {
-    let mut out = Seq::new(alloc);
-    for say in says {
-        put_phrase(alloc, phrase_of(raw, *say), &mut out)?;
-    }
-    Ok(out)
+/// What is told of bytes, with what stands for `$` and the letter behind it.
+fn phrases_of<'a>(raw: &'a [u8], told: &'static [u8]) -> [Phrase<'a>; 3] {
+    let (front, behind) = cut_at(told, b'$');
+    let inner = between(raw, 1, raw.len().saturating_sub(1));
+    let (phrase, rest) = match behind.split_first() {
+        Some((letter, rest)) => {
+            let phrase = match *letter {
+                b'b' => Phrase::Shown(raw),
+                b'n' => Phrase::Number(byte_at(raw, 0) as u64),
+                _ => Phrase::Shown(inner),
+            };
+            (phrase, rest)
+        }
+        None => (Phrase::Words(b""), behind),
+    };
+    [Phrase::Words(front), phrase, Phrase::Words(rest)]
 }
 
 /// Why these bytes are refused.
 pub fn byte_reason(alloc: Global, bytes: &[u8], x: &Spoilt) -> Result<Reason, Starved> {
     let raw = between(bytes, x.at, x.end);
     let rule = rule_for(bytes, x, raw);
-    let words = said_of(alloc, raw, rule.words)?;
-    let note = said_of(alloc, raw, rule.note)?;
+    let (code, told) = cut_at(rule.told, b'\n');
+    let (words, note) = cut_at(told, b'\n');
     let end = if rule.pair {
         x.at.saturating_add(2)
     } else {
         x.end
     };
-    let words = [Phrase::Words(words.as_slice())];
     reason_of(
         alloc,
         (x.at, end),
-        rule.code,
-        &words,
-        &[Phrase::Words(note.as_slice())],
+        code,
+        &phrases_of(raw, words),
+        &phrases_of(raw, note),
     )
 }
 
@@ -283,19 +290,38 @@ fn too_deep<'a>(marks: &[Mark<'a>]) -> Option<Mark<'a>> {
 
 /// Which limit a piece passes.
 pub fn limit_reason(alloc: Global, p: &Piece<'_>) -> Result<Reason, Starved> {
-    if let Some(m) = too_deep(p.marks) {
-        let words = [Phrase::Words(b"more than 250 brackets are open here")];
-        return reason_of(alloc, (m.at, m.end), b"limit", &words, &[]);
-    }
-    let span = match p.marks.first() {
-        Some(m) => (m.at, m.end),
-        None => (0, 1),
+    let (span, words, note): (_, &[u8], &[u8]) = match (too_deep(p.marks), p.marks.first()) {
+        (Some(m), _) => ((m.at, m.end), b"more than 250 brackets are open here", b""),
+        (None, Some(m)) => ((m.at, m.end), TOO_LARGE, BREAK_UP),
+        (None, None) => ((0, 1), TOO_LARGE, BREAK_UP),
     };
-    let words = [Phrase::Words(
-        b"a term or formula of this clause has more than 10,000 nodes or 250 levels",
-    )];
-    let note = [Phrase::Words(b"break it up into rules")];
-    reason_of(alloc, span, b"limit", &words, &note)
+    reason_of(
+        alloc,
+        span,
+        b"limit",
+        &[Phrase::Words(words)],
+        &[Phrase::Words(note)],
+    )
+}
+
+const TOO_LARGE: &[u8] =
+    b"a term or formula of this clause has more than 10,000 nodes or 250 levels";
+
+const BREAK_UP: &[u8] = b"break it up into rules";
+
+/// A reason that names a token behind some words.
+fn reason_naming(
+    alloc: Global,
+    m: &Mark<'_>,
+    code: &'static [u8],
+    words: &[u8],
+    note: &[Phrase<'_>],
+) -> Result<Option<Reason>, Starved> {
+    let words = [Phrase::Words(words), Phrase::Words(m.text)];
+    match reason_of(alloc, (m.at, m.end), code, &words, note) {
+        Ok(r) => Ok(Some(r)),
+        Err(_) => Err(Starved),
+    }
 }
 
 /// Why a piece is refused that uses an artifact which is not there, where these are.
@@ -304,22 +330,17 @@ pub fn artifact_reason(
     p: &Piece<'_>,
     known: &[u8],
 ) -> Result<Option<Reason>, Starved> {
-    let Some(m) = p.marks.get(1) else {
-        return Ok(None);
-    };
-    let note = [Phrase::Words(b"there are:"), Phrase::Words(known)];
-    let words = [Phrase::Words(b"no artifact "), Phrase::Words(m.text)];
-    let span = (m.at, m.end);
-    Ok(Some(reason_of(alloc, span, b"artifact", &words, &note)?))
+    match p.marks.get(1) {
+        Some(m) => {
+            let note = [Phrase::Words(b"there are:"), Phrase::Words(known)];
+            reason_naming(alloc, m, b"artifact", b"no artifact ", &note)
+        }
+        None => Ok(None),
+    }
 }
 
 const UNBOUND: &[u8] =
     b"a variable of an effect stands in the act, behind by, or in a literal of the guard without not";
-
-fn is_named(m: &Mark<'_>, name: &[u8]) -> bool {
-    let unnamed = m.text == b"_".as_slice() && name.starts_with(b"_ ");
-    matches!(m.word, Word::Var) && (unnamed || m.text == name)
-}
 
 /// Why a piece is refused of which an effect has a variable of this name that nothing binds.
 pub fn unbound_reason(
@@ -327,14 +348,17 @@ pub fn unbound_reason(
     p: &Piece<'_>,
     name: &[u8],
 ) -> Result<Option<Reason>, Starved> {
-    let r = read(alloc, p.marks, true, p.used)?;
+    let world = Piece { world: true, ..*p };
+    let r = read(alloc, &world);
+    if r.spent {
+        return Err(Starved);
+    }
     let from = r.arrow.min(p.marks.len());
     for m in &p.marks[from..] {
-        if is_named(m, name) {
+        let unnamed = m.text == b"_".as_slice() && name.starts_with(b"_ ");
+        if matches!(m.word, Word::Var) && (unnamed || m.text == name) {
             let note = [Phrase::Words(UNBOUND)];
-            let words = [Phrase::Words(b"nothing binds "), Phrase::Words(m.text)];
-            let span = (m.at, m.end);
-            return Ok(Some(reason_of(alloc, span, b"unbound", &words, &note)?));
+            return reason_naming(alloc, m, b"unbound", b"nothing binds ", &note);
         }
     }
     Ok(None)

@@ -11,6 +11,7 @@ pub mod clause;
 pub mod excerpt;
 pub mod expression;
 pub mod flaws;
+pub mod grammar;
 pub mod mark;
 pub mod mending;
 pub mod phrase;

@@ -1,4 +1,4 @@
-//! Tokens with their places, and tokens that are tried in the place of others.
+//! Tokens with their places, and tokens that are put in the place of others. Lists of words.
 
 use asl_lexer::lexing::tokens;
 use asl_lexer::scan::token_at;
@@ -27,23 +27,6 @@ pub fn between(bytes: &[u8], from: usize, to: usize) -> &[u8] {
     }
 }
 
-fn mark_of<'a>(bytes: &'a [u8], t: &Tok) -> Mark<'a> {
-    let at = (t.at as usize).min(bytes.len());
-    let len = match token_at(&bytes[at..]) {
-        Some((_, len)) => len,
-        None => 0,
-    };
-    let end = at.saturating_add(len).min(bytes.len());
-    Mark {
-        word: word(t),
-        text: between(bytes, at, end),
-        at,
-        end,
-        line: t.line,
-        column: t.column,
-    }
-}
-
 /// The tokens of a piece of these bytes.
 pub fn marks_of<'a>(
     alloc: Global,
@@ -52,7 +35,20 @@ pub fn marks_of<'a>(
 ) -> Result<Vec<Mark<'a>>, Starved> {
     let mut all = Vec::new(alloc);
     for t in toks {
-        all.push(mark_of(bytes, t))?;
+        let at = (t.at as usize).min(bytes.len());
+        let len = match token_at(&bytes[at..]) {
+            Some((_, len)) => len,
+            None => 0,
+        };
+        let end = at.saturating_add(len).min(bytes.len());
+        all.push(Mark {
+            word: word(t),
+            text: between(bytes, at, end),
+            at,
+            end,
+            line: t.line,
+            column: t.column,
+        })?;
     }
     Ok(all)
 }
@@ -69,27 +65,21 @@ fn word_of(alloc: Global, text: &[u8]) -> Result<Word, Starved> {
     }
 }
 
-/// A token of no bytes at a place of a piece, or behind it.
-fn nothing_at<'a>(marks: &[Mark<'a>], at: usize) -> Mark<'a> {
-    let m = match marks.get(at) {
-        Some(m) => Some(m),
-        None => marks.last(),
-    };
-    match m {
-        Some(m) => Mark {
-            word: Word::Other,
-            text: b"",
-            end: m.at,
-            ..*m
-        },
-        None => Mark {
-            word: Word::Other,
-            text: b"",
-            at: 0,
-            end: 0,
-            line: 1,
-            column: 1,
-        },
+/// What stands where there is no token: no word, and a place that no token has.
+pub const NO_MARK: Mark<'static> = Mark {
+    word: Word::Other,
+    text: b"",
+    at: usize::MAX,
+    end: usize::MAX,
+    line: 0,
+    column: 0,
+};
+
+/// The token at a place of a piece.
+pub fn mark_at<'a>(marks: &[Mark<'a>], place: usize) -> Mark<'a> {
+    match marks.get(place) {
+        Some(m) => *m,
+        None => NO_MARK,
     }
 }
 
@@ -107,12 +97,13 @@ pub fn spliced<'a>(
     for m in &marks[..from] {
         all.push(*m)?;
     }
-    let like = nothing_at(marks, at);
+    let like = mark_at(marks, at.min(marks.len().saturating_sub(1)));
     for text in put {
         if !text.is_empty() {
             all.push(Mark {
                 word: word_of(alloc, *text)?,
                 text: *text,
+                end: like.at,
                 ..like
             })?;
         }
@@ -121,6 +112,32 @@ pub fn spliced<'a>(
         all.push(*m)?;
     }
     Ok(all)
+}
+
+/// The bytes before the first such byte, and those behind it.
+pub fn cut_at(bytes: &[u8], byte: u8) -> (&[u8], &[u8]) {
+    for (at, b) in bytes.iter().enumerate() {
+        if *b == byte {
+            return (
+                between(bytes, 0, at),
+                between(bytes, at.saturating_add(1), bytes.len()),
+            );
+        }
+    }
+    (bytes, b"")
+}
+
+/// Whether a word is one of these, which have a blank between them.
+pub fn is_listed(words: &[u8], word: &[u8]) -> bool {
+    let mut rest = words;
+    for _ in words {
+        let (first, behind) = cut_at(rest, b' ');
+        if first == word && !word.is_empty() {
+            return true;
+        }
+        rest = behind;
+    }
+    false
 }
 
 /// Whether it is spelled as an atom is; the reserved words are.

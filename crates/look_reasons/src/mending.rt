@@ -1,12 +1,11 @@
 //! Changes at the place where a reading stops: the first with which the whole piece is read, and what may stand there.
 
-use crate::mark::{Mark, is_any_sign, spliced};
-use crate::phrase::Phrase;
+use crate::bytes::byte_at;
+use crate::mark::{Mark, cut_at, is_any_sign, mark_at, spliced};
 use crate::reading::read;
 use asl_lexer::token::Word;
 use asl_term::copying::text_of;
-use asl_term::printing::write_number;
-use asl_term::sequence::{Seq, Starved};
+use asl_term::sequence::Starved;
 use asl_term::syntax::Text;
 use std::alloc::Global;
 
@@ -26,6 +25,8 @@ pub struct Piece<'a> {
 
 #[derive(Clone, Copy, PartialEq, Eq)]
 pub enum FixKind {
+    /// No change mends the piece.
+    None,
     Dot,
     Bracket,
     Missing,
@@ -34,76 +35,20 @@ pub enum FixKind {
     Extra,
 }
 
-/// All of these, one behind the other.
-pub fn joined(alloc: Global, parts: &[&[u8]]) -> Result<Text, Starved> {
-    let mut text = Seq::new(alloc);
-    for part in parts {
-        text.append(*part)?;
-    }
-    Ok(text)
-}
-
-/// `L:C`
-pub fn put_place(alloc: Global, line: u64, column: u64, out: &mut Text) -> Result<(), Starved> {
-    write_number(alloc, line, out)?;
-    out.push(b':')?;
-    write_number(alloc, column, out)
-}
-
-/// A change: what is put, for which pair of signs or behind which line and column.
+/// A change: what is put, in place of which pair of signs, or behind which line and column.
 #[derive(Clone, Copy)]
 pub struct Fix {
     pub kind: FixKind,
     pub put: &'static [u8],
-    pair: &'static [u8],
-    place: (u64, u64),
+    pub pair: &'static [u8],
+    pub line: u64,
+    pub column: u64,
 }
 
-/// A change in words.
-pub fn fix_phrases(fix: &Fix) -> [Phrase<'static>; 5] {
-    let nothing = Phrase::Words(b"");
-    let write = Phrase::Words(b"write ");
-    let put = Phrase::Words(fix.put);
-    let read = Phrase::Words(b": then the clause is read");
-    match fix.kind {
-        FixKind::Extra => {
-            let words = Phrase::Words(b"without it the clause is read");
-            [words, nothing, nothing, nothing, nothing]
-        }
-        FixKind::Instead => [write, put, Phrase::Words(b" in its place"), read, nothing],
-        FixKind::Relation => {
-            let place = Phrase::Words(b" in place of ");
-            [write, put, place, Phrase::Words(fix.pair), read]
-        }
-        FixKind::Dot | FixKind::Bracket | FixKind::Missing => {
-            let (line, column) = fix.place;
-            let place = Phrase::Place(line, column);
-            [
-                Phrase::Words(b"put "),
-                put,
-                Phrase::Words(b" at "),
-                place,
-                read,
-            ]
-        }
-    }
-}
-
-/// What is tried in place of a token. The first of these are tried before it too.
-const PUT: [&[u8]; 10] = [
-    b";", b")", b"]", b"&", b",", b"<-", b":", b"<=", b".print", b".",
-];
-
-const MISSING: usize = 8;
-
-/// Pairs of signs, and the sign that is meant.
-const PAIRS: [(&[u8], &[u8]); 5] = [
-    (b"=<", b"<="),
-    (b"=>", b">="),
-    (b"!=", b"\\=="),
-    (b"&&", b"&"),
-    (b"||", b"|"),
-];
+/// Changes in the order in which they are tried, one in each line: a letter for what is done, what is put, and in place of which pair of signs.
+const CHANGES: &[u8] =
+    b"l .\nm ;\nb )\nb ]\nm &\nm ,\nm <-\nm :\nm <=\ne .\ni ;\ni )\ni ]\ni &\ni ,\ni <-\ni :\ni <=\ni .print\ni .\n\
+    r <= =<\nr >= =>\nr \\== !=\nr & &&\nr | ||\nx";
 
 /// A piece of which changes are tried, and whether memory was refused.
 #[derive(Clone, Copy)]
@@ -112,174 +57,6 @@ struct Trial<'a> {
     piece: Piece<'a>,
     at: usize,
     spent: bool,
-}
-
-/// Whether a piece is read whole where this stands in place of some tokens, and how far it is read.
-fn outcome(
-    alloc: Global,
-    p: &Piece<'_>,
-    at: usize,
-    removed: usize,
-    put: &'static [u8],
-) -> Result<(bool, usize), Starved> {
-    let changed = spliced(alloc, p.marks, at, removed, &[put])?;
-    let r = read(alloc, changed.as_slice(), p.world, p.used)?;
-    Ok((r.is_whole(), r.at))
-}
-
-impl<'a> Trial<'a> {
-    fn try_with(&mut self, at: usize, removed: usize, put: &'static [u8]) -> (bool, usize) {
-        match outcome(self.alloc, &self.piece, at, removed, put) {
-            Ok(outcome) => outcome,
-            Err(_) => {
-                self.spent = true;
-                (false, 0)
-            }
-        }
-    }
-
-    /// Whether the piece is read whole where this stands in place of so many tokens.
-    fn is_read(&mut self, at: usize, removed: usize, put: &'static [u8]) -> bool {
-        self.try_with(at, removed, put).0
-    }
-
-    /// Whether a reading goes over this token at the place.
-    fn goes_over(&mut self, text: &'static [u8]) -> bool {
-        let at = self.at;
-        !text.is_empty() && self.try_with(at, self.piece.marks.len(), text).1 > at
-    }
-
-    fn fix(&self, kind: FixKind, put: &'static [u8]) -> Fix {
-        let place = match self.piece.marks.get(self.at.saturating_sub(1)) {
-            Some(m) => {
-                let len = m.end.saturating_sub(m.at) as u64;
-                (m.line, m.column.saturating_add(len))
-            }
-            None => (0, 0),
-        };
-        Fix {
-            kind,
-            put,
-            pair: b"",
-            place,
-        }
-    }
-}
-
-fn missing(t: &mut Trial<'_>) -> Option<Fix> {
-    let at = t.at;
-    for put in &PUT[..MISSING] {
-        if at > 0 && t.is_read(at, 0, put) {
-            let bracket = matches!(*put, b")" | b"]");
-            let kind = if bracket {
-                FixKind::Bracket
-            } else {
-                FixKind::Missing
-            };
-            return Some(t.fix(kind, put));
-        }
-    }
-    None
-}
-
-/// Whether this may be tried in place of a token of this text.
-fn is_other(put: &[u8], text: &[u8]) -> bool {
-    match put {
-        b".print" => text == b".println".as_slice(),
-        _ => put != text,
-    }
-}
-
-fn instead(t: &mut Trial<'_>, text: &[u8]) -> Option<Fix> {
-    let at = t.at;
-    for put in PUT {
-        if is_other(put, text) && t.is_read(at, 1, put) {
-            return Some(t.fix(FixKind::Instead, put));
-        }
-    }
-    None
-}
-
-/// Whether the tokens here are spelled as a pair.
-pub fn is_pair(marks: &[Mark<'_>], at: usize, pair: &[u8]) -> bool {
-    let (Some(first), Some(second)) = (marks.get(at), marks.get(at.saturating_add(1))) else {
-        return false;
-    };
-    match pair.strip_prefix(first.text) {
-        Some(rest) => rest == second.text,
-        None => false,
-    }
-}
-
-fn any_pair(t: &mut Trial<'_>) -> Option<Fix> {
-    let at = t.at;
-    for (pair, put) in PAIRS {
-        for from in at.saturating_sub(1)..at.saturating_add(1) {
-            if is_pair(t.piece.marks, from, pair) && t.is_read(from, 2, put) {
-                return Some(Fix {
-                    pair,
-                    ..t.fix(FixKind::Relation, put)
-                });
-            }
-        }
-    }
-    None
-}
-
-/// The change where a token stands at the place.
-fn at_token(t: &mut Trial<'_>, m: Mark<'_>) -> Option<Fix> {
-    let at = t.at;
-    let count = t.piece.marks.len();
-    let end = matches!(m.word, Word::End);
-    let ends = at > 0 && !end && t.is_read(at, count, b".");
-    let left = match t.piece.marks.first() {
-        Some(first) => m.column <= first.column,
-        None => false,
-    };
-    if ends && left {
-        return Some(t.fix(FixKind::Dot, b"."));
-    }
-    if let Some(fix) = missing(t) {
-        return Some(fix);
-    }
-    if ends && t.is_read(0, at, b"") {
-        return Some(t.fix(FixKind::Dot, b"."));
-    }
-    if let Some(fix) = changed(t, m) {
-        return Some(fix);
-    }
-    if !end && at.saturating_add(1) < count && t.is_read(at, 1, b"") {
-        return Some(t.fix(FixKind::Extra, b""));
-    }
-    None
-}
-
-/// The change where another token stands in place of this.
-fn changed(t: &mut Trial<'_>, m: Mark<'_>) -> Option<Fix> {
-    if !is_any_sign(m.word) && !matches!(m.word, Word::Inner) {
-        return None;
-    }
-    match instead(t, m.text) {
-        Some(fix) => Some(fix),
-        None => any_pair(t),
-    }
-}
-
-/// The first change at the place with which the whole piece is read.
-fn first_fix(t: &mut Trial<'_>) -> Option<Fix> {
-    let at = t.at;
-    match t.piece.marks.get(at) {
-        Some(m) => {
-            let m = *m;
-            at_token(t, m)
-        }
-        None => {
-            if t.is_read(at, 0, b".") {
-                return Some(t.fix(FixKind::Dot, b"."));
-            }
-            None
-        }
-    }
 }
 
 fn trial_at<'a>(alloc: Global, p: &Piece<'a>, at: usize) -> Trial<'a> {
@@ -291,44 +68,156 @@ fn trial_at<'a>(alloc: Global, p: &Piece<'a>, at: usize) -> Trial<'a> {
     }
 }
 
+impl<'a> Trial<'a> {
+    /// Whether the piece is read whole where this stands in place of so many tokens, and how far it is read.
+    fn try_with(&mut self, at: usize, removed: usize, put: &'static [u8]) -> (bool, usize) {
+        let Ok(changed) = spliced(self.alloc, self.piece.marks, at, removed, &[put]) else {
+            self.spent = true;
+            return (false, 0);
+        };
+        let piece = Piece {
+            marks: changed.as_slice(),
+            ..self.piece
+        };
+        let r = read(self.alloc, &piece);
+        if r.spent {
+            self.spent = true;
+        }
+        (r.halt.is_none() && r.wants.is_empty(), r.at)
+    }
+
+    fn is_read(&mut self, at: usize, removed: usize, put: &'static [u8]) -> bool {
+        self.try_with(at, removed, put).0
+    }
+
+    /// The change at the place; its line and column are those behind the token before.
+    fn fix(&self, kind: FixKind, put: &'static [u8], pair: &'static [u8]) -> Fix {
+        let m = mark_at(self.piece.marks, self.at.saturating_sub(1));
+        let len = m.end.saturating_sub(m.at) as u64;
+        Fix {
+            kind,
+            put,
+            pair,
+            line: m.line,
+            column: m.column.saturating_add(len),
+        }
+    }
+
+    /// Whether the piece is read where this stands in place of this pair of signs, at the place or directly before it.
+    fn is_read_for_pair(&mut self, put: &'static [u8], pair: &[u8]) -> bool {
+        let at = self.at;
+        for from in at.saturating_sub(1)..at.saturating_add(1) {
+            if is_pair(self.piece.marks, from, pair) && self.is_read(from, 2, put) {
+                return true;
+            }
+        }
+        false
+    }
+}
+
+/// Whether this may be tried in place of a token of this text.
+fn is_other(put: &[u8], text: &[u8]) -> bool {
+    if put == b".print".as_slice() {
+        text == b".println".as_slice()
+    } else {
+        put != text
+    }
+}
+
+/// Whether the tokens here are spelled as a pair.
+pub fn is_pair(marks: &[Mark<'_>], at: usize, pair: &[u8]) -> bool {
+    let first = mark_at(marks, at).text;
+    let second = mark_at(marks, at.saturating_add(1)).text;
+    pair.len() == first.len().saturating_add(second.len())
+        && pair.starts_with(first)
+        && pair.ends_with(second)
+}
+
+/// What is done by a change of this letter.
+fn kind_of(letter: u8) -> FixKind {
+    match letter {
+        // A dot before a token that stands as far left as the first, and before any.
+        b'l' | b'e' => FixKind::Dot,
+        b'b' => FixKind::Bracket,
+        b'm' => FixKind::Missing,
+        b'i' => FixKind::Instead,
+        b'r' => FixKind::Relation,
+        _ => FixKind::Extra,
+    }
+}
+
 /// The first change at the place with which the whole piece is read.
-pub fn mend(alloc: Global, p: &Piece<'_>, at: usize) -> Result<Option<Fix>, Starved> {
+fn first_fix(t: &mut Trial<'_>) -> Fix {
+    let at = t.at;
+    let count = t.piece.marks.len();
+    let m = mark_at(t.piece.marks, at);
+    let end = matches!(m.word, Word::End);
+    let within = at > 0 && at < count;
+    let ends = (at >= count || (at > 0 && !end)) && t.is_read(at, count, b".");
+    let left = at >= count || m.column <= mark_at(t.piece.marks, 0).column;
+    let sign = is_any_sign(m.word) || matches!(m.word, Word::Inner);
+    let mut rest = CHANGES;
+    for _ in CHANGES {
+        let (line, behind) = cut_at(rest, b'\n');
+        let (way, words) = cut_at(line, b' ');
+        let (put, pair) = cut_at(words, b' ');
+        let letter = byte_at(way, 0);
+        let mends = match letter {
+            b'l' => ends && left,
+            b'e' => ends && within && t.is_read(0, at, b""),
+            b'b' | b'm' => within && t.is_read(at, 0, put),
+            b'i' => sign && is_other(put, m.text) && t.is_read(at, 1, put),
+            b'r' => sign && t.is_read_for_pair(put, pair),
+            b'x' => !end && at.saturating_add(1) < count && t.is_read(at, 1, b""),
+            _ => false,
+        };
+        if mends {
+            return t.fix(kind_of(letter), put, pair);
+        }
+        rest = behind;
+    }
+    t.fix(FixKind::None, b"", b"")
+}
+
+/// The first change at the place with which the whole piece is read.
+pub fn mend(alloc: Global, p: &Piece<'_>, at: usize) -> Result<Fix, Starved> {
     let mut t = trial_at(alloc, p, at);
     let fix = first_fix(&mut t);
     if t.spent { Err(Starved) } else { Ok(fix) }
 }
 
-/// What may stand at a place: its name, and tokens of the kind.
-const KINDS: [(&[u8], &[u8], &[u8]); 28] = [
-    (b"a name", b"p", b""),
-    (b"a variable", b"X", b""),
-    (b"a number", b"1", b""),
-    (b"a string", b"\"s\"", b""),
-    (b"an internal action", b".print", b".length"),
-    (b"an operator", b"+", b"*"),
-    (b"a relation", b"<", b"=="),
-    (b"the dot", b".", b""),
-    (b"(", b"(", b""),
-    (b")", b")", b""),
-    (b"[", b"[", b""),
-    (b"]", b"]", b""),
-    (b",", b",", b""),
-    (b";", b";", b""),
-    (b":", b":", b""),
-    (b"&", b"&", b""),
-    (b"|", b"|", b""),
-    (b":-", b":-", b""),
-    (b"<-", b"<-", b""),
-    (b"->", b"->", b""),
-    (b"!", b"!", b""),
-    (b"?", b"?", b""),
-    (b"-+", b"-+", b""),
-    (b"~", b"~", b""),
-    (b"@", b"@", b""),
-    (b"not", b"not", b""),
-    (b"by", b"by", b""),
-    (b"true", b"true", b""),
-];
+/// What may stand at a place: in each line its name, and a token of the kind.
+const KINDS: &[u8] = b"a name\tp
+a variable\tX
+a number\t1
+a string\t\"s\"
+an internal action\t.print
+an internal action\t.length
+an operator\t+
+an operator\t*
+a relation\t<
+a relation\t==
+the dot\t.
+(\t(
+)\t)
+[\t[
+]\t]
+,\t,
+;\t;
+:\t:
+&\t&
+|\t|
+:-\t:-
+<-\t<-
+->\t->
+!\t!
+?\t?
+-+\t-+
+~\t~
+@\t@
+not\tnot
+by\tby
+true\ttrue";
 
 /// At most so many kinds are named.
 const MOST_KINDS: usize = 9;
@@ -336,13 +225,20 @@ const MOST_KINDS: usize = 9;
 /// What may stand at the place, in words, where it is at most so many kinds; else nothing.
 pub fn expected(alloc: Global, p: &Piece<'_>, at: usize) -> Result<Text, Starved> {
     let mut t = trial_at(alloc, p, at);
+    let at = t.at;
     let mut words = text_of(alloc, b"here may stand:")?;
     let mut count: usize = 0;
-    for (name, one, other) in &KINDS {
-        if t.goes_over(*one) || t.goes_over(*other) {
+    let mut last: &[u8] = b"";
+    let mut rest = KINDS;
+    for _ in KINDS {
+        let (line, behind) = cut_at(rest, b'\n');
+        let (name, put) = cut_at(line, b'\t');
+        rest = behind;
+        if !put.is_empty() && name != last && t.try_with(at, p.marks.len(), put).1 > at {
             words.append(if count == 0 { b" " } else { b"  " })?;
-            words.append(*name)?;
+            words.append(name)?;
             count = count.saturating_add(1);
+            last = name;
         }
     }
     if t.spent {

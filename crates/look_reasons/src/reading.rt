@@ -1,29 +1,16 @@
 //! A reading of a piece that stops at the first token with which no reading goes on. What is still wanted stands on a stack; each step takes the
-//! topmost want, and puts others in its place or goes over a token.
+//! topmost want, and does what the first row of its state that holds says.
 
-use crate::mark::{Mark, is_atom, is_sign};
-use crate::table::{Arity, NO_ARGUMENTS};
+use crate::grammar::{Act, Also, Class, Mode, Place, Row, Spelling, State};
+use crate::mark::{Mark, is_atom, is_relation, is_sign, mark_at};
+use crate::mending::Piece;
+use crate::table::{Arity, NO_ARGUMENTS, arity_of};
 use crate::{clause, expression, world};
 use asl_lexer::token::{Sign, Word};
-use asl_term::sequence::Starved;
 use std::alloc::Global;
 
-/// In which place an expression stands.
-#[derive(Clone, Copy)]
-pub enum Mode {
-    Term,
-    Formula,
-    /// A formula in brackets: it may still become a side of a relation.
-    InnerFormula,
-    Item,
-    InnerItem,
-    /// A part of a guard.
-    Guard,
-    InnerGuard,
-}
-
 /// What an expression was.
-#[derive(Clone, Copy)]
+#[derive(Clone, Copy, PartialEq, Eq)]
 pub enum Left {
     Literal,
     /// A literal with `~` or annotations.
@@ -110,60 +97,33 @@ pub enum Sort {
     Act,
 }
 
-/// What is still wanted.
+/// An internal action of which the arguments are read: its place, what it takes, and how many arguments stand before.
 #[derive(Clone, Copy)]
-pub enum Want {
-    /// The piece ends here.
-    End(Halt),
-    Close(Sign, Halt),
-    Set(Left),
-    Or(Mode),
-    MoreOr(Mode),
-    And(Mode),
-    MoreAnd(Mode),
-    Not(Mode),
-    GuardNot,
-    Related(Mode),
-    MoreRelated(Mode),
-    Sum(Mode),
-    MoreSum,
-    Product(Mode),
-    MoreProduct,
-    Prime(Mode),
-    /// Argument of the internal action at this place, which takes so many, and how many stand before it.
-    Given(usize, Arity, usize),
-    MoreGiven(usize, Arity, usize),
-    Literal(Part),
-    Annotations(bool),
-    Terms(Sign, Halt),
-    MoreTerms(Sign, Halt),
-    List,
-    MoreList,
-    WithArithmetic,
-    BeliefRest,
-    TriggerRest,
-    Body(Halt),
-    Item,
-    ItemDone,
-    MoreItems,
-    ActBy,
-    ActArrow,
-    Effect,
-    MoreEffects,
+pub struct Call {
+    pub place: usize,
+    pub arity: Arity,
+    pub count: usize,
+}
+
+/// What is still wanted, in which mode, and within the arguments of which internal action.
+#[derive(Clone, Copy)]
+pub struct Want {
+    pub state: State,
+    pub mode: Mode,
+    pub call: Call,
 }
 
 /// How far a reading has come.
 pub struct Reading<'a> {
     pub alloc: Global,
-    pub marks: &'a [Mark<'a>],
+    pub piece: Piece<'a>,
     pub at: usize,
     pub left: Left,
-    /// A piece of a world, and the names that it uses already.
-    pub world: bool,
-    pub used: &'a [Mark<'a>],
     /// Whether arithmetic and variables may not stand here.
     pub plain: bool,
     pub ground: bool,
+    /// What is wanted now, and what behind it.
+    pub now: Want,
     pub wants: Vec<Want>,
     /// The places of open brackets.
     pub opened: Vec<usize>,
@@ -175,7 +135,7 @@ pub struct Reading<'a> {
     pub halt: Option<Halt>,
     /// The literal and the internal action at which it stopped.
     pub part: Part,
-    pub counted: Option<usize>,
+    pub counted: usize,
     pub arity: Arity,
     /// Whether memory was refused.
     pub spent: bool,
@@ -186,13 +146,12 @@ impl<'a> Drop for Reading<'a> {
     fn drop(self) {
         let Reading {
             alloc: _,
-            marks: _,
+            piece: _,
             at: _,
             left: _,
-            world: _,
-            used: _,
             plain: _,
             ground: _,
+            now: _,
             wants: _,
             opened: _,
             sort: _,
@@ -208,109 +167,253 @@ impl<'a> Drop for Reading<'a> {
 }
 
 impl<'a> Reading<'a> {
-    /// What the token is that is next.
-    pub fn word(&self) -> Word {
-        match self.marks.get(self.at) {
-            Some(m) => m.word,
-            None => Word::Other,
-        }
-    }
-
-    pub fn is_sign(&self, sign: Sign) -> bool {
-        is_sign(self.word(), sign)
-    }
-
-    pub fn is_atom(&self) -> bool {
-        is_atom(self.word())
-    }
-
-    /// Whether the token is spelled so.
-    pub fn is_text(&self, text: &[u8]) -> bool {
-        match self.marks.get(self.at) {
-            Some(m) => m.text == text,
-            None => false,
-        }
-    }
-
-    pub fn go(&mut self) {
-        self.at = self.at.saturating_add(1);
-    }
-
-    /// Wants this before all that is wanted so far.
-    pub fn want(&mut self, want: Want) {
+    fn want(&mut self, want: Want) {
         if self.wants.push(want).is_err() {
             self.spent = true;
         }
     }
 
-    pub fn stop(&mut self, halt: Halt) {
-        self.halt = Some(halt);
+    fn go(&mut self) {
+        self.at = self.at.saturating_add(1);
     }
 
-    pub fn open(&mut self) {
+    fn open(&mut self) {
         if self.opened.push(self.at).is_err() {
             self.spent = true;
         }
         self.go();
     }
 
-    pub fn close(&mut self, sign: Sign, halt: Halt) {
-        if self.is_sign(sign) {
-            self.go();
-            let _ = self.opened.pop();
-        } else {
-            self.stop(halt);
-        }
-    }
-
+    /// Stops unless the next token is the dot, and the last of the piece.
     fn end(&mut self, halt: Halt) {
-        let ends = matches!(self.word(), Word::End);
+        let ends = matches!(mark_at(self.piece.marks, self.at).word, Word::End);
         if ends {
             self.go();
         }
-        if !ends || self.at != self.marks.len() {
-            self.stop(halt);
+        if !ends || self.at != self.piece.marks.len() {
+            self.halt = Some(halt);
         }
     }
+}
 
-    /// Whether the piece is read whole.
-    pub fn is_whole(&self) -> bool {
-        self.halt.is_none() && self.wants.is_empty()
+/// Whether a token is of a class.
+pub fn is_of(word: Word, class: Class) -> bool {
+    match class {
+        Class::Any => true,
+        Class::Word(w) => word == w,
+        Class::Sign(sign) => is_sign(word, sign),
+        Class::Either(one, other) => is_sign(word, one) || is_sign(word, other),
+        Class::Atom => is_atom(word),
+        Class::Agent => is_atom(word) || matches!(word, Word::Var),
+        Class::Literal => matches!(
+            word,
+            Word::Atom | Word::Not | Word::Div | Word::Mod | Word::Sign(Sign::Tilde)
+        ),
+        Class::Constant => matches!(word, Word::Number | Word::Str),
+        Class::Factor => matches!(word, Word::Sign(Sign::Star) | Word::Div | Word::Mod),
+        Class::Change => matches!(word, Word::Sign(Sign::Plus | Sign::Minus | Sign::MinusPlus)),
+        Class::Relation => is_relation(word),
     }
 }
 
-fn step(r: &mut Reading<'_>, want: Want) {
-    match want {
-        Want::End(halt) => r.end(halt),
-        Want::Close(sign, halt) => r.close(sign, halt),
-        Want::Set(left) => r.left = left,
-        Want::WithArithmetic => r.plain = false,
-        Want::BeliefRest
-        | Want::TriggerRest
-        | Want::Body(_)
-        | Want::Item
-        | Want::ItemDone
-        | Want::MoreItems => clause::step(r, want),
-        Want::ActBy | Want::ActArrow | Want::Effect | Want::MoreEffects => world::step(r, want),
-        _ => expression::step(r, want),
+fn is_in(mode: Mode, place: Place) -> bool {
+    match place {
+        Place::Any => true,
+        Place::Term => matches!(mode, Mode::Term),
+        Place::Outside => !matches!(mode, Mode::Term),
+        Place::Formula => matches!(mode, Mode::Formula | Mode::InnerFormula),
+        Place::Item => matches!(mode, Mode::Item | Mode::InnerItem),
+        Place::Guard => matches!(mode, Mode::Guard | Mode::InnerGuard),
+        Place::Body => !matches!(mode, Mode::Term | Mode::Guard | Mode::InnerGuard),
+        Place::WholeFormula => matches!(mode, Mode::Formula),
+        Place::WholeGuard => matches!(mode, Mode::Guard),
     }
 }
 
-fn start<'a>(
-    alloc: Global,
-    marks: &'a [Mark<'a>],
-    world: bool,
-    used: &'a [Mark<'a>],
-) -> Reading<'a> {
+fn spelled(spelling: Spelling) -> &'static [u8] {
+    match spelling {
+        Spelling::Hide => b"hide",
+        Spelling::Use => b"use",
+        Spelling::Act => b"act",
+        Spelling::By => b"by",
+        Spelling::Drop => b"drop",
+    }
+}
+
+fn is_used(used: &[Mark<'_>], name: &[u8]) -> bool {
+    for m in used {
+        if m.text == name {
+            return true;
+        }
+    }
+    false
+}
+
+/// Whether an expression was a term, or may be one.
+fn is_term(left: Left) -> bool {
+    matches!(
+        left,
+        Left::Literal | Left::Marked | Left::True | Left::False | Left::Term
+    )
+}
+
+fn holds(r: &Reading<'_>, also: Also) -> bool {
+    let text = mark_at(r.piece.marks, r.at).text;
+    let next = mark_at(r.piece.marks, r.at.saturating_add(1)).word;
+    let call = r.now.call;
+    let unfit = matches!(r.left, Left::Term | Left::True | Left::False);
+    match also {
+        Also::Nothing => true,
+        Also::Left(left) => r.left == left,
+        Also::Formed => !matches!(r.left, Left::Term),
+        Also::Logical => !unfit,
+        Also::Unfit => unfit,
+        Also::Termlike => is_term(r.left),
+        Also::Arithmetic => !r.plain && is_term(r.left),
+        Also::Free => !r.plain,
+        Also::Variables => !r.ground,
+        Also::Agent => !r.piece.world,
+        Also::Full => call.arity.high == Some(call.count),
+        Also::Few => call.count < call.arity.low,
+        Also::Formula => call.arity.formula == Some(call.count),
+        Also::Impure => !call.arity.pure,
+        Also::Text(spelling) => text == spelled(spelling),
+        Also::BeforeAtom(spelling) => text == spelled(spelling) && is_atom(next),
+        Also::BeforeTilde(spelling) => text == spelled(spelling) && is_sign(next, Sign::Tilde),
+        Also::Used => is_used(r.piece.used, text),
+    }
+}
+
+/// Looks the internal action up that is next, and stops where there is none.
+fn find(r: &mut Reading<'_>) {
+    let place = r.at;
+    match arity_of(r.alloc, mark_at(r.piece.marks, place).text) {
+        Ok(Some(arity)) => {
+            r.now.call = Call {
+                place,
+                arity,
+                count: 0,
+            };
+        }
+        Ok(None) => r.halt = Some(Halt::NoInner),
+        Err(_) => r.spent = true,
+    }
+}
+
+fn enact(r: &mut Reading<'_>, act: Act) {
+    match act {
+        Act::Go => r.go(),
+        Act::Open => r.open(),
+        Act::Shut => {
+            r.go();
+            let _ = r.opened.pop();
+        }
+        Act::Stop(halt) => r.halt = Some(halt),
+        Act::End(halt) => r.end(halt),
+        Act::Want(state) => r.want(Want { state, ..r.now }),
+        Act::In(mode) => r.now.mode = mode,
+        Act::Left(left) => r.left = left,
+        Act::Plain(plain) => r.plain = plain,
+        Act::Ground => r.ground = true,
+        Act::Sort(sort) => r.sort = sort,
+        Act::Part(part) => r.part = part,
+        Act::Item => r.item = Some(r.at),
+        Act::Arrow => r.arrow = r.at,
+        Act::Find => find(r),
+        Act::Count => r.now.call.count = r.now.call.count.saturating_add(1),
+        Act::Miscount => {
+            r.counted = r.now.call.place;
+            r.arity = r.now.call.arity;
+        }
+    }
+}
+
+/// The rows in which those of a state stand.
+fn rows_of(state: State) -> &'static [Row] {
+    match state {
+        State::Clause
+        | State::Label
+        | State::Trigger
+        | State::TriggerKind
+        | State::Pattern
+        | State::WithArithmetic => clause::clause_rows(),
+        State::BeliefRest
+        | State::TriggerRest
+        | State::ContextRest
+        | State::HeadEnd
+        | State::FormulaEnd
+        | State::FactEnd => clause::rest_rows(),
+        State::Item | State::ItemDone | State::MoreItems => clause::item_rows(),
+        State::World | State::Use => world::world_rows(),
+        State::ActBy | State::Who | State::Guard | State::ActArrow => world::act_rows(),
+        State::Effect | State::Dropped | State::MoreEffects => world::effect_rows(),
+        other => expression_rows(other),
+    }
+}
+
+fn expression_rows(state: State) -> &'static [Row] {
+    match state {
+        State::Or | State::MoreOr | State::And | State::MoreAnd | State::Not | State::GuardNot => {
+            expression::formula_rows()
+        }
+        State::Related
+        | State::MoreRelated
+        | State::Sum
+        | State::MoreSum
+        | State::Product
+        | State::MoreProduct
+        | State::Minus => expression::relation_rows(),
+        State::Prime => expression::prime_rows(),
+        State::Found | State::Opens | State::Given | State::MoreGiven => expression::inner_rows(),
+        State::Literal | State::Name | State::NameEnd | State::LiteralEnd | State::MoreArguments =>
+            expression::literal_rows(),
+        State::MoreAnnotations | State::List | State::MoreList | State::Tail | State::ListEnd => {
+            expression::list_rows()
+        }
+        _ => expression::bracket_rows(),
+    }
+}
+
+/// Does what the first row says that holds.
+fn step(r: &mut Reading<'_>) {
+    let now = r.now;
+    let word = mark_at(r.piece.marks, r.at).word;
+    for (state, class, place, also, acts) in rows_of(now.state) {
+        if *state == now.state
+            && is_of(word, *class)
+            && is_in(now.mode, *place)
+            && holds(r, *also)
+        {
+            for act in *acts {
+                enact(r, *act);
+            }
+            return;
+        }
+    }
+}
+
+fn start<'a>(alloc: Global, piece: &Piece<'a>) -> Reading<'a> {
+    let now = Want {
+        state: if piece.world {
+            State::World
+        } else {
+            State::Clause
+        },
+        mode: Mode::Formula,
+        call: Call {
+            place: 0,
+            arity: NO_ARGUMENTS,
+            count: 0,
+        },
+    };
     Reading {
         alloc,
-        marks,
+        piece: *piece,
         at: 0,
         left: Left::Term,
-        world,
-        used,
         plain: false,
         ground: false,
+        now,
         wants: Vec::new(alloc),
         opened: Vec::new(alloc),
         sort: Sort::Belief,
@@ -318,40 +421,26 @@ fn start<'a>(
         arrow: 0,
         halt: None,
         part: Part::Argument,
-        counted: None,
+        counted: 0,
         arity: NO_ARGUMENTS,
         spent: false,
     }
 }
 
-/// Goes on up to where no reading does.
-fn go_on(r: &mut Reading<'_>) {
+/// Reads a piece up to where no reading goes on.
+pub fn read<'a>(alloc: Global, piece: &Piece<'a>) -> Reading<'a> {
+    let mut r = start(alloc, piece);
     // Between two tokens there are fewer steps than this.
-    let most = r.marks.len().saturating_add(2).saturating_mul(64);
+    let most = piece.marks.len().saturating_add(2).saturating_mul(64);
     for _ in 0..most {
+        step(&mut r);
         if r.halt.is_some() || r.spent {
-            return;
+            return r;
         }
-        let Some(want) = r.wants.pop() else {
-            return;
-        };
-        step(r, want);
+        match r.wants.pop() {
+            Some(want) => r.now = want,
+            None => return r,
+        }
     }
-}
-
-/// Reads a piece, of a world that uses these names or of an agent's source, up to where no reading goes on.
-pub fn read<'a>(
-    alloc: Global,
-    marks: &'a [Mark<'a>],
-    world: bool,
-    used: &'a [Mark<'a>],
-) -> Result<Reading<'a>, Starved> {
-    let mut r = start(alloc, marks, world, used);
-    if world {
-        world::begin(&mut r);
-    } else {
-        clause::begin(&mut r);
-    }
-    go_on(&mut r);
-    if r.spent { Err(Starved) } else { Ok(r) }
+    r
 }

@@ -1,14 +1,14 @@
 //! Why a reading stops, in words.
 
 use crate::bytes::byte_at;
-use crate::mark::{Mark, between, spliced};
-use crate::mending::{Fix, FixKind, Piece, expected, fix_phrases, is_pair, joined, mend};
+use crate::mark::{Mark, between, cut_at, is_listed, mark_at, spliced};
+use crate::mending::{Fix, FixKind, Piece, expected, is_pair, mend};
 use crate::phrase::{Phrase, put_phrase, sentence};
-use crate::reading::{Halt, Part, Reading, Sort, read};
+use crate::reading::{Halt, Part, Reading, Sort, is_of, read};
 use crate::repair::repaired;
 use crate::rules::{
-    Rule, Say, Span, Test, action_rules, brace_rules, item_rules, last_rule, sign_rules,
-    term_rules, world_rules,
+    Rule, Span, Test, action_rules, brace_rules, item_rules, last_rule, sign_rules, term_rules,
+    world_rules,
 };
 use crate::table::Arity;
 use asl_lexer::token::Word;
@@ -38,6 +38,18 @@ impl Drop for Reason {
     }
 }
 
+/// Puts a note, where it is not empty, and keeps whether memory was refused.
+fn put_note(note: Result<Text, Starved>, notes: &mut Seq<Text>, spent: &mut bool) {
+    match note {
+        Ok(note) => {
+            if note.len() > 0 && notes.push(note).is_err() {
+                *spent = true;
+            }
+        }
+        Err(_) => *spent = true,
+    }
+}
+
 /// A reason of these parts, for these bytes, with a note where it is not empty.
 pub fn reason_of(
     alloc: Global,
@@ -47,8 +59,11 @@ pub fn reason_of(
     note: &[Phrase<'_>],
 ) -> Result<Reason, Starved> {
     let text = sentence(alloc, words)?;
+    let note = sentence(alloc, note)?;
     let mut notes = Seq::new(alloc);
-    put_note(sentence(alloc, note)?, &mut notes)?;
+    if note.len() > 0 {
+        notes.push(note)?;
+    }
     Ok(Reason {
         at: span.0,
         end: span.1,
@@ -66,17 +81,12 @@ pub fn reason_at(
     parts: &[&[u8]],
     note: &[u8],
 ) -> Result<Reason, Starved> {
-    let words = joined(alloc, parts)?;
+    let mut words = Seq::new(alloc);
+    for part in parts {
+        words.append(*part)?;
+    }
     let phrases = [Phrase::Words(words.as_slice())];
     reason_of(alloc, span, code, &phrases, &[Phrase::Words(note)])
-}
-
-/// Puts a note, where it is not empty.
-fn put_note(note: Text, notes: &mut Seq<Text>) -> Result<(), Starved> {
-    if note.len() > 0 {
-        notes.push(note)?;
-    }
-    Ok(())
 }
 
 /// The place where a reading stopped, the tokens around it, and a change with which the piece is read.
@@ -89,74 +99,43 @@ struct Around<'a> {
     arity: Arity,
     place: usize,
     plain: bool,
+    in_body: bool,
     item_place: usize,
+    is_open: bool,
     token: Mark<'a>,
-    before: Option<Mark<'a>>,
-    next: Option<Mark<'a>>,
-    first: Option<Mark<'a>>,
-    item: Option<Mark<'a>>,
-    opened: Option<Mark<'a>>,
-    counted: Option<Mark<'a>>,
-    fix: Option<Fix>,
-}
-
-fn text_of<'a>(m: Option<Mark<'a>>) -> &'a [u8] {
-    match m {
-        Some(m) => m.text,
-        None => b"",
-    }
-}
-
-fn has_word(m: Option<Mark<'_>>, words: &[Word]) -> bool {
-    match m {
-        Some(m) => words.contains(&m.word),
-        None => false,
-    }
-}
-
-fn has_text(m: Option<Mark<'_>>, texts: &[&[u8]]) -> bool {
-    match m {
-        Some(m) => texts.contains(&m.text),
-        None => false,
-    }
-}
-
-/// Whether a token ends where another begins.
-fn touch(first: Option<Mark<'_>>, second: Option<Mark<'_>>) -> bool {
-    match (first, second) {
-        (Some(first), Some(second)) => first.end == second.at,
-        _ => false,
-    }
-}
-
-fn mends(fix: Option<Fix>, kind: FixKind) -> bool {
-    match fix {
-        Some(fix) => fix.kind == kind,
-        None => false,
-    }
+    before: Mark<'a>,
+    next: Mark<'a>,
+    item: Mark<'a>,
+    opened: Mark<'a>,
+    counted: Mark<'a>,
+    fix: Fix,
 }
 
 fn holds(a: &Around<'_>, test: Test) -> bool {
     match test {
-        Test::Token(words) => words.contains(&a.token.word),
-        Test::Before(words) => has_word(a.before, words),
-        Test::Next(words) => has_word(a.next, words),
-        Test::At(halts) => halts.contains(&a.halt),
-        Test::Sort(sorts) => sorts.contains(&a.sort),
-        Test::Item(texts) => has_text(a.item, texts),
+        Test::Token(class) => is_of(a.token.word, class),
+        Test::TokenOf(words) => words.contains(&a.token.word),
+        Test::Before(class) => is_of(a.before.word, class),
+        Test::BeforeOf(words) => words.contains(&a.before.word),
+        Test::Next(class) => is_of(a.next.word, class),
+        Test::At(halt) => a.halt == halt,
+        Test::AtOf(halts) => halts.contains(&a.halt),
+        Test::Plan => a.sort == Sort::Plan,
+        Test::NoPlan => matches!(a.sort, Sort::Belief | Sort::Rule | Sort::Goal),
+        Test::Item(words) => is_listed(words, a.item.text),
         Test::Pair(pair) => is_pair(a.piece.marks, a.place.saturating_sub(1), pair),
-        Test::Mends(kind) => mends(a.fix, kind),
+        Test::Mends(kind) => a.fix.kind == kind,
         Test::Ended => a.place >= a.piece.marks.len(),
         Test::First => a.place == 0,
         Test::BehindDecimal => a.piece.behind_decimal,
-        Test::Touches => touch(a.before, Some(a.token)),
-        Test::NextTouches => touch(Some(a.token), a.next),
+        Test::Touches => a.before.end == a.token.at,
+        Test::NextTouches => a.token.end == a.next.at,
         Test::Digit => byte_at(a.piece.bytes, a.token.end).is_ascii_digit(),
         Test::InItem => a.place > a.item_place,
-        Test::InBody => a.item.is_some(),
+        Test::InBody => a.in_body,
         Test::Agent => !a.piece.world,
         Test::Plain => a.plain,
-        Test::Opened => a.opened.is_some(),
+        Test::Opened => a.is_open,
     }
 }
 
@@ -170,8 +149,8 @@ fn fits(a: &Around<'_>, rule: &Rule) -> bool {
     true
 }
 
-/// What stands in place of a word of control.
-const NO_CONTROL: [(&[u8], &[u8]); 3] = [
+/// Words of control and internal actions of other programs, and what stands in their place.
+const ELSEWHERE: [(&[u8], &[u8]); 8] = [
     (
         b"if",
         b"two plans for one goal: +!g : p <- .. and +!g <- ..",
@@ -181,104 +160,38 @@ const NO_CONTROL: [(&[u8], &[u8]); 3] = [
         b"while",
         b"a plan that calls its goal again: +!g : p <- ..; !g. and +!g.",
     ),
-];
-
-fn control_note(text: &[u8]) -> &'static [u8] {
-    beside(&NO_CONTROL, text)
-}
-
-/// Internal actions of other programs, each with what stands in its place.
-const ELSEWHERE: [(&[u8], &[u8]); 56] = [
     (b".println", b"write .print: it ends its line itself"),
     (
-        b".wait",
+        b".wait .at",
         b"no clock and no waiting: a plan for the event, or a goal that calls itself",
     ),
     (
-        b".at",
-        b"no clock and no waiting: a plan for the event, or a goal that calls itself",
-    ),
-    (
-        b".random",
+        b".random .date .time",
         b"no chance and no time: a run depends on its files and its schedule alone",
     ),
     (
-        b".date",
-        b"no chance and no time: a run depends on its files and its schedule alone",
+        b".sort .range .union .difference .intersection .delete .empty .sublist .shuffle \
+    .prefix .suffix .set .replace .substring .term2string .eval",
+        b"not in the table of internal actions: a rule does it",
     ),
     (
-        b".time",
-        b"no chance and no time: a run depends on its files and its schedule alone",
+        b".suspend .resume .suspended .current_intention .add_plan .remove_plan \
+    .relevant_plans .drop_all_desires .drop_all_intentions .drop_all_events .drop_event \
+    .fork .include .create_agent .kill_agent .puts .printf .log .asserta .assertz \
+    .foreach .if_then_else .loop .belief .plan_label .version .abort .perceive \
+    .structure .ground_all .namespace .list_plans .list_rules .add_nested_source",
+        b"not in the table of internal actions",
     ),
-    (b".sort", RULE),
-    (b".range", RULE),
-    (b".union", RULE),
-    (b".difference", RULE),
-    (b".intersection", RULE),
-    (b".delete", RULE),
-    (b".empty", RULE),
-    (b".sublist", RULE),
-    (b".shuffle", RULE),
-    (b".prefix", RULE),
-    (b".suffix", RULE),
-    (b".set", RULE),
-    (b".replace", RULE),
-    (b".substring", RULE),
-    (b".term2string", RULE),
-    (b".eval", RULE),
-    (b".suspend", NO_ACTION),
-    (b".resume", NO_ACTION),
-    (b".suspended", NO_ACTION),
-    (b".current_intention", NO_ACTION),
-    (b".add_plan", NO_ACTION),
-    (b".remove_plan", NO_ACTION),
-    (b".relevant_plans", NO_ACTION),
-    (b".drop_all_desires", NO_ACTION),
-    (b".drop_all_intentions", NO_ACTION),
-    (b".drop_all_events", NO_ACTION),
-    (b".drop_event", NO_ACTION),
-    (b".fork", NO_ACTION),
-    (b".include", NO_ACTION),
-    (b".create_agent", NO_ACTION),
-    (b".kill_agent", NO_ACTION),
-    (b".puts", NO_ACTION),
-    (b".printf", NO_ACTION),
-    (b".log", NO_ACTION),
-    (b".asserta", NO_ACTION),
-    (b".assertz", NO_ACTION),
-    (b".foreach", NO_ACTION),
-    (b".if_then_else", NO_ACTION),
-    (b".loop", NO_ACTION),
-    (b".belief", NO_ACTION),
-    (b".plan_label", NO_ACTION),
-    (b".version", NO_ACTION),
-    (b".abort", NO_ACTION),
-    (b".perceive", NO_ACTION),
-    (b".structure", NO_ACTION),
-    (b".ground_all", NO_ACTION),
-    (b".namespace", NO_ACTION),
-    (b".list_plans", NO_ACTION),
-    (b".list_rules", NO_ACTION),
-    (b".add_nested_source", NO_ACTION),
 ];
 
-const RULE: &[u8] = b"not in the table of internal actions: a rule does it";
-
-const NO_ACTION: &[u8] = b"not in the table of internal actions";
-
-/// What stands beside a word in a table; nothing where it is not there.
-fn beside(table: &'static [(&'static [u8], &'static [u8])], word: &[u8]) -> &'static [u8] {
-    for (name, note) in table {
-        if *name == word {
+/// What stands in place of a word of control, or of an internal action that is not there; no bytes where nothing does.
+fn instead_of(word: &[u8]) -> &'static [u8] {
+    for (words, note) in &ELSEWHERE {
+        if is_listed(words, word) {
             return note;
         }
     }
     b""
-}
-
-/// What stands in place of an internal action that is not there.
-fn not_here(text: &[u8]) -> &'static [u8] {
-    beside(&ELSEWHERE, text)
 }
 
 fn part_name(part: Part) -> &'static [u8] {
@@ -303,74 +216,88 @@ fn sort_name(sort: Sort) -> &'static [u8] {
     }
 }
 
-fn place_of(m: Option<Mark<'_>>) -> Phrase<'static> {
-    match m {
-        Some(m) => Phrase::Place(m.line, m.column),
-        None => Phrase::Words(b""),
+/// What a letter behind `$` stands for in what a rule tells.
+fn phrase_of<'a>(a: &Around<'a>, letter: u8) -> Phrase<'a> {
+    match letter {
+        // The token as it is spelled, and as it stands in the file; the tokens beside it.
+        b't' => Phrase::Words(a.token.text),
+        b's' => Phrase::Shown(between(a.piece.source, a.token.at, a.token.end)),
+        b'b' => Phrase::Shown(a.before.text),
+        b'n' => Phrase::Shown(a.next.text),
+        b'B' => Phrase::Words(a.before.text),
+        // The first word of the item, and what stands for it here; what stands for the token.
+        b'i' => Phrase::Words(a.item.text),
+        b'I' => Phrase::Words(instead_of(a.item.text)),
+        b'e' => Phrase::Words(instead_of(a.token.text)),
+        // What the literal is, and the clause; its number and place.
+        b'p' => Phrase::Words(part_name(a.part)),
+        b'k' => Phrase::Words(sort_name(a.sort)),
+        b'N' => Phrase::Number(a.piece.number),
+        b'x' => Phrase::Number(mark_at(a.piece.marks, 0).line),
+        b'y' => Phrase::Number(mark_at(a.piece.marks, 0).column),
+        // The bracket that is open, and its place; the internal action of which the arguments are counted.
+        b'o' => Phrase::Words(a.opened.text),
+        b'v' => Phrase::Number(a.opened.line),
+        b'w' => Phrase::Number(a.opened.column),
+        b'm' => Phrase::Words(a.counted.text),
+        // What is put by a change, in place of which pair, and where.
+        b'u' => Phrase::Words(a.fix.put),
+        b'r' => Phrase::Words(a.fix.pair),
+        b'f' => Phrase::Number(a.fix.line),
+        b'g' => Phrase::Number(a.fix.column),
+        other => arguments_phrase(a.arity, other),
     }
 }
 
-fn phrase_of<'a>(a: &Around<'a>, say: Say) -> Phrase<'a> {
-    match say {
-        Say::Words(words) => Phrase::Words(words),
-        Say::Token => Phrase::Words(a.token.text),
-        Say::Source => Phrase::Shown(between(a.piece.source, a.token.at, a.token.end)),
-        Say::Before => Phrase::Shown(text_of(a.before)),
-        Say::Next => Phrase::Shown(text_of(a.next)),
-        Say::BeforeText => Phrase::Words(text_of(a.before)),
-        Say::Item => Phrase::Words(text_of(a.item)),
-        Say::ItemNote => Phrase::Words(control_note(text_of(a.item))),
-        Say::Counted => Phrase::Words(text_of(a.counted)),
-        Say::Arguments => Phrase::Arguments(a.arity),
-        Say::Instead => Phrase::Words(not_here(a.token.text)),
-        Say::Part => Phrase::Words(part_name(a.part)),
-        Say::Sort => Phrase::Words(sort_name(a.sort)),
-        Say::Put => Phrase::Words(match a.fix {
-            Some(fix) => fix.put,
-            None => b"",
-        }),
-        Say::FirstPlace => place_of(a.first),
-        Say::OpenedText => Phrase::Words(text_of(a.opened)),
-        Say::OpenedPlace => place_of(a.opened),
+/// A part of how many arguments an internal action takes: the least number, what stands before the most, that, and the word.
+fn arguments_phrase(arity: Arity, letter: u8) -> Phrase<'static> {
+    let none = arity.high == Some(0);
+    let one = arity.high == Some(1);
+    let same = arity.high == Some(arity.low);
+    match letter {
+        b'l' => if none {
+            Phrase::Words(b"no")
+        } else {
+            Phrase::Number(arity.low as u64)
+        },
+        b'A' => Phrase::Words(if one { b" argument" } else { b" arguments" }),
+        b'q' => match arity.high {
+            None => Phrase::Words(b" or more"),
+            Some(_) => Phrase::Words(if same { b"" } else { b" or " }),
+        },
+        _ => match arity.high {
+            Some(high) if !same => Phrase::Number(high as u64),
+            _ => Phrase::Words(b""),
+        },
     }
 }
 
-/// The text of these parts at the place.
-fn said_at(alloc: Global, a: &Around<'_>, says: &[Say]) -> Result<Text, Starved> {
+/// These words at the place, with what stands for each `$` and its letter.
+fn said_at(alloc: Global, a: &Around<'_>, words: &[u8]) -> Result<Text, Starved> {
     let mut out = Seq::new(alloc);
-    for say in says {
-        put_phrase(alloc, phrase_of(a, *say), &mut out)?;
+    let mut rest = words;
+    for _ in words {
+        let (plain, behind) = cut_at(rest, b'$');
+        out.append(plain)?;
+        let Some((letter, after)) = behind.split_first() else {
+            return Ok(out);
+        };
+        put_phrase(alloc, phrase_of(a, *letter), &mut out)?;
+        rest = after;
     }
     Ok(out)
-}
-
-fn span_of(m: Option<Mark<'_>>) -> (usize, usize) {
-    match m {
-        Some(m) => (m.at, m.end),
-        None => (0, 0),
-    }
 }
 
 /// The bytes at fault.
 fn bytes_at(a: &Around<'_>, span: Span) -> (usize, usize) {
     match span {
         Span::Token => (a.token.at, a.token.end),
-        Span::Before => span_of(a.before),
-        Span::Item => span_of(a.item),
-        Span::FromBefore => (span_of(a.before).0, a.token.end),
-        Span::ToNext => (a.token.at, span_of(a.next).1),
-        Span::Decimal => (span_of(a.before).0, a.token.end.saturating_add(1)),
+        Span::Before => (a.before.at, a.before.end),
+        Span::Item => (a.item.at, a.item.end),
+        Span::FromBefore => (a.before.at, a.token.end),
+        Span::ToNext => (a.token.at, a.next.end),
+        Span::Decimal => (a.before.at, a.token.end.saturating_add(1)),
     }
-}
-
-/// The first of some rules that fits.
-fn first_of(a: &Around<'_>, rules: &'static [Rule]) -> Option<&'static Rule> {
-    for rule in rules {
-        if fits(a, rule) {
-            return Some(rule);
-        }
-    }
-    None
 }
 
 /// The first rule that fits.
@@ -384,93 +311,94 @@ fn rule_at(a: &Around<'_>) -> &'static Rule {
         world_rules(),
     ];
     for rules in tables {
-        if let Some(rule) = first_of(a, rules) {
-            return rule;
+        for rule in rules {
+            if fits(a, rule) {
+                return rule;
+            }
         }
     }
     last_rule()
 }
 
 /// Reasons for which a change is of no use, and those that say nothing of the place.
-const UNMENDED: &[&[u8]] = &[
-    b"decimal",
-    b"decimal-rest",
-    b"glued-dot",
-    b"own-inner",
-    b"goal-term",
-    b"control",
-    b"directive",
-    b"braces",
-    b"context",
-];
+const UNMENDED: &[u8] =
+    b"decimal decimal-rest glued-dot own-inner goal-term control directive braces context";
 
-const GENERAL: &[&[u8]] = &[b"syntax", b"world", b"no-formula"];
+const GENERAL: &[u8] = b"syntax world no-formula";
 
-/// Puts the change with which the piece is read in place of a note that says what to write.
-fn put_fix(alloc: Global, fix: &Fix, note: Text, notes: &mut Seq<Text>) -> Result<(), Starved> {
-    if !note.as_slice().starts_with(b"write ") {
-        put_note(note, notes)?;
+/// The change with which the piece is read, in words.
+fn told_fix(kind: FixKind) -> &'static [u8] {
+    match kind {
+        FixKind::None => b"",
+        FixKind::Extra => b"without it the clause is read",
+        FixKind::Instead => b"write $u in its place: then the clause is read",
+        FixKind::Relation => b"write $u in place of $r: then the clause is read",
+        FixKind::Dot | FixKind::Bracket | FixKind::Missing => {
+            b"put $u at $f:$g: then the clause is read"
+        }
     }
-    notes.push(sentence(alloc, &fix_phrases(fix))?)
 }
 
-/// Puts the note of a rule, and what may be changed or may stand at the place.
-fn put_change(
+/// Puts the note of a reason, what may be changed or may stand at the place, and in which clause it is. The change stands in place of a note that
+/// says what to write.
+fn notes_of(
     alloc: Global,
     a: &Around<'_>,
-    rule: &Rule,
-    notes: &mut Seq<Text>,
-) -> Result<(), Starved> {
-    let note = said_at(alloc, a, rule.note)?;
-    if let Some(fix) = a.fix {
-        if !UNMENDED.contains(&rule.code) {
-            return put_fix(alloc, &fix, note, notes);
-        }
-        return put_note(note, notes);
+    at: usize,
+    code: &[u8],
+    note: &[u8],
+) -> Result<Seq<Text>, Starved> {
+    let mut notes = Seq::new(alloc);
+    let mut spent = false;
+    let mended = a.fix.kind != FixKind::None;
+    let mends = mended && !is_listed(UNMENDED, code);
+    let note = said_at(alloc, a, note);
+    let writes = match &note {
+        Ok(note) => note.as_slice().starts_with(b"write "),
+        Err(_) => false,
+    };
+    if mends && writes {
+        drop(note);
+    } else {
+        put_note(note, &mut notes, &mut spent);
     }
-    put_note(note, notes)?;
-    if GENERAL.contains(&rule.code) {
-        put_note(expected(alloc, &a.piece, a.place)?, notes)?;
+    if mends {
+        put_note(
+            said_at(alloc, a, told_fix(a.fix.kind)),
+            &mut notes,
+            &mut spent,
+        );
     }
-    Ok(())
+    if !mended && is_listed(GENERAL, code) {
+        put_note(expected(alloc, &a.piece, a.place), &mut notes, &mut spent);
+    }
+    if is_below(a, at) {
+        put_note(
+            said_at(alloc, a, b"in clause $N, from $x:$y"),
+            &mut notes,
+            &mut spent,
+        );
+    }
+    if spent { Err(Starved) } else { Ok(notes) }
 }
 
-/// The line of the last token that begins at a place or before.
-fn line_at(p: &Piece<'_>, at: usize) -> u64 {
+/// Whether the bytes from a place on stand in another line than the clause begins in.
+fn is_below(a: &Around<'_>, at: usize) -> bool {
     let mut line = 0;
-    for m in p.marks {
+    for m in a.piece.marks {
         if m.at <= at {
             line = m.line;
         }
     }
-    line
-}
-
-/// Puts in which clause the bytes from a place on stand, where that begins in another line.
-fn put_clause(
-    alloc: Global,
-    a: &Around<'_>,
-    at: usize,
-    notes: &mut Seq<Text>,
-) -> Result<(), Starved> {
-    let Some(first) = a.first else {
-        return Ok(());
-    };
-    if a.place >= a.piece.marks.len() || first.line == line_at(&a.piece, at) {
-        return Ok(());
-    }
-    let note = [
-        Phrase::Words(b"in clause "),
-        Phrase::Number(a.piece.number),
-        Phrase::Words(b", from "),
-        Phrase::Place(first.line, first.column),
-    ];
-    notes.push(sentence(alloc, &note)?)
+    a.place < a.piece.marks.len() && mark_at(a.piece.marks, 0).line != line
 }
 
 /// The bytes behind the last token, as a token that is none.
 fn behind_all<'a>(marks: &[Mark<'a>]) -> Mark<'a> {
-    let end = span_of(marks.last().copied()).1;
+    let end = match marks.last() {
+        Some(m) => m.end,
+        None => 0,
+    };
     Mark {
         word: Word::Other,
         text: b"",
@@ -481,12 +409,9 @@ fn behind_all<'a>(marks: &[Mark<'a>]) -> Mark<'a> {
     }
 }
 
-fn mark_at<'a>(marks: &[Mark<'a>], place: Option<usize>) -> Option<Mark<'a>> {
-    marks.get(place?).copied()
-}
-
-fn around_of<'a>(p: &Piece<'a>, r: &Reading<'_>, halt: Halt, fix: Option<Fix>) -> Around<'a> {
+fn around_of<'a>(p: &Piece<'a>, r: &Reading<'_>, halt: Halt, fix: Fix) -> Around<'a> {
     let marks = p.marks;
+    let count = marks.len();
     Around {
         piece: *p,
         halt,
@@ -495,13 +420,18 @@ fn around_of<'a>(p: &Piece<'a>, r: &Reading<'_>, halt: Halt, fix: Option<Fix>) -
         arity: r.arity,
         place: r.at,
         plain: r.plain,
+        in_body: r.item.is_some(),
         item_place: r.item.unwrap_or(0),
-        token: mark_at(marks, Some(r.at)).unwrap_or(behind_all(marks)),
-        before: mark_at(marks, r.at.checked_sub(1)),
-        next: mark_at(marks, Some(r.at.saturating_add(1))),
-        first: mark_at(marks, Some(0)),
-        item: mark_at(marks, r.item),
-        opened: mark_at(marks, r.opened.last().copied()),
+        is_open: !r.opened.is_empty(),
+        token: if r.at < count {
+            mark_at(marks, r.at)
+        } else {
+            behind_all(marks)
+        },
+        before: mark_at(marks, r.at.checked_sub(1).unwrap_or(count)),
+        next: mark_at(marks, r.at.saturating_add(1)),
+        item: mark_at(marks, r.item.unwrap_or(count)),
+        opened: mark_at(marks, r.opened.last().copied().unwrap_or(count)),
         counted: mark_at(marks, r.counted),
         fix,
     }
@@ -517,16 +447,15 @@ fn reason_for(
     let a = around_of(p, r, halt, mend(alloc, p, r.at)?);
     let rule = rule_at(&a);
     let (at, end) = bytes_at(&a, rule.span);
-    let text = said_at(alloc, &a, rule.words)?;
-    let mut notes = Seq::new(alloc);
-    put_change(alloc, &a, rule, &mut notes)?;
-    put_clause(alloc, &a, at, &mut notes)?;
+    let (code, told) = cut_at(rule.told, b'\n');
+    let (words, note) = cut_at(told, b'\n');
+    let text = said_at(alloc, &a, words)?;
     Ok(Reason {
         at,
         end,
-        code: rule.code,
+        code,
         text,
-        notes,
+        notes: notes_of(alloc, &a, at, code, note)?,
     })
 }
 
@@ -534,13 +463,13 @@ fn reason_for(
 const MOST_REASONS: usize = 20;
 
 /// Whether a reading stopped behind the place of the reason before, where there is one.
-fn is_further(r: &Reading<'_>, last: Option<usize>) -> bool {
-    let Some(last) = last else {
-        return true;
-    };
-    match r.marks.get(r.at) {
-        Some(m) => m.at > last,
-        None => false,
+fn is_further(r: &Reading<'_>, all: &Seq<Reason>) -> bool {
+    match all.as_slice() {
+        [.., last] => match r.piece.marks.get(r.at) {
+            Some(m) => m.at > last.at,
+            None => false,
+        },
+        [] => true,
     }
 }
 
@@ -556,24 +485,20 @@ fn put_first<'a>(
         marks: &*marks,
         ..*piece
     };
-    let r = read(alloc, p.marks, p.world, p.used)?;
+    let r = read(alloc, &p);
+    if r.spent {
+        return Err(Starved);
+    }
     let Some(halt) = r.halt else {
         return Ok(None);
     };
-    if !is_further(&r, last_place(all)) {
+    if !is_further(&r, all) {
         return Ok(None);
     }
     let told = reason_for(alloc, &p, &r, halt)?;
     let code = told.code;
     all.push(told)?;
     repaired(alloc, marks, &r, code)
-}
-
-fn last_place(all: &Seq<Reason>) -> Option<usize> {
-    match all.as_slice() {
-        [.., last] => Some(last.at),
-        [] => None,
-    }
 }
 
 /// The reason at the first place where no reading of the piece goes on, and those behind it, as far as what is meant is known. None

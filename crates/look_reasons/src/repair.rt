@@ -1,6 +1,6 @@
 //! A fault taken for what is meant, where that is known: the reading goes on behind it.
 
-use crate::mark::{Mark, is_any_sign, is_sign, spliced};
+use crate::mark::{Mark, is_any_sign, is_listed, is_sign, mark_at, spliced};
 use crate::reading::{Halt, Reading};
 use asl_lexer::token::{Sign, Word};
 use asl_term::sequence::Starved;
@@ -15,46 +15,23 @@ struct Repair {
     behind: &'static [u8],
 }
 
-fn instead(at: usize, removed: usize, put: &'static [u8]) -> Repair {
-    Repair {
-        at,
-        removed,
-        put,
-        behind: b"",
-    }
-}
-
-/// What the token at a place is.
-fn word_at(marks: &[Mark<'_>], at: usize) -> Word {
-    match marks.get(at) {
-        Some(m) => m.word,
-        None => Word::Other,
-    }
-}
-
 /// Without a label's annotations.
-fn without_annotations(marks: &[Mark<'_>], at: usize) -> Option<Repair> {
-    for end in at..marks.len() {
-        if is_sign(word_at(marks, end), Sign::CloseSquare) {
-            return Some(instead(at, (end - at).saturating_add(1), b""));
+fn without_annotations(marks: &[Mark<'_>], here: Repair) -> Option<Repair> {
+    for end in here.at..marks.len() {
+        if is_sign(mark_at(marks, end).word, Sign::CloseSquare) {
+            let removed = (end - here.at).saturating_add(1);
+            return Some(Repair { removed, ..here });
         }
     }
     None
 }
 
-/// How many more brackets are open behind a token than before it.
-fn depth_of(word: Word) -> i64 {
+/// How many brackets are open behind a token where so many are before it.
+fn depth_behind(word: Word, depth: i64) -> i64 {
     match word {
-        Word::Sign(Sign::Open | Sign::OpenSquare | Sign::OpenBrace) => 1,
-        Word::Sign(Sign::Close | Sign::CloseSquare | Sign::CloseBrace) => -1,
-        _ => 0,
-    }
-}
-
-fn goes_on(marks: &[Mark<'_>], at: usize) -> bool {
-    match marks.get(at) {
-        Some(m) => m.text == b"else".as_slice() || m.text == b"elif".as_slice(),
-        None => false,
+        Word::Sign(Sign::Open | Sign::OpenSquare | Sign::OpenBrace) => depth.saturating_add(1),
+        Word::Sign(Sign::Close | Sign::CloseSquare | Sign::CloseBrace) => depth.saturating_sub(1),
+        _ => depth,
     }
 }
 
@@ -67,13 +44,14 @@ fn ends_item(word: Word) -> bool {
 fn control_end(marks: &[Mark<'_>], from: usize) -> Option<usize> {
     let mut depth: i64 = 0;
     for at in from..marks.len() {
-        let word = word_at(marks, at);
-        depth = depth.saturating_add(depth_of(word));
+        let word = mark_at(marks, at).word;
+        depth = depth_behind(word, depth);
         if depth == 0 && ends_item(word) {
             return Some(at);
         }
         let next = at.saturating_add(1);
-        if depth == 0 && is_sign(word, Sign::CloseBrace) && !goes_on(marks, next) {
+        let goes_on = is_listed(b"else elif", mark_at(marks, next).text);
+        if depth == 0 && is_sign(word, Sign::CloseBrace) && !goes_on {
             return if next < marks.len() { Some(next) } else { None };
         }
     }
@@ -83,99 +61,107 @@ fn control_end(marks: &[Mark<'_>], from: usize) -> Option<usize> {
 /// The control item taken for one item.
 fn without_control(marks: &[Mark<'_>], from: usize) -> Option<Repair> {
     let end = control_end(marks, from)?;
-    let behind: &'static [u8] = if ends_item(word_at(marks, end)) {
-        b""
-    } else {
-        b";"
-    };
+    let ends = ends_item(mark_at(marks, end).word);
     Some(Repair {
         at: from,
         removed: end.saturating_sub(from),
         put: b".fail",
-        behind,
+        behind: if ends { b"" } else { b";" },
     })
 }
 
-fn relation(marks: &[Mark<'_>], r: &Reading<'_>) -> Option<Repair> {
-    let t = marks.get(r.at)?;
-    let touched = match marks.get(r.at.saturating_sub(1)) {
-        Some(m) => r.at > 0 && is_any_sign(m.word) && m.end == t.at,
-        None => false,
-    };
-    if touched || is_sign(t.word, Sign::Bang) {
-        Some(instead(r.at, 1, b""))
+/// Without a sign that follows another, or begins no relation here.
+fn relation(marks: &[Mark<'_>], here: Repair) -> Option<Repair> {
+    let m = mark_at(marks, here.at);
+    let before = mark_at(marks, here.at.saturating_sub(1));
+    let touched = here.at > 0 && is_any_sign(before.word) && before.end == m.at;
+    if touched || is_sign(m.word, Sign::Bang) {
+        Some(here)
     } else {
         None
     }
 }
 
 /// The item that stands for an internal action of so many tokens that is not there.
-fn action(marks: &[Mark<'_>], r: &Reading<'_>, count: usize) -> Option<Repair> {
-    if r.item != Some(r.at) {
+fn action(marks: &[Mark<'_>], item: Option<usize>, removed: usize, here: Repair) -> Option<Repair> {
+    if item != Some(here.at) {
         return None;
     }
-    let opens = is_sign(word_at(marks, r.at.saturating_add(count)), Sign::Open);
-    let put: &'static [u8] = if opens { b".print" } else { b".fail" };
-    Some(instead(r.at, count, put))
+    let behind = mark_at(marks, here.at.saturating_add(removed));
+    let put: &'static [u8] = if is_sign(behind.word, Sign::Open) {
+        b".print"
+    } else {
+        b".fail"
+    };
+    Some(Repair {
+        removed,
+        put,
+        ..here
+    })
 }
 
-fn own_action(marks: &[Mark<'_>], r: &Reading<'_>) -> Option<Repair> {
-    match word_at(marks, r.at.saturating_add(1)) {
-        Word::Inner => action(marks, r, 2),
-        _ => None,
-    }
-}
-
-/// What is done for a fault.
+/// What is done for a fault of this code.
 #[derive(Clone, Copy)]
 enum Way {
-    Arrow,
-    Comma,
+    None,
+    /// Another token in its place.
+    Put(&'static [u8]),
     Label,
     Control,
     Own,
     Inner,
-    Variable,
     Relation,
 }
 
-const WAYS: [(&[u8], Way); 8] = [
-    (b"arrow", Way::Arrow),
-    (b"comma", Way::Comma),
+fn way_for(code: &[u8], halt: Option<Halt>) -> Way {
+    if code == b"arrow".as_slice() {
+        return Way::Put(b"<-");
+    }
+    if code == b"comma".as_slice() {
+        return Way::Put(if halt == Some(Halt::ItemEnd) {
+            b";"
+        } else {
+            b"&"
+        });
+    }
+    if code == b"variable".as_slice() && halt == Some(Halt::Literal) {
+        return Way::Put(b"p");
+    }
+    for (name, way) in &WAYS {
+        if *name == code {
+            return *way;
+        }
+    }
+    Way::None
+}
+
+const WAYS: [(&[u8], Way); 5] = [
     (b"label", Way::Label),
     (b"control", Way::Control),
     (b"own-inner", Way::Own),
     (b"no-inner", Way::Inner),
-    (b"variable", Way::Variable),
     (b"relation", Way::Relation),
 ];
 
-fn way_for(code: &[u8]) -> Option<Way> {
-    for (name, way) in &WAYS {
-        if *name == code {
-            return Some(*way);
-        }
-    }
-    None
-}
-
 /// What the fault of this code is taken for.
 fn repair_of(marks: &[Mark<'_>], r: &Reading<'_>, code: &[u8]) -> Option<Repair> {
-    match way_for(code)? {
-        Way::Arrow => Some(instead(r.at, 1, b"<-")),
-        Way::Comma => match r.halt {
-            Some(Halt::ItemEnd) => Some(instead(r.at, 1, b";")),
-            _ => Some(instead(r.at, 1, b"&")),
-        },
-        Way::Label => without_annotations(marks, r.at),
+    let here = Repair {
+        at: r.at,
+        removed: 1,
+        put: b"",
+        behind: b"",
+    };
+    match way_for(code, r.halt) {
+        Way::None => None,
+        Way::Put(put) => Some(Repair { put, ..here }),
+        Way::Label => without_annotations(marks, here),
         Way::Control => without_control(marks, r.item?),
-        Way::Own => own_action(marks, r),
-        Way::Inner => action(marks, r, 1),
-        Way::Variable => match r.halt {
-            Some(Halt::Literal) => Some(instead(r.at, 1, b"p")),
+        Way::Own => match mark_at(marks, r.at.saturating_add(1)).word {
+            Word::Inner => action(marks, r.item, 2, here),
             _ => None,
         },
-        Way::Relation => relation(marks, r),
+        Way::Inner => action(marks, r.item, 1, here),
+        Way::Relation => relation(marks, here),
     }
 }
 

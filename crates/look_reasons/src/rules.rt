@@ -1,21 +1,26 @@
 //! Why readings stop, as a table: what holds of the place, and what is told then.
 
+use crate::grammar::Class;
 use crate::mending::FixKind;
-use crate::reading::{Halt, Sort};
+use crate::reading::Halt;
 use asl_lexer::token::{Sign, Word};
 
 /// What holds of the place where a reading stops.
 #[derive(Clone, Copy)]
 pub enum Test {
-    /// The token, the one before and the one behind it are one of these.
-    Token(&'static [Word]),
-    Before(&'static [Word]),
-    Next(&'static [Word]),
-    At(&'static [Halt]),
-    /// The clause is one of these.
-    Sort(&'static [Sort]),
+    /// The token, the one before and the one behind it are of this class, or one of these.
+    Token(Class),
+    TokenOf(&'static [Word]),
+    Before(Class),
+    BeforeOf(&'static [Word]),
+    Next(Class),
+    At(Halt),
+    AtOf(&'static [Halt]),
+    /// The clause is a plan; a belief, a rule or a goal.
+    Plan,
+    NoPlan,
     /// The item that is read begins with one of these words.
-    Item(&'static [&'static [u8]]),
+    Item(&'static [u8]),
     /// The token directly before and this one are these signs.
     Pair(&'static [u8]),
     /// A change of this kind mends the piece.
@@ -41,36 +46,6 @@ pub enum Test {
     Opened,
 }
 
-/// A part of what is told.
-#[derive(Clone, Copy)]
-pub enum Say {
-    Words(&'static [u8]),
-    /// The token as it is spelled, and as it stands in the file.
-    Token,
-    Source,
-    /// The tokens beside it, as they are shown; the one before as it is spelled.
-    Before,
-    Next,
-    BeforeText,
-    /// The first word of the item, and what stands for it here.
-    Item,
-    ItemNote,
-    /// The internal action of which the arguments are counted, and how many it takes.
-    Counted,
-    Arguments,
-    /// What stands in place of an internal action that is not there.
-    Instead,
-    /// What the literal is, and the clause.
-    Part,
-    Sort,
-    /// What is put by a change.
-    Put,
-    FirstPlace,
-    /// The bracket that is open, and its place.
-    OpenedText,
-    OpenedPlace,
-}
-
 /// Which bytes are at fault.
 #[derive(Clone, Copy)]
 pub enum Span {
@@ -84,16 +59,13 @@ pub enum Span {
     Decimal,
 }
 
-/// What is told where all of these tests hold: a stable word for it, the reason and a note.
+/// What is told where all of these tests hold. The lines of what is told are a stable word for it, the reason, and a note where there is one; each
+/// `$` and the letter behind it stand for a word of the place: see `phrase_of`.
 pub struct Rule {
     pub tests: &'static [Test],
     pub span: Span,
-    pub code: &'static [u8],
-    pub words: &'static [Say],
-    pub note: &'static [Say],
+    pub told: &'static [u8],
 }
-
-const OWN: &[u8] = b" here: no internal actions and functions of one's own or of a package";
 
 const NAMES: &[Word] = &[
     Word::Atom,
@@ -118,7 +90,6 @@ const ENDS: &[Word] = &[
     Word::Number,
     Word::Str,
     Word::End,
-    Word::Other,
     Word::Sign(Sign::Close),
     Word::Sign(Sign::CloseSquare),
 ];
@@ -131,486 +102,350 @@ const OPERATORS: &[Word] = &[
     Word::Mod,
 ];
 
-const RELATIONS: &[Word] = &[
-    Word::Sign(Sign::Less),
-    Word::Sign(Sign::LessEq),
-    Word::Sign(Sign::More),
-    Word::Sign(Sign::MoreEq),
-    Word::Sign(Sign::Same),
-    Word::Sign(Sign::Differ),
-    Word::Sign(Sign::Unify),
-];
-
 /// The words that begin control items elsewhere.
-const CONTROL: &[&[u8]] = &[b"if", b"for", b"while"];
+const CONTROL: &[u8] = b"if for while";
 
-const BRANCHES: &[&[u8]] = &[b"if", b"for", b"while", b"else", b"elif"];
+const BRANCHES: &[u8] = b"if for while else elif";
 
 const ENDS_AND_ACTIONS: [Rule; 9] = [
     Rule {
         tests: &[Test::Ended],
         span: Span::Token,
-        code: b"dot",
-        words: &[Say::Words(b"the file ends, and the clause has no dot")],
-        note: &[],
+        told: b"dot\nthe file ends, and the clause has no dot",
     },
     Rule {
         tests: &[Test::First, Test::BehindDecimal],
         span: Span::Token,
-        code: b"decimal-rest",
-        words: &[Say::Words(b"the rest of the decimal before")],
-        note: &[],
+        told: b"decimal-rest\nthe rest of the decimal before",
     },
     Rule {
         tests: &[
-            Test::Token(&[Word::End]),
-            Test::Before(&[Word::Number]),
+            Test::Token(Class::Word(Word::End)),
+            Test::Before(Class::Word(Word::Number)),
             Test::Touches,
             Test::Digit,
         ],
         span: Span::Decimal,
-        code: b"decimal",
-        words: &[Say::Words(b"no decimals: the dot ends the clause")],
-        note: &[Say::Words(b"whole numbers, of a smaller unit")],
+        told: b"decimal\nno decimals: the dot ends the clause\nwhole numbers, of a smaller unit",
     },
     Rule {
         tests: &[
-            Test::At(&[Halt::NoInner]),
-            Test::Next(&[Word::Inner]),
+            Test::At(Halt::NoInner),
+            Test::Next(Class::Word(Word::Inner)),
             Test::NextTouches,
         ],
         span: Span::ToNext,
-        code: b"own-inner",
-        words: &[Say::Words(b"no "), Say::Source, Say::Next, Say::Words(OWN)],
-        note: &[],
+        told: b"own-inner\nno $s$n here: no internal actions and functions of one's own or of a package",
     },
     Rule {
-        tests: &[Test::At(&[Halt::NoInner])],
+        tests: &[Test::At(Halt::NoInner)],
         span: Span::Token,
-        code: b"no-inner",
-        words: &[Say::Words(b"no internal action "), Say::Source],
-        note: &[Say::Instead],
+        told: b"no-inner\nno internal action $s\n$e",
     },
     Rule {
         tests: &[
-            Test::Token(&[Word::Inner]),
+            Test::Token(Class::Word(Word::Inner)),
             Test::Touches,
-            Test::Before(NAMES),
-            Test::Next(&[Word::Sign(Sign::Open)]),
+            Test::BeforeOf(NAMES),
+            Test::Next(Class::Sign(Sign::Open)),
         ],
         span: Span::FromBefore,
-        code: b"own-inner",
-        words: &[
-            Say::Words(b"no "),
-            Say::Before,
-            Say::Source,
-            Say::Words(OWN),
-        ],
-        note: &[],
+        told: b"own-inner\nno $b$s here: no internal actions and functions of one's own or of a package",
     },
     Rule {
         tests: &[
-            Test::Token(&[Word::Inner]),
+            Test::Token(Class::Word(Word::Inner)),
             Test::Touches,
-            Test::Before(ENDS),
+            Test::BeforeOf(ENDS),
         ],
         span: Span::Token,
-        code: b"glued-dot",
-        words: &[Say::Source, Say::Words(b" is read as an internal action")],
-        note: &[Say::Words(b"a blank or a new line behind the dot")],
+        told: b"glued-dot\n$s is read as an internal action\na blank or a new line behind the dot",
     },
     Rule {
-        tests: &[Test::At(&[Halt::Count])],
+        tests: &[Test::At(Halt::Count)],
         span: Span::Token,
-        code: b"arguments",
-        words: &[Say::Counted, Say::Words(b" takes "), Say::Arguments],
-        note: &[],
+        told: b"arguments\n$m takes $l$q$h$A",
     },
     Rule {
-        tests: &[Test::At(&[Halt::NotPure])],
+        tests: &[Test::At(Halt::NotPure)],
         span: Span::Token,
-        code: b"not-pure",
-        words: &[
-            Say::Source,
-            Say::Words(b" stands in bodies alone, not in a context or a rule"),
-        ],
-        note: &[],
+        told: b"not-pure\n$s stands in bodies alone, not in a context or a rule",
     },
 ];
 
 const BRACES: [Rule; 8] = [
     Rule {
         tests: &[
-            Test::Token(&[Word::Inner]),
+            Test::Token(Class::Word(Word::Inner)),
             Test::Item(CONTROL),
-            Test::Before(&[Word::Sign(Sign::Open)]),
+            Test::Before(Class::Sign(Sign::Open)),
         ],
         span: Span::Item,
-        code: b"control",
-        words: &[Say::Words(b"no "), Say::Item, Say::Words(b" in a body")],
-        note: &[Say::ItemNote],
+        told: b"control\nno $i in a body\n$I",
     },
     Rule {
         tests: &[
-            Test::Token(&[Word::Inner]),
-            Test::At(&[Halt::Term, Halt::Argument, Halt::Annotation, Halt::List]),
+            Test::Token(Class::Word(Word::Inner)),
+            Test::AtOf(&[Halt::Term, Halt::Argument, Halt::Annotation, Halt::List]),
         ],
         span: Span::Token,
-        code: b"inner-term",
-        words: &[Say::Source, Say::Words(b" is an action and no term")],
-        note: &[Say::Words(b"as an item before, with a variable for its result")],
+        told: b"inner-term\n$s is an action and no term\nas an item before, with a variable for its result",
     },
     Rule {
         tests: &[
-            Test::Token(&[Word::Sign(Sign::OpenSquare)]),
-            Test::At(&[Halt::Trigger]),
+            Test::Token(Class::Sign(Sign::OpenSquare)),
+            Test::At(Halt::Trigger),
         ],
         span: Span::Token,
-        code: b"label",
-        words: &[Say::Words(b"a label is a name alone")],
-        note: &[Say::Words(b"no [atomic], [breakpoint] and the like; for [atomic]: use slot")],
+        told: b"label\na label is a name alone\nno [atomic], [breakpoint] and the like; for [atomic]: use slot",
     },
     Rule {
-        tests: &[Test::Token(&[Word::Sign(Sign::CloseBrace)]), Test::First],
+        tests: &[Test::Token(Class::Sign(Sign::CloseBrace)), Test::First],
         span: Span::Token,
-        code: b"braces",
-        words: &[Say::Words(b"nothing in braces")],
-        note: &[],
+        told: b"braces\nnothing in braces",
     },
     Rule {
         tests: &[
-            Test::Token(&[Word::Sign(Sign::OpenBrace)]),
+            Test::Token(Class::Sign(Sign::OpenBrace)),
             Test::Item(BRANCHES),
         ],
         span: Span::Item,
-        code: b"control",
-        words: &[Say::Words(b"no "), Say::Item, Say::Words(b" in a body")],
-        note: &[Say::ItemNote],
+        told: b"control\nno $i in a body\n$I",
     },
     Rule {
-        tests: &[Test::Token(&[Word::Sign(Sign::OpenBrace)]), Test::First],
+        tests: &[Test::Token(Class::Sign(Sign::OpenBrace)), Test::First],
         span: Span::Token,
-        code: b"directive",
-        words: &[Say::Words(b"no directives")],
-        note: &[Say::Words(b"the clauses themselves, in this file")],
+        told: b"directive\nno directives\nthe clauses themselves, in this file",
     },
     Rule {
-        tests: &[Test::Token(&[Word::Sign(Sign::OpenBrace)])],
+        tests: &[Test::Token(Class::Sign(Sign::OpenBrace))],
         span: Span::Token,
-        code: b"braces",
-        words: &[Say::Words(b"nothing in braces: no plans or goals as terms, no blocks")],
-        note: &[Say::Words(b"a plan in a message is a string")],
+        told: b"braces\nnothing in braces: no plans or goals as terms, no blocks\na plan in a message is a string",
     },
     Rule {
         tests: &[Test::Item(CONTROL), Test::InItem],
         span: Span::Item,
-        code: b"control",
-        words: &[Say::Words(b"no "), Say::Item, Say::Words(b" in a body")],
-        note: &[Say::ItemNote],
+        told: b"control\nno $i in a body\n$I",
     },
 ];
 
 const SIGNS: [Rule; 12] = [
     Rule {
-        tests: &[Test::Token(&[Word::Sign(Sign::RightArrow)]), Test::Agent],
+        tests: &[Test::Token(Class::Sign(Sign::RightArrow)), Test::Agent],
         span: Span::Token,
-        code: b"arrow",
-        words: &[Say::Words(b"a plan's body begins with <-")],
-        note: &[],
+        told: b"arrow\na plan's body begins with <-",
     },
     Rule {
         tests: &[
-            Test::Token(&[Word::Sign(Sign::If), Word::Sign(Sign::Unify)]),
-            Test::Sort(&[Sort::Plan]),
-            Test::At(&[Halt::TriggerEnd, Halt::ContextEnd]),
+            Test::Token(Class::Either(Sign::If, Sign::Unify)),
+            Test::Plan,
+            Test::AtOf(&[Halt::TriggerEnd, Halt::ContextEnd]),
         ],
         span: Span::Token,
-        code: b"arrow",
-        words: &[
-            Say::Words(b"a plan's body begins with <-, and "),
-            Say::Token,
-            Say::Words(b" ends no context"),
-        ],
-        note: &[],
+        told: b"arrow\na plan's body begins with <-, and $t ends no context",
     },
     Rule {
-        tests: &[
-            Test::Token(&[Word::Sign(Sign::LeftArrow)]),
-            Test::Sort(&[Sort::Belief, Sort::Rule, Sort::Goal]),
-        ],
+        tests: &[Test::Token(Class::Sign(Sign::LeftArrow)), Test::NoPlan],
         span: Span::Token,
-        code: b"no-sign",
-        words: &[Say::Words(b"a plan begins with + or -")],
-        note: &[Say::Words(b"+!g for a goal, +b for a belief that comes, -b for one that goes")],
+        told: b"no-sign\na plan begins with + or -\n+!g for a goal, +b for a belief that comes, -b for one that goes",
     },
     Rule {
         tests: &[Test::Touches, Test::Pair(b"=<")],
         span: Span::Token,
-        code: b"relation",
-        words: &[Say::Words(b"no =< here")],
-        note: &[Say::Words(b"write <=")],
+        told: b"relation\nno =< here\nwrite <=",
     },
     Rule {
         tests: &[Test::Touches, Test::Pair(b"=>")],
         span: Span::Token,
-        code: b"relation",
-        words: &[Say::Words(b"no => here")],
-        note: &[Say::Words(b"write >=")],
+        told: b"relation\nno => here\nwrite >=",
     },
     Rule {
         tests: &[Test::Touches, Test::Pair(b"&&")],
         span: Span::Token,
-        code: b"sign",
-        words: &[Say::Words(b"no && here")],
-        note: &[Say::Words(b"write &")],
+        told: b"sign\nno && here\nwrite &",
     },
     Rule {
         tests: &[Test::Touches, Test::Pair(b"||")],
         span: Span::Token,
-        code: b"sign",
-        words: &[Say::Words(b"no || here")],
-        note: &[Say::Words(b"write |")],
+        told: b"sign\nno || here\nwrite |",
     },
     Rule {
         tests: &[Test::Touches, Test::Pair(b":=")],
         span: Span::Token,
-        code: b"sign",
-        words: &[Say::Words(b"no := here")],
-        note: &[Say::Words(b"write =")],
+        told: b"sign\nno := here\nwrite =",
     },
     Rule {
         tests: &[Test::Touches, Test::Pair(b"**")],
         span: Span::Token,
-        code: b"sign",
-        words: &[Say::Words(b"no ** here")],
-        note: &[],
+        told: b"sign\nno ** here",
     },
     Rule {
         tests: &[Test::Touches, Test::Pair(b"|&")],
         span: Span::Token,
-        code: b"sign",
-        words: &[Say::Words(b"no |&| here")],
-        note: &[],
+        told: b"sign\nno |&| here",
     },
     Rule {
         tests: &[Test::Touches, Test::Pair(b"::")],
         span: Span::Token,
-        code: b"sign",
-        words: &[Say::Words(b"no :: here")],
-        note: &[],
+        told: b"sign\nno :: here",
     },
     Rule {
         tests: &[
-            Test::Token(&[Word::Sign(Sign::Bang)]),
-            Test::Next(&[Word::Sign(Sign::Unify), Word::Sign(Sign::Same)]),
+            Test::Token(Class::Sign(Sign::Bang)),
+            Test::Next(Class::Either(Sign::Unify, Sign::Same)),
             Test::NextTouches,
         ],
         span: Span::Token,
-        code: b"relation",
-        words: &[Say::Words(b"no != here")],
-        note: &[Say::Words(b"write \\==")],
+        told: b"relation\nno != here\nwrite \\==",
     },
 ];
 
 const TERMS: [Rule; 11] = [
     Rule {
-        tests: &[Test::Token(&[Word::Var]), Test::At(&[Halt::Literal])],
+        tests: &[Test::Token(Class::Word(Word::Var)), Test::At(Halt::Literal)],
         span: Span::Token,
-        code: b"variable",
-        words: &[
-            Say::Part,
-            Say::Words(b" begins with a small letter, and "),
-            Say::Token,
-            Say::Words(b" is a variable"),
-        ],
-        note: &[Say::Words(b"a plan for each one, or the name in small letters")],
-    },
-    Rule {
-        tests: &[Test::Token(&[Word::Var]), Test::Before(&[Word::Inner])],
-        span: Span::Token,
-        code: b"extra",
-        words: &[
-            Say::Token,
-            Say::Words(b" cannot stand behind "),
-            Say::BeforeText,
-        ],
-        note: &[],
+        told: b"variable\n$p begins with a small letter, and $t is a variable\na plan for each one, or the name in small letters",
     },
     Rule {
         tests: &[
-            Test::Token(&[Word::Sign(Sign::Open), Word::Not]),
-            Test::Before(&[Word::Sign(Sign::Question)]),
+            Test::Token(Class::Word(Word::Var)),
+            Test::Before(Class::Word(Word::Inner)),
         ],
         span: Span::Token,
-        code: b"question",
-        words: &[Say::Words(b"a question is of one literal")],
-        note: &[Say::Words(b"a rule q(X) :- .. & ..; then ?q(X)")],
+        told: b"extra\n$t cannot stand behind $B",
     },
     Rule {
         tests: &[
-            Test::Plain,
-            Test::Token(OPERATORS),
-            Test::Sort(&[Sort::Plan]),
+            Test::TokenOf(&[Word::Sign(Sign::Open), Word::Not]),
+            Test::Before(Class::Sign(Sign::Question)),
         ],
         span: Span::Token,
-        code: b"arithmetic",
-        words: &[Say::Words(b"no arithmetic in "), Say::Sort],
-        note: &[Say::Words(b"a variable, and an equation in the context")],
+        told: b"question\na question is of one literal\na rule q(X) :- .. & ..; then ?q(X)",
     },
     Rule {
-        tests: &[Test::At(&[Halt::NoArithmetic]), Test::Sort(&[Sort::Plan])],
+        tests: &[Test::Plain, Test::TokenOf(OPERATORS), Test::Plan],
         span: Span::Token,
-        code: b"arithmetic",
-        words: &[Say::Words(b"no arithmetic in "), Say::Sort],
-        note: &[Say::Words(b"a variable, and an equation in the context")],
+        told: b"arithmetic\nno arithmetic in $k\na variable, and an equation in the context",
     },
     Rule {
-        tests: &[Test::Plain, Test::Token(OPERATORS)],
+        tests: &[Test::At(Halt::NoArithmetic), Test::Plan],
         span: Span::Token,
-        code: b"arithmetic",
-        words: &[Say::Words(b"no arithmetic in "), Say::Sort],
-        note: &[Say::Words(b"its number")],
+        told: b"arithmetic\nno arithmetic in $k\na variable, and an equation in the context",
     },
     Rule {
-        tests: &[Test::At(&[Halt::NoArithmetic])],
+        tests: &[Test::Plain, Test::TokenOf(OPERATORS)],
         span: Span::Token,
-        code: b"arithmetic",
-        words: &[Say::Words(b"no arithmetic in "), Say::Sort],
-        note: &[Say::Words(b"its number")],
+        told: b"arithmetic\nno arithmetic in $k\nits number",
     },
     Rule {
-        tests: &[Test::At(&[Halt::Ground])],
+        tests: &[Test::At(Halt::NoArithmetic)],
         span: Span::Token,
-        code: b"ground",
-        words: &[Say::Words(b"a fact has no variables")],
-        note: &[],
+        told: b"arithmetic\nno arithmetic in $k\nits number",
+    },
+    Rule {
+        tests: &[Test::At(Halt::Ground)],
+        span: Span::Token,
+        told: b"ground\na fact has no variables",
     },
     Rule {
         tests: &[
-            Test::Token(&[Word::Sign(Sign::Comma)]),
-            Test::At(&[Halt::ItemEnd]),
+            Test::Token(Class::Sign(Sign::Comma)),
+            Test::At(Halt::ItemEnd),
         ],
         span: Span::Token,
-        code: b"comma",
-        words: &[Say::Words(b"items have ; between them")],
-        note: &[],
+        told: b"comma\nitems have ; between them",
     },
     Rule {
         tests: &[
-            Test::Token(&[Word::Sign(Sign::Comma)]),
-            Test::At(&[Halt::ContextEnd, Halt::FormulaEnd, Halt::TriggerEnd]),
+            Test::Token(Class::Sign(Sign::Comma)),
+            Test::AtOf(&[Halt::ContextEnd, Halt::FormulaEnd, Halt::TriggerEnd]),
         ],
         span: Span::Token,
-        code: b"comma",
-        words: &[Say::Words(b"formulas have & between them")],
-        note: &[],
+        told: b"comma\nformulas have & between them",
     },
     Rule {
         tests: &[
-            Test::Token(&[Word::Sign(Sign::Colon)]),
-            Test::At(&[Halt::ItemEnd]),
+            Test::Token(Class::Sign(Sign::Colon)),
+            Test::At(Halt::ItemEnd),
         ],
         span: Span::Token,
-        code: b"context",
-        words: &[Say::Words(b"a context stands before <-")],
-        note: &[Say::Words(b"+!g : CONTEXT <- ITEMS.")],
+        told: b"context\na context stands before <-\n+!g : CONTEXT <- ITEMS.",
     },
 ];
 
 const ITEMS: [Rule; 10] = [
     Rule {
-        tests: &[Test::At(&[Halt::Marked])],
+        tests: &[Test::At(Halt::Marked)],
         span: Span::Token,
-        code: b"action",
-        words: &[Say::Words(b"an action has neither ~ nor annotations")],
-        note: &[Say::Words(b"+~p adds the belief ~p")],
+        told: b"action\nan action has neither ~ nor annotations\n+~p adds the belief ~p",
     },
     Rule {
-        tests: &[Test::At(&[Halt::False])],
+        tests: &[Test::At(Halt::False)],
         span: Span::Token,
-        code: b"action",
-        words: &[Say::Words(b"false is no item")],
-        note: &[Say::Words(b".fail fails")],
+        told: b"action\nfalse is no item\n.fail fails",
     },
     Rule {
-        tests: &[Test::At(&[Halt::Bare])],
+        tests: &[Test::At(Halt::Bare)],
         span: Span::Token,
-        code: b"action",
-        words: &[Say::Words(b"a term alone is no item")],
-        note: &[],
+        told: b"action\na term alone is no item",
     },
     Rule {
         tests: &[
-            Test::Token(&[
+            Test::TokenOf(&[
                 Word::Sign(Sign::Bang),
                 Word::Sign(Sign::Bangs),
                 Word::Sign(Sign::Question),
                 Word::Sign(Sign::Plus),
                 Word::Sign(Sign::MinusPlus),
             ]),
-            Test::At(&[Halt::Item, Halt::Argument, Halt::Formula, Halt::Term]),
-            Test::Before(&[Word::Sign(Sign::Open), Word::Sign(Sign::Comma)]),
+            Test::AtOf(&[Halt::Item, Halt::Argument, Halt::Formula, Halt::Term]),
+            Test::Before(Class::Either(Sign::Open, Sign::Comma)),
         ],
         span: Span::Token,
-        code: b"goal-term",
-        words: &[Say::Words(b"a goal, question or update is an item of its own, not in brackets")],
-        note: &[],
+        told: b"goal-term\na goal, question or update is an item of its own, not in brackets",
     },
     Rule {
-        tests: &[Test::At(&[Halt::Relation]), Test::Before(&[Word::Var])],
+        tests: &[
+            Test::At(Halt::Relation),
+            Test::Before(Class::Word(Word::Var)),
+        ],
         span: Span::Before,
-        code: b"variable",
-        words: &[Say::Words(b"a variable is no formula: "), Say::BeforeText],
-        note: &[],
+        told: b"variable\na variable is no formula: $B",
     },
     Rule {
-        tests: &[Test::Token(&[Word::Not])],
+        tests: &[Test::Token(Class::Word(Word::Not))],
         span: Span::Token,
-        code: b"not",
-        words: &[Say::Words(b"not stands in contexts and rules alone")],
-        note: &[],
+        told: b"not\nnot stands in contexts and rules alone",
     },
     Rule {
         tests: &[
-            Test::Token(&[Word::Sign(Sign::Ampersand), Word::Sign(Sign::Bar)]),
+            Test::Token(Class::Either(Sign::Ampersand, Sign::Bar)),
             Test::InBody,
-            Test::Sort(&[Sort::Plan]),
+            Test::Plan,
         ],
         span: Span::Token,
-        code: b"formula",
-        words: &[
-            Say::Words(b"an item is no formula: no "),
-            Say::Token,
-            Say::Words(b" in a body"),
-        ],
-        note: &[Say::Words(b"a rule, and ?q; or a context")],
+        told: b"formula\nan item is no formula: no $t in a body\na rule, and ?q; or a context",
     },
     Rule {
         tests: &[
-            Test::Token(RELATIONS),
-            Test::At(&[Halt::Argument, Halt::Annotation, Halt::List]),
+            Test::Token(Class::Relation),
+            Test::AtOf(&[Halt::Argument, Halt::Annotation, Halt::List]),
         ],
         span: Span::Token,
-        code: b"relation-term",
-        words: &[Say::Words(b"an argument is a term: no relation")],
-        note: &[],
+        told: b"relation-term\nan argument is a term: no relation",
     },
     Rule {
         tests: &[
-            Test::Token(&[Word::Sign(Sign::OpenSquare)]),
-            Test::Before(&[Word::Var]),
+            Test::Token(Class::Sign(Sign::OpenSquare)),
+            Test::Before(Class::Word(Word::Var)),
         ],
         span: Span::Token,
-        code: b"variable",
-        words: &[Say::Words(b"no annotations behind a variable")],
-        note: &[],
+        told: b"variable\nno annotations behind a variable",
     },
     Rule {
-        tests: &[Test::Token(&[Word::Sign(Sign::Hash)]), Test::First],
+        tests: &[Test::Token(Class::Sign(Sign::Hash)), Test::First],
         span: Span::Token,
-        code: b"comment-sign",
-        words: &[Say::Words(b"# begins no comment here")],
-        note: &[Say::Words(b"write //")],
+        told: b"comment-sign\n# begins no comment here\nwrite //",
     },
 ];
 
@@ -618,133 +453,74 @@ const WORLDS: [Rule; 13] = [
     Rule {
         tests: &[Test::Mends(FixKind::Dot)],
         span: Span::Token,
-        code: b"dot",
-        words: &[Say::Words(b"no dot in front of "), Say::Source],
-        note: &[
-            Say::Words(b"the clause before it begins at "),
-            Say::FirstPlace,
-        ],
+        told: b"dot\nno dot in front of $s\nthe clause before it begins at $x:$y",
     },
     Rule {
         tests: &[Test::Mends(FixKind::Bracket)],
         span: Span::Token,
-        code: b"bracket",
-        words: &[
-            Say::Put,
-            Say::Words(b" is missing in front of "),
-            Say::Source,
-        ],
-        note: &[],
+        told: b"bracket\n$u is missing in front of $s",
     },
     Rule {
         tests: &[Test::Mends(FixKind::Missing)],
         span: Span::Token,
-        code: b"missing",
-        words: &[
-            Say::Put,
-            Say::Words(b" is missing in front of "),
-            Say::Source,
-        ],
-        note: &[],
+        told: b"missing\n$u is missing in front of $s",
     },
     Rule {
-        tests: &[Test::At(&[Halt::By])],
+        tests: &[Test::At(Halt::By)],
         span: Span::Token,
-        code: b"world",
-        words: &[
-            Say::Words(b"an act is `act NAME(..) by A : .. -> ..`; `by` is wanted before "),
-            Say::Source,
-        ],
-        note: &[],
+        told: b"world\nan act is `act NAME(..) by A : .. -> ..`; `by` is wanted before $s",
     },
     Rule {
-        tests: &[Test::At(&[Halt::Who])],
+        tests: &[Test::At(Halt::Who)],
         span: Span::Token,
-        code: b"world",
-        words: &[Say::Words(b"behind `by` stands a variable or an agent's name")],
-        note: &[],
+        told: b"world\nbehind `by` stands a variable or an agent's name",
     },
     Rule {
-        tests: &[Test::At(&[Halt::Arrow])],
+        tests: &[Test::At(Halt::Arrow)],
         span: Span::Token,
-        code: b"world",
-        words: &[
-            Say::Words(b"effects begin with ->, and "),
-            Say::Source,
-            Say::Words(b" cannot stand before them"),
-        ],
-        note: &[],
+        told: b"world\neffects begin with ->, and $s cannot stand before them",
     },
     Rule {
-        tests: &[Test::At(&[Halt::Effect])],
+        tests: &[Test::At(Halt::Effect)],
         span: Span::Token,
-        code: b"world",
-        words: &[Say::Words(b"an effect is +f, -f, true or drop NAME")],
-        note: &[],
+        told: b"world\nan effect is +f, -f, true or drop NAME",
     },
     Rule {
-        tests: &[Test::At(&[Halt::Guard])],
+        tests: &[Test::At(Halt::Guard)],
         span: Span::Token,
-        code: b"world",
-        words: &[Say::Words(b"a guard's part is a literal, not and a literal, or a relation")],
-        note: &[],
+        told: b"world\na guard's part is a literal, not and a literal, or a relation",
     },
     Rule {
-        tests: &[Test::At(&[Halt::NegativeAct])],
+        tests: &[Test::At(Halt::NegativeAct)],
         span: Span::Token,
-        code: b"world",
-        words: &[Say::Words(b"an act has no ~")],
-        note: &[],
+        told: b"world\nan act has no ~",
     },
     Rule {
-        tests: &[Test::At(&[Halt::Twice])],
+        tests: &[Test::At(Halt::Twice)],
         span: Span::Token,
-        code: b"world",
-        words: &[Say::Source, Say::Words(b" is used twice")],
-        note: &[],
+        told: b"world\n$s is used twice",
     },
     Rule {
-        tests: &[Test::At(&[Halt::FactEnd])],
+        tests: &[Test::At(Halt::FactEnd)],
         span: Span::Token,
-        code: b"world",
-        words: &[
-            Say::Source,
-            Say::Words(b" cannot stand behind a fact; no rules in a world"),
-        ],
-        note: &[],
+        told: b"world\n$s cannot stand behind a fact; no rules in a world",
     },
     Rule {
-        tests: &[Test::Token(&[Word::End]), Test::Opened],
+        tests: &[Test::Token(Class::Word(Word::End)), Test::Opened],
         span: Span::Token,
-        code: b"bracket",
-        words: &[
-            Say::Words(b"the bracket "),
-            Say::OpenedText,
-            Say::Words(b" of "),
-            Say::OpenedPlace,
-            Say::Words(b" is not closed"),
-        ],
-        note: &[],
+        told: b"bracket\nthe bracket $o of $v:$w is not closed",
     },
     Rule {
-        tests: &[Test::At(&[Halt::Relation])],
+        tests: &[Test::At(Halt::Relation)],
         span: Span::Token,
-        code: b"no-formula",
-        words: &[
-            Say::Words(b"what stands before "),
-            Say::Source,
-            Say::Words(b" is a term, and a formula is wanted"),
-        ],
-        note: &[Say::Words(b"a relation, as X > 1, or a name")],
+        told: b"no-formula\nwhat stands before $s is a term, and a formula is wanted\na relation, as X > 1, or a name",
     },
 ];
 
 const OTHERWISE: Rule = Rule {
     tests: &[],
     span: Span::Token,
-    code: b"syntax",
-    words: &[Say::Source, Say::Words(b" cannot stand here")],
-    note: &[],
+    told: b"syntax\n$s cannot stand here",
 };
 
 /// At the end, and at internal actions.

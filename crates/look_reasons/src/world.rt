@@ -1,122 +1,210 @@
-//! The steps in the clauses of a world.
+//! The rows of the clauses of a world.
 
-use crate::clause::{behind, pattern};
-use crate::mark::{Mark, is_atom, is_sign};
-use crate::reading::{Halt, Mode, Part, Reading, Sort, Want};
+use crate::grammar::{Act, Also, Class, Mode, Place, Row, Spelling, State};
+use crate::reading::{Halt, Part, Sort};
 use asl_lexer::token::{Sign, Word};
 
-fn is_used(used: &[Mark<'_>], name: &[u8]) -> bool {
-    for m in used {
-        if m.text == name {
-            return true;
-        }
-    }
-    false
+const CLAUSES: [Row; 7] = [
+    (
+        State::World,
+        Class::Any,
+        Place::Any,
+        Also::BeforeAtom(Spelling::Hide),
+        &[
+            Act::Sort(Sort::Hide),
+            Act::Go,
+            Act::Go,
+            Act::Want(State::HeadEnd),
+        ],
+    ),
+    (
+        State::World,
+        Class::Any,
+        Place::Any,
+        Also::BeforeAtom(Spelling::Use),
+        &[Act::Sort(Sort::Use), Act::Go, Act::Want(State::Use)],
+    ),
+    (
+        State::World,
+        Class::Any,
+        Place::Any,
+        Also::BeforeAtom(Spelling::Act),
+        &[
+            Act::Sort(Sort::Act),
+            Act::Go,
+            Act::Want(State::ActBy),
+            Act::Part(Part::Act),
+            Act::Want(State::Pattern),
+        ],
+    ),
+    (
+        State::World,
+        Class::Any,
+        Place::Any,
+        Also::BeforeTilde(Spelling::Act),
+        &[Act::Sort(Sort::Act), Act::Go, Act::Stop(Halt::NegativeAct)],
+    ),
+    (
+        State::World,
+        Class::Any,
+        Place::Any,
+        Also::Nothing,
+        &[
+            Act::Sort(Sort::Fact),
+            Act::Plain(true),
+            Act::Ground,
+            Act::Want(State::FactEnd),
+            Act::Part(Part::Fact),
+            Act::Want(State::Literal),
+        ],
+    ),
+    (
+        State::Use,
+        Class::Any,
+        Place::Any,
+        Also::Used,
+        &[Act::Stop(Halt::Twice)],
+    ),
+    (
+        State::Use,
+        Class::Any,
+        Place::Any,
+        Also::Nothing,
+        &[Act::Go, Act::Want(State::HeadEnd)],
+    ),
+];
+
+const ACTS: [Row; 7] = [
+    (
+        State::ActBy,
+        Class::Any,
+        Place::Any,
+        Also::Text(Spelling::By),
+        &[Act::Go, Act::Want(State::Who)],
+    ),
+    (
+        State::ActBy,
+        Class::Any,
+        Place::Any,
+        Also::Nothing,
+        &[Act::Stop(Halt::By)],
+    ),
+    (
+        State::Who,
+        Class::Agent,
+        Place::Any,
+        Also::Nothing,
+        &[Act::Go, Act::Want(State::ActArrow), Act::Want(State::Guard)],
+    ),
+    (
+        State::Who,
+        Class::Any,
+        Place::Any,
+        Also::Nothing,
+        &[Act::Stop(Halt::Who)],
+    ),
+    (
+        State::Guard,
+        Class::Sign(Sign::Colon),
+        Place::Any,
+        Also::Nothing,
+        &[Act::Go, Act::In(Mode::Guard), Act::Want(State::Or)],
+    ),
+    (
+        State::ActArrow,
+        Class::Sign(Sign::RightArrow),
+        Place::Any,
+        Also::Nothing,
+        &[Act::Go, Act::Arrow, Act::Want(State::Effect)],
+    ),
+    (
+        State::ActArrow,
+        Class::Any,
+        Place::Any,
+        Also::Nothing,
+        &[Act::Stop(Halt::Arrow)],
+    ),
+];
+
+const EFFECTS: [Row; 8] = [
+    (
+        State::Effect,
+        Class::Either(Sign::Plus, Sign::Minus),
+        Place::Any,
+        Also::Nothing,
+        &[
+            Act::Go,
+            Act::Want(State::MoreEffects),
+            Act::Part(Part::Changed),
+            Act::Want(State::Literal),
+        ],
+    ),
+    (
+        State::Effect,
+        Class::Word(Word::True),
+        Place::Any,
+        Also::Nothing,
+        &[Act::Go, Act::Want(State::MoreEffects)],
+    ),
+    (
+        State::Effect,
+        Class::Any,
+        Place::Any,
+        Also::Text(Spelling::Drop),
+        &[
+            Act::Go,
+            Act::Want(State::MoreEffects),
+            Act::Want(State::Dropped),
+        ],
+    ),
+    (
+        State::Effect,
+        Class::Any,
+        Place::Any,
+        Also::Nothing,
+        &[Act::Stop(Halt::Effect)],
+    ),
+    (
+        State::Dropped,
+        Class::Atom,
+        Place::Any,
+        Also::Nothing,
+        &[Act::Go],
+    ),
+    (
+        State::Dropped,
+        Class::Any,
+        Place::Any,
+        Also::Nothing,
+        &[Act::Stop(Halt::Drop)],
+    ),
+    (
+        State::MoreEffects,
+        Class::Sign(Sign::Comma),
+        Place::Any,
+        Also::Nothing,
+        &[Act::Go, Act::Want(State::Effect)],
+    ),
+    (
+        State::MoreEffects,
+        Class::Any,
+        Place::Any,
+        Also::Nothing,
+        &[Act::End(Halt::EffectEnd)],
+    ),
+];
+
+/// What a clause of a world begins with.
+pub fn world_rows() -> &'static [Row] {
+    &CLAUSES
 }
 
-fn named(r: &mut Reading<'_>, sort: Sort, name: &[u8]) {
-    r.sort = sort;
-    r.at = 1;
-    if matches!(sort, Sort::Use) && is_used(r.used, name) {
-        r.stop(Halt::Twice);
-        return;
-    }
-    r.at = 2;
-    r.want(Want::End(Halt::HeadEnd));
+/// What stands behind the head of an act.
+pub fn act_rows() -> &'static [Row] {
+    &ACTS
 }
 
-fn act(r: &mut Reading<'_>) {
-    r.sort = Sort::Act;
-    r.at = 1;
-    if r.is_sign(Sign::Tilde) {
-        r.stop(Halt::NegativeAct);
-        return;
-    }
-    r.want(Want::ActBy);
-    pattern(r, Part::Act);
-}
-
-fn fact(r: &mut Reading<'_>) {
-    r.sort = Sort::Fact;
-    r.plain = true;
-    r.ground = true;
-    r.want(Want::End(Halt::FactEnd));
-    r.want(Want::Literal(Part::Fact));
-}
-
-/// The first want of a clause.
-pub fn begin(r: &mut Reading<'_>) {
-    let [first, second, ..] = r.marks else {
-        fact(r);
-        return;
-    };
-    let name = is_atom(second.word);
-    match first.text {
-        b"hide" if name => named(r, Sort::Hide, second.text),
-        b"use" if name => named(r, Sort::Use, second.text),
-        b"act" if name || is_sign(second.word, Sign::Tilde) => act(r),
-        _ => fact(r),
-    }
-}
-
-fn act_by(r: &mut Reading<'_>) {
-    if !r.is_text(b"by") {
-        r.stop(Halt::By);
-        return;
-    }
-    r.go();
-    if !r.is_atom() && !matches!(r.word(), Word::Var) {
-        r.stop(Halt::Who);
-        return;
-    }
-    r.go();
-    r.want(Want::ActArrow);
-    if r.is_sign(Sign::Colon) {
-        r.go();
-        r.want(Want::Or(Mode::Guard));
-    }
-}
-
-fn act_arrow(r: &mut Reading<'_>) {
-    if !r.is_sign(Sign::RightArrow) {
-        r.stop(Halt::Arrow);
-        return;
-    }
-    r.go();
-    r.arrow = r.at;
-    r.want(Want::Effect);
-}
-
-fn dropped(r: &mut Reading<'_>) {
-    if !r.is_text(b"drop") {
-        r.stop(Halt::Effect);
-        return;
-    }
-    r.go();
-    if r.is_atom() {
-        r.go();
-    } else {
-        r.stop(Halt::Drop);
-    }
-}
-
-fn effect(r: &mut Reading<'_>) {
-    r.want(Want::MoreEffects);
-    match r.word() {
-        Word::Sign(Sign::Plus | Sign::Minus) => {
-            r.go();
-            r.want(Want::Literal(Part::Changed));
-        }
-        Word::True => r.go(),
-        _ => dropped(r),
-    }
-}
-
-pub fn step(r: &mut Reading<'_>, want: Want) {
-    match want {
-        Want::ActBy => act_by(r),
-        Want::ActArrow => act_arrow(r),
-        Want::Effect => effect(r),
-        _ => behind(r, Sign::Comma, Want::Effect, Halt::EffectEnd),
-    }
+/// The effects of an act.
+pub fn effect_rows() -> &'static [Row] {
+    &EFFECTS
 }
