@@ -1,21 +1,11 @@
 //! When each message was sent and taken: the k-th from one agent to another is the k-th that this one took from that one.
 
-use crate::lines::{Letter, MailLines};
-use asl_term::copying::text_of;
-use asl_term::names::{Names, find};
+use crate::lines::{Fate, Letter, MailLines, agent_of};
+use asl_term::names::Names;
 use asl_term::sequence::{Seq, Starved};
 use std::alloc::Global;
 
-/// When a message was taken, or why it was not.
-#[derive(Clone, Copy)]
-pub enum Fate {
-    Taken { turn: u64, cycle: u64 },
-    Unread,
-    /// Its cycle ended by a spent budget.
-    Lost,
-}
-
-/// A message with the turn in which it was sent, from 1; 0 where there is no such turn.
+/// A message with the turn in which it was sent or taken, from 1; 0 where there is no such turn.
 #[derive(Clone, Copy)]
 pub struct Row<'a> {
     pub letter: Letter<'a>,
@@ -33,12 +23,6 @@ pub struct Key {
 }
 
 pub type Keys = Seq<Key>;
-
-/// Puts a key of this number, whose place is how many keys are there.
-fn put_key(number: u64, keys: &mut Keys) -> Result<(), Starved> {
-    let place = keys.len();
-    keys.push(Key { number, place })
-}
 
 /// By their numbers. Those of one number stay in their order.
 fn in_order(keys: Keys) -> Result<Keys, Starved> {
@@ -60,8 +44,12 @@ fn are_agents(turns: &[u64], agents: u64) -> bool {
 /// The turns by their agents.
 fn turns_of(alloc: Global, turns: &[u64]) -> Result<Keys, Starved> {
     let mut keys = Seq::new(alloc);
-    for agent in turns {
-        put_key(*agent, &mut keys)?;
+    for number in turns {
+        let place = keys.len();
+        keys.push(Key {
+            number: *number,
+            place,
+        })?;
     }
     in_order(keys)
 }
@@ -80,8 +68,11 @@ fn count_below(keys: &[Key], number: u64) -> usize {
     low
 }
 
-/// The turn of an agent with this number among its own, which is from 0.
-fn turn_at(turns: &[Key], agent: u64, k: u64) -> u64 {
+/// The turn that is this one among the agent's own, from 1; 0 where it has none.
+fn turn_at(turns: &[Key], agent: u64, own: u64) -> u64 {
+    let Some(k) = own.checked_sub(1) else {
+        return 0;
+    };
     let at = count_below(turns, agent).saturating_add(k as usize);
     match turns.get(at) {
         Some(t) if t.number == agent => t.place.saturating_add(1),
@@ -97,53 +88,55 @@ fn is_spent(spent: &[Letter<'_>], letter: &Letter<'_>) -> bool {
     is
 }
 
-/// The row of a message before it is known whether it was taken.
+/// The row of a message before it is known whether one that was sent was taken.
 fn row_of<'a>(spent: &[Letter<'_>], turns: &[Key], letter: &Letter<'a>) -> Row<'a> {
-    let last = letter.cycle.saturating_mul(2).saturating_sub(1);
-    let lost = is_spent(spent, letter);
+    let turn = turn_at(turns, letter.agent, letter.own);
+    let fate = match letter.fate {
+        Fate::Taken { cycle, .. } => Fate::Taken { turn, cycle },
+        _ if is_spent(spent, letter) => Fate::Lost,
+        other => other,
+    };
     Row {
         letter: *letter,
-        turn: turn_at(turns, letter.agent, last),
-        fate: if lost { Fate::Lost } else { Fate::Unread },
+        turn,
+        fate,
     }
 }
 
-fn put_sent<'a>(m: &MailLines<'a>, turns: &[Key], rows: &mut Rows<'a>) -> Result<(), Starved> {
-    for letter in m.sent.as_slice() {
-        rows.push(row_of(m.spent.as_slice(), turns, letter))?;
+/// Puts the rows of messages that were sent where some cycles spent a budget, or of those that came in.
+fn put_rows<'a>(
+    letters: &[Letter<'a>],
+    spent: &[Letter<'_>],
+    turns: &[Key],
+    rows: &mut Rows<'a>,
+) -> Result<(), Starved> {
+    for letter in letters {
+        rows.push(row_of(spent, turns, letter))?;
     }
     Ok(())
 }
 
-/// The number of the agent of this name; 0 where there is none.
-fn agent_of(alloc: Global, names: &Names, name: &[u8]) -> Result<u64, Starved> {
-    let text = text_of(alloc, name)?;
-    match find(names, &text) {
-        Some(number) => Ok(number as u64),
-        None => Ok(0),
-    }
-}
-
-/// A number for two agents, the one who sends first; 0 where one of them is not there.
-fn pair(from: u64, to: u64) -> u64 {
-    if from == 0 || to == 0 {
-        0
+/// A number for the two agents of a message, the one who sends first; 0 where one of them is not there.
+fn pair_of(alloc: Global, names: &Names, letter: &Letter<'_>, sent: bool) -> Result<u64, Starved> {
+    let other = agent_of(alloc, names, letter.other)?;
+    let (from, to) = if sent {
+        (letter.agent, other)
     } else {
-        from.saturating_mul(4_294_967_296).saturating_add(to)
+        (other, letter.agent)
+    };
+    if from == 0 || to == 0 {
+        return Ok(0);
     }
+    Ok(from.saturating_mul(4_294_967_296).saturating_add(to))
 }
 
-/// The messages that went out, by their agents.
-fn passed_of(alloc: Global, names: &Names, rows: &[Row<'_>]) -> Result<Keys, Starved> {
+/// The messages that were sent and went out, or those that came in, by their agents.
+fn keys_of(alloc: Global, names: &Names, rows: &[Row<'_>], sent: bool) -> Result<Keys, Starved> {
     let mut keys = Seq::new(alloc);
     let mut place: u64 = 0;
     for row in rows {
-        let to = agent_of(alloc, names, row.letter.other)?;
-        let number = if row.turn == 0 {
-            0
-        } else {
-            pair(row.letter.agent, to)
-        };
+        let pair = pair_of(alloc, names, &row.letter, sent)?;
+        let number = if sent && row.turn == 0 { 0 } else { pair };
         if number == 0 || !matches!(row.fate, Fate::Lost) {
             keys.push(Key { number, place })?;
         }
@@ -152,121 +145,78 @@ fn passed_of(alloc: Global, names: &Names, rows: &[Row<'_>]) -> Result<Keys, Sta
     in_order(keys)
 }
 
-/// Puts the key of a message that came in.
-fn put_from(
-    alloc: Global,
-    names: &Names,
-    from: &[u8],
-    to: u64,
-    keys: &mut Keys,
-) -> Result<(), Starved> {
-    let from = agent_of(alloc, names, from)?;
-    put_key(pair(from, to), keys)
-}
-
-/// The messages that came in, by their agents: those that were taken, and behind them those that wait.
-fn came_of(alloc: Global, m: &MailLines<'_>) -> Result<Keys, Starved> {
-    let mut keys = Seq::new(alloc);
-    for letter in m.took.as_slice() {
-        put_from(alloc, &m.names, letter.other, letter.agent, &mut keys)?;
-    }
-    for w in m.waiting.as_slice() {
-        let to = agent_of(alloc, &m.names, w.to)?;
-        put_from(alloc, &m.names, w.from, to, &mut keys)?;
-    }
-    in_order(keys)
-}
-
-/// The turn in which a message was taken.
-fn taken_turn(turns: &[Key], taken: &Letter<'_>) -> u64 {
-    match taken.cycle {
-        0 => 0,
-        cycle => turn_at(
-            turns,
-            taken.agent,
-            cycle.saturating_sub(1).saturating_mul(2),
-        ),
+/// Whether what came in fits a message that was sent: it waits, or is the same and was taken later.
+fn is_fit(row: &Row<'_>, came: &Row<'_>) -> bool {
+    match came.fate {
+        Fate::Taken { turn, .. } => {
+            row.letter.verb == came.letter.verb
+                && row.letter.content == came.letter.content
+                && turn > row.turn
+        }
+        _ => true,
     }
 }
 
-/// Whether it is the same message, taken in this turn after it was sent.
-fn is_same(row: &Row<'_>, taken: &Letter<'_>, turn: u64) -> bool {
-    row.letter.verb == taken.verb && row.letter.content == taken.content && turn > row.turn
-}
-
-/// Tells the message at a place when it was taken; whether it was this one.
-fn put_fate(turns: &[Key], rows: &mut Rows<'_>, place: u64, taken: &Letter<'_>) -> bool {
-    let turn = taken_turn(turns, taken);
-    let cycle = taken.cycle;
-    if place >= rows.len() {
+/// Tells the message of one key that it came in as that of the other; whether they fit.
+fn put_fate(passed: &Key, came: &Key, from: &[Row<'_>], rows: &mut Rows<'_>) -> bool {
+    if passed.number == 0 || passed.number != came.number || passed.place >= rows.len() {
         return false;
     }
-    let row = rows.at_mut(place);
-    let same = is_same(row, taken, turn);
-    if same {
-        row.fate = Fate::Taken { turn, cycle };
-    }
-    same
-}
-
-fn key_at(keys: &[Key], at: usize) -> Key {
-    match keys.get(at) {
-        Some(key) => *key,
-        None => Key {
-            number: 0,
-            place: 0,
-        },
-    }
-}
-
-/// Whether the message of one key is that of the other; where it was taken it is told when.
-fn is_fit(took: &[Letter<'_>], turns: &[Key], rows: &mut Rows<'_>, passed: Key, came: Key) -> bool {
-    if passed.number == 0 || passed.number != came.number {
+    let Some(taken) = from.get(came.place as usize) else {
         return false;
+    };
+    let row = rows.at_mut(passed.place);
+    let fit = is_fit(row, taken);
+    if fit {
+        row.fate = taken.fate;
     }
-    match took.get(came.place as usize) {
-        Some(taken) => put_fate(turns, rows, passed.place, taken),
-        None => true,
-    }
+    fit
 }
 
-/// Tells each message that was taken when it was; whether all of them fit, and between any two agents as many came in as went out.
+/// Tells each message that was sent when it came in; whether all fit, and between any two agents as many came in as went out.
 fn put_fates(
     alloc: Global,
-    m: &MailLines<'_>,
-    turns: &[Key],
+    names: &Names,
+    from: &[Row<'_>],
     rows: &mut Rows<'_>,
 ) -> Result<bool, Starved> {
-    let passed = passed_of(alloc, &m.names, rows.as_slice())?;
-    let came = came_of(alloc, m)?;
+    let passed = keys_of(alloc, names, rows.as_slice(), true)?;
+    let came = keys_of(alloc, names, from, false)?;
     let mut fit = passed.len() == came.len();
-    for at in 0..passed.as_slice().len() {
-        let p = key_at(passed.as_slice(), at);
-        let c = key_at(came.as_slice(), at);
-        fit = fit && is_fit(m.took.as_slice(), turns, rows, p, c);
+    for at in 0..passed.len() {
+        fit = fit
+            && match (passed.at(at), came.at(at)) {
+                (Some(passed), Some(came)) => put_fate(passed, came, from, rows),
+                _ => false,
+            };
     }
     Ok(fit)
 }
 
-/// Puts the messages of these lines, where the agents made these turns; whether all fit.
-pub fn put_rows<'a>(
+/// Puts the messages of these lines that were sent, where the agents made these turns; whether all fit.
+pub fn put_sent<'a>(
     alloc: Global,
     m: &MailLines<'a>,
     turns: &[u64],
     rows: &mut Rows<'a>,
 ) -> Result<bool, Starved> {
-    let are = are_agents(turns, m.names.len() as u64);
     let keys = turns_of(alloc, turns)?;
-    put_sent(m, keys.as_slice(), rows)?;
-    let fit = put_fates(alloc, m, keys.as_slice(), rows)?;
-    Ok(are && fit)
+    let mut came = Seq::new(alloc);
+    put_rows(m.sent.as_slice(), m.spent.as_slice(), keys.as_slice(), rows)?;
+    put_rows(m.came.as_slice(), &[], keys.as_slice(), &mut came)?;
+    let fit = put_fates(alloc, &m.names, came.as_slice(), rows)?;
+    Ok(fit && are_agents(turns, m.names.len() as u64))
 }
 
 /// Rows by their turns. Those of one turn stay in their order.
-pub fn order_of(alloc: Global, rows: &[Row<'_>]) -> Result<Keys, Starved> {
+pub fn by_turns(alloc: Global, rows: &[Row<'_>]) -> Result<Keys, Starved> {
     let mut keys = Seq::new(alloc);
     for row in rows {
-        put_key(row.turn, &mut keys)?;
+        let place = keys.len();
+        keys.push(Key {
+            number: row.turn,
+            place,
+        })?;
     }
     in_order(keys)
 }

@@ -1,13 +1,22 @@
 //! The lines of a report that tell of messages.
 
 use asl_term::copying::text_of;
-use asl_term::names::{Names, number};
+use asl_term::names::{Names, find, number};
 use asl_term::sequence::{Seq, Starved};
 use look_reasons::bytes::line_end;
 use look_reasons::mark::between;
 use std::alloc::Global;
 
-/// A message that was sent or taken, in a cycle of the agent of a number.
+/// When a message was taken, or why it was not.
+#[derive(Clone, Copy)]
+pub enum Fate {
+    Taken { turn: u64, cycle: u64 },
+    Unread,
+    /// Its cycle ended by a spent budget.
+    Lost,
+}
+
+/// A message that was sent, taken or not read, or the end of a cycle by a spent budget, as the agent of a number tells it.
 #[derive(Clone, Copy)]
 pub struct Letter<'a> {
     pub agent: u64,
@@ -16,22 +25,21 @@ pub struct Letter<'a> {
     pub cycle: u64,
     pub verb: &'a [u8],
     pub content: &'a [u8],
+    /// In which of the agent's own turns it was sent or taken, from 1; 0 where it was in none.
+    pub own: u64,
+    pub fate: Fate,
 }
 
-/// A message that was not taken: from whom and for whom.
-#[derive(Clone, Copy)]
-pub struct Waiting<'a> {
-    pub from: &'a [u8],
-    pub to: &'a [u8],
-}
+pub type Letters<'a> = Seq<Letter<'a>>;
 
-/// What the lines tell: the names of the agents, what was sent and taken, what waits, and the cycles that spent a budget.
+/// What the lines tell: the names of the agents, what was sent, what came in or waits, and the cycles that spent a budget.
 pub struct MailLines<'a> {
     pub names: Names,
-    pub sent: Seq<Letter<'a>>,
-    pub took: Seq<Letter<'a>>,
-    pub waiting: Seq<Waiting<'a>>,
-    pub spent: Seq<Letter<'a>>,
+    pub sent: Letters<'a>,
+    pub came: Letters<'a>,
+    pub spent: Letters<'a>,
+    /// Whether memory was wanting.
+    starved: bool,
 }
 
 /// By hand, so that who lets one go proves nothing of its parts.
@@ -40,9 +48,9 @@ impl<'a> Drop for MailLines<'a> {
         let MailLines {
             names: _,
             sent: _,
-            took: _,
-            waiting: _,
+            came: _,
             spent: _,
+            starved: _,
         } = self;
     }
 }
@@ -84,117 +92,118 @@ fn words_of(line: &[u8]) -> [&[u8]; 5] {
     [first, second, third, fourth, rest]
 }
 
-/// A number with one more digit.
-fn with_digit(number: u64, digit: u8) -> Option<u64> {
-    match number.checked_mul(10) {
-        Some(tens) if digit.is_ascii_digit() => tens.checked_add((digit - b'0') as u64),
-        _ => None,
-    }
-}
-
 /// The number that digits write.
 fn number_of(digits: &[u8]) -> Option<u64> {
-    let mut number = if digits.is_empty() { None } else { Some(0) };
+    let mut number: Option<u64> = if digits.is_empty() { None } else { Some(0) };
     for digit in digits {
-        number = match number {
-            Some(n) => with_digit(n, *digit),
-            None => None,
+        number = match number.unwrap_or(u64::MAX).checked_mul(10) {
+            Some(tens) if digit.is_ascii_digit() => {
+                tens.checked_add(digit.saturating_sub(b'0') as u64)
+            }
+            _ => None,
         };
     }
     number
 }
 
-fn is_name(line: &[u8]) -> bool {
-    let (word, _) = first_word(line);
-    word == b"agent".as_slice()
-}
-
-/// The part behind a line in front of an agent, where there are so many names.
-fn front_behind(line: &[u8], names: u32) -> Section {
-    if names < MOST_NAMES && is_name(line) {
-        Section::Agent
-    } else {
-        Section::Front
-    }
-}
-
-/// The part in which the next line stands, where there are so many names. A line of an agent's trace begins with a number.
-fn section_behind(at: Section, line: &[u8], names: u32) -> Section {
-    match at {
-        Section::Front => front_behind(line, names),
-        Section::Agent if line.starts_with(b"end ") => Section::Ended,
-        Section::Ended if line == b"world".as_slice() => Section::World,
-        Section::Ended => front_behind(line, names),
-        Section::World if line == b"mail".as_slice() => Section::Mail,
-        _ => at,
-    }
-}
-
-/// Puts what a line of a trace says that has this word behind its number.
-fn put_letter<'a>(m: &mut MailLines<'a>, kind: &[u8], letter: Letter<'a>) -> Result<(), Starved> {
-    if kind == b"sends".as_slice() {
+/// Puts what a line of the trace of the last agent says. An agent takes messages in the first turn of a cycle and sends them in the second.
+fn put_trace<'a>(m: &mut MailLines<'a>, line: &'a [u8]) {
+    let [first, word, other, verb, content] = words_of(line);
+    let Some(cycle) = number_of(first) else {
+        return;
+    };
+    let second = cycle.saturating_mul(2);
+    let letter = Letter {
+        agent: m.names.len() as u64,
+        other,
+        cycle,
+        verb,
+        content,
+        own: second.max(1),
+        fate: Fate::Unread,
+    };
+    let put = if word == b"sends".as_slice() {
         m.sent.push(letter)
-    } else if kind == b"took".as_slice() {
-        m.took.push(letter)
-    } else if kind == b"spent".as_slice() {
+    } else if word == b"took".as_slice() {
+        m.came.push(Letter {
+            own: second.saturating_sub(1),
+            fate: Fate::Taken { turn: 0, cycle },
+            ..letter
+        })
+    } else if word == b"spent".as_slice() {
         m.spent.push(letter)
     } else {
         Ok(())
+    };
+    m.starved = m.starved || put.is_err();
+}
+
+/// The number of the agent of this name; 0 where there is none.
+pub fn agent_of(alloc: Global, names: &Names, name: &[u8]) -> Result<u64, Starved> {
+    let text = text_of(alloc, name)?;
+    match find(names, &text) {
+        Some(number) => Ok(number as u64),
+        None => Ok(0),
     }
 }
 
-/// Puts what a line of the trace of the last agent says.
-fn put_trace<'a>(m: &mut MailLines<'a>, line: &'a [u8]) -> Result<(), Starved> {
-    let agent = m.names.len() as u64;
-    let [first, kind, other, verb, content] = words_of(line);
-    match number_of(first) {
-        Some(cycle) => {
-            let letter = Letter {
-                agent,
-                other,
-                cycle,
-                verb,
-                content,
-            };
-            put_letter(m, kind, letter)
-        }
-        None => Ok(()),
-    }
-}
-
-fn put_waiting<'a>(m: &mut MailLines<'a>, line: &'a [u8]) -> Result<(), Starved> {
+/// Puts what a line says of a message that waits.
+fn put_waiting<'a>(alloc: Global, m: &mut MailLines<'a>, line: &'a [u8]) {
     let [first, to, third, from, _] = words_of(line);
-    if first == b"for".as_slice() && third == b"from".as_slice() {
-        m.waiting.push(Waiting { from, to })
-    } else {
-        Ok(())
+    if first != b"for".as_slice() || third != b"from".as_slice() {
+        return;
     }
-}
-
-/// Puts the name of an agent, where a line has one.
-fn put_name(alloc: Global, names: &mut Names, line: &[u8]) -> Result<(), Starved> {
-    let (word, name) = first_word(line);
-    if word != b"agent".as_slice() || names.len() >= MOST_NAMES {
-        return Ok(());
-    }
-    let name = text_of(alloc, name)?;
-    match number(names, &name) {
-        Ok(_) => Ok(()),
+    let put = match agent_of(alloc, &m.names, to) {
+        Ok(agent) => m.came.push(Letter {
+            agent,
+            other: from,
+            cycle: 0,
+            verb: &[],
+            content: &[],
+            own: 0,
+            fate: Fate::Unread,
+        }),
         Err(_) => Err(Starved),
-    }
+    };
+    m.starved = m.starved || put.is_err();
 }
 
-fn put_line<'a>(
-    alloc: Global,
-    m: &mut MailLines<'a>,
-    at: Section,
-    line: &'a [u8],
-) -> Result<(), Starved> {
+/// Puts the name of an agent, where a line has one; whether it has.
+fn put_name(alloc: Global, m: &mut MailLines<'_>, line: &[u8]) -> bool {
+    let (word, name) = first_word(line);
+    if word != b"agent".as_slice() || m.names.len() >= MOST_NAMES {
+        return false;
+    }
+    let put = match text_of(alloc, name) {
+        Ok(name) => number(&mut m.names, &name).is_ok(),
+        Err(_) => false,
+    };
+    m.starved = m.starved || !put;
+    true
+}
+
+/// Puts what a line says, and tells the part in which the next one stands. A line of an agent's trace begins with a number.
+fn put_line<'a>(alloc: Global, m: &mut MailLines<'a>, at: Section, line: &'a [u8]) -> Section {
     match at {
-        Section::Front | Section::Ended => put_name(alloc, &mut m.names, line),
-        Section::Agent => put_trace(m, line),
-        Section::World => Ok(()),
-        Section::Mail => put_waiting(m, line),
+        Section::Agent if line.starts_with(b"end ") => Section::Ended,
+        Section::Agent => {
+            put_trace(m, line);
+            at
+        }
+        Section::Ended if line == b"world".as_slice() => Section::World,
+        Section::Front | Section::Ended => {
+            if put_name(alloc, m, line) {
+                Section::Agent
+            } else {
+                Section::Front
+            }
+        }
+        Section::World if line == b"mail".as_slice() => Section::Mail,
+        Section::World => at,
+        Section::Mail => {
+            put_waiting(alloc, m, line);
+            at
+        }
     }
 }
 
@@ -203,30 +212,28 @@ fn behind_line(bytes: &[u8], from: usize) -> usize {
     line_end(bytes, from).saturating_add(1)
 }
 
-/// What no lines tell.
-pub fn no_lines<'a>(alloc: Global) -> Result<MailLines<'a>, Starved> {
-    Ok(MailLines {
+/// What the lines of a report tell of messages. Its first two lines tell of none.
+pub fn lines_of<'a>(alloc: Global, bytes: &'a [u8]) -> Result<MailLines<'a>, Starved> {
+    let mut m = MailLines {
         names: Names::new(alloc)?,
         sent: Seq::new(alloc),
-        took: Seq::new(alloc),
-        waiting: Seq::new(alloc),
+        came: Seq::new(alloc),
         spent: Seq::new(alloc),
-    })
-}
-
-/// Puts what the lines of a report tell of messages. Its first two lines tell of none.
-pub fn put_lines<'a>(alloc: Global, m: &mut MailLines<'a>, bytes: &'a [u8]) -> Result<(), Starved> {
+        starved: false,
+    };
     let mut at = Section::Front;
     let mut from = behind_line(bytes, behind_line(bytes, 0));
     for _ in 0..bytes.len() {
         if from >= bytes.len() {
             break;
         }
-        let line = between(bytes, from, line_end(bytes, from));
-        let next = section_behind(at, line, m.names.len());
-        put_line(alloc, m, at, line)?;
-        at = next;
-        from = behind_line(bytes, from);
+        let end = line_end(bytes, from);
+        at = put_line(alloc, &mut m, at, between(bytes, from, end));
+        from = end.saturating_add(1);
     }
-    Ok(())
+    if m.starved {
+        drop(m);
+        return Err(Starved);
+    }
+    Ok(m)
 }

@@ -4,12 +4,13 @@ ghost use Rattle.std.specs.Prelude.{◌≡◌, IfOk, IfErr, false};
 ghost use Rattle.look_answer.specs.Answers.{IsUnfit};
 ghost use Rattle.look_messages.specs.Runs.{TellsRun};
 
-use crate::fitting::put_rows;
-use crate::lines::{MailLines, no_lines, put_lines};
-use crate::table::{Part, put_parts, put_table};
+use crate::fitting::{by_turns, put_sent};
+use crate::lines::lines_of;
+use crate::table::table_of;
 use asl_term::sequence::{Seq, Starved};
 use asl_term::syntax::Text;
 use look_answer::answer::{LookFault, Output};
+use look_reasons::phrase::{Phrase, sentence};
 use mas_mind::mind::Level;
 use mas_report::reading::{Told, read_report};
 use mas_top_status::status::Status;
@@ -19,40 +20,27 @@ use std::alloc::Global;
 fn unfit(alloc: Global, name: &[u8], why: &[u8]) -> LookFault
     ensures { IsUnfit result }
 {
-    let mut line = Seq::new(alloc);
-    match put_parts(alloc, &[Part::Source(name), Part::Words(why)], &mut line) {
-        Ok(()) => LookFault::Unfit(line),
+    match sentence(alloc, &[Phrase::Shown(name), Phrase::Words(why)]) {
+        Ok(line) => LookFault::Unfit(line),
         Err(_) => LookFault::Ended(Status::Memory),
     }
 }
 
-/// Puts the messages that these lines tell, where the agents made these turns; whether they fit.
-fn put_told(
-    alloc: Global,
-    lines: &MailLines<'_>,
-    turns: &[u64],
-    csv: bool,
-    out: &mut Text,
-) -> Result<bool, Starved> {
-    let mut rows = Seq::new(alloc);
-    let fit = put_rows(alloc, lines, turns, &mut rows)?;
-    if fit {
-        put_table(alloc, &lines.names, rows.as_slice(), csv, out)?;
-    }
-    Ok(fit)
-}
-
-/// Puts the messages of a report with these turns; whether they fit.
-fn put_messages(
+/// The messages of a report with these turns, as a table; none where they do not fit.
+fn messages_of(
     alloc: Global,
     bytes: &[u8],
     turns: &[u64],
     csv: bool,
-    out: &mut Text,
-) -> Result<bool, Starved> {
-    let mut lines = no_lines(alloc)?;
-    put_lines(alloc, &mut lines, bytes)?;
-    put_told(alloc, &lines, turns, csv, out)
+) -> Result<Option<Text>, Starved> {
+    let lines = lines_of(alloc, bytes)?;
+    let mut rows = Seq::new(alloc);
+    if !put_sent(alloc, &lines, turns, &mut rows)? {
+        return Ok(None);
+    }
+    let order = by_turns(alloc, rows.as_slice())?;
+    let text = table_of(alloc, &lines.names, rows.as_slice(), order.as_slice(), csv)?;
+    Ok(Some(text))
 }
 
 /// The messages of a report that tells this of its run.
@@ -69,15 +57,14 @@ fn told_messages(
     if matches!(told.options.level, Level::Say) {
         return Err(unfit(alloc, name, b": a report of level say has no messages\n"));
     }
-    let mut text = Seq::new(alloc);
-    if put_messages(alloc, bytes, told.turns.as_slice(), csv, &mut text)? {
-        return Ok(Output { text, found: false });
+    match messages_of(alloc, bytes, told.turns.as_slice(), csv)? {
+        Some(text) => Ok(Output { text, found: false }),
+        None => Err(unfit(
+            alloc,
+            name,
+            b": its messages do not fit: changed, or no report\n",
+        )),
     }
-    Err(unfit(
-        alloc,
-        name,
-        b": its messages do not fit: changed, or no report\n",
-    ))
 }
 
 /// The messages of a report, as a table or as a spreadsheet. Bytes that tell of no run have none.

@@ -1,92 +1,88 @@
 //! Messages as a table, for people and for spreadsheets.
 
-use crate::fitting::{Fate, Key, Row, order_of};
+use crate::fitting::{Key, Row};
+use crate::lines::Fate;
 use asl_term::names::Names;
-use asl_term::printing::write_number;
 use asl_term::sequence::{Seq, Starved};
 use asl_term::syntax::Text;
-use look_reasons::excerpt::shown;
+use look_reasons::phrase::{Phrase, put_phrase, sentence};
 use std::alloc::Global;
 
-/// A part of a text.
-#[derive(Clone, Copy)]
-pub enum Part<'a> {
-    Number(u64),
-    Words(&'a [u8]),
-    /// Bytes of a file, as they are shown.
-    Source(&'a [u8]),
-    /// Each quote twice.
-    Doubled(&'a [u8]),
-    Blanks(u64),
+/// What is written so far.
+struct Sheet {
+    text: Text,
+    /// Whether memory was wanting.
+    starved: bool,
 }
 
-fn put_shown(alloc: Global, bytes: &[u8], out: &mut Text) -> Result<(), Starved> {
-    let text = shown(alloc, bytes)?;
-    out.append(text.as_slice())
+/// By hand, so that who lets one go proves nothing of its parts.
+impl Drop for Sheet {
+    fn drop(self) {
+        let Sheet {
+            text: _,
+            starved: _,
+        } = self;
+    }
 }
 
-fn put_byte(byte: u8, out: &mut Text) -> Result<(), Starved> {
-    if byte == b'"' {
-        out.append(b"\"\"")
+impl Sheet {
+    fn put(&mut self, bytes: &[u8]) {
+        if self.text.append(bytes).is_err() {
+            self.starved = true;
+        }
+    }
+
+    /// Puts a byte so many times.
+    fn put_times(&mut self, byte: u8, count: u64) {
+        for _ in 0..count {
+            if self.text.push(byte).is_err() {
+                self.starved = true;
+            }
+        }
+    }
+
+    /// Takes away blanks at the end.
+    fn trim(&mut self) {
+        for _ in 0..self.text.len() {
+            match self.text.as_slice() {
+                [.., b' '] => {
+                    let _ = self.text.pop();
+                }
+                _ => return,
+            }
+        }
+    }
+
+    fn into_text(self) -> Result<Text, Starved> {
+        let Sheet { text, starved } = self;
+        if starved {
+            drop(text);
+            return Err(Starved);
+        }
+        Ok(text)
+    }
+}
+
+/// The cells of a line, by columns.
+type Cells<'a> = [Phrase<'a>; 8];
+
+/// What stands above the columns.
+fn heads(csv: bool) -> Cells<'static> {
+    let (turn, cycle): (&'static [u8], &'static [u8]) = if csv {
+        (b"taken_turn", b"taken_cycle")
     } else {
-        out.push(byte)
-    }
-}
-
-fn put_doubled(bytes: &[u8], out: &mut Text) -> Result<(), Starved> {
-    for byte in bytes {
-        put_byte(*byte, out)?;
-    }
-    Ok(())
-}
-
-fn put_blanks(count: u64, out: &mut Text) -> Result<(), Starved> {
-    for _ in 0..count {
-        out.push(b' ')?;
-    }
-    Ok(())
-}
-
-fn put_part(alloc: Global, part: Part<'_>, out: &mut Text) -> Result<(), Starved> {
-    match part {
-        Part::Number(n) => write_number(alloc, n, out),
-        Part::Words(words) => out.append(words),
-        Part::Source(bytes) => put_shown(alloc, bytes, out),
-        Part::Doubled(bytes) => put_doubled(bytes, out),
-        Part::Blanks(count) => put_blanks(count, out),
-    }
-}
-
-/// Puts parts, one behind the other.
-pub fn put_parts(alloc: Global, parts: &[Part<'_>], out: &mut Text) -> Result<(), Starved> {
-    for part in parts {
-        put_part(alloc, *part, out)?;
-    }
-    Ok(())
-}
-
-/// What a table has: the names of the agents, and the messages.
-#[derive(Clone, Copy)]
-struct Table<'a> {
-    names: &'a Names,
-    rows: &'a [Row<'a>],
-    csv: bool,
-}
-
-/// What stands above a column.
-fn head_of(csv: bool, column: u64) -> &'static [u8] {
-    match column {
-        0 => b"turn",
-        1 => b"cycle",
-        2 => b"from",
-        3 => b"to",
-        4 if csv => b"taken_turn",
-        4 => b"taken",
-        5 if csv => b"taken_cycle",
-        5 => b"cycle",
-        6 => b"verb",
-        _ => b"content",
-    }
+        (b"taken", b"cycle")
+    };
+    [
+        Phrase::Words(b"turn"),
+        Phrase::Words(b"cycle"),
+        Phrase::Words(b"from"),
+        Phrase::Words(b"to"),
+        Phrase::Words(turn),
+        Phrase::Words(cycle),
+        Phrase::Words(b"verb"),
+        Phrase::Words(b"content"),
+    ]
 }
 
 fn name_of(names: &Names, agent: u64) -> &[u8] {
@@ -96,71 +92,43 @@ fn name_of(names: &Names, agent: u64) -> &[u8] {
     }
 }
 
-/// When a message was taken, or why it was not.
-fn taken_turn(fate: Fate) -> Part<'static> {
-    match fate {
-        Fate::Taken { turn, .. } => Part::Number(turn),
-        Fate::Unread => Part::Words(b"unread"),
-        Fate::Lost => Part::Words(b"lost"),
-    }
-}
-
-fn taken_cycle(fate: Fate) -> Part<'static> {
-    match fate {
-        Fate::Taken { cycle, .. } => Part::Number(cycle),
-        _ => Part::Words(b""),
-    }
-}
-
-/// The cell of a message in a column.
-fn cell_of<'a>(names: &'a Names, row: &Row<'a>, column: u64) -> Part<'a> {
-    match column {
-        0 => Part::Number(row.turn),
-        1 => Part::Number(row.letter.cycle),
-        2 => Part::Source(name_of(names, row.letter.agent)),
-        3 => Part::Source(row.letter.other),
-        4 => taken_turn(row.fate),
-        5 => taken_cycle(row.fate),
-        6 => Part::Source(row.letter.verb),
-        _ => Part::Source(row.letter.content),
-    }
-}
-
-fn text_of_part(alloc: Global, part: Part<'_>) -> Result<Text, Starved> {
-    let mut text = Seq::new(alloc);
-    put_part(alloc, part, &mut text)?;
-    Ok(text)
+/// The cells of a message, from the agent of this name. Where it was not taken its columns say why.
+fn cells_of<'a>(from: &'a [u8], row: &Row<'a>) -> Cells<'a> {
+    let nothing = Phrase::Words(b"");
+    let (turn, cycle) = match row.fate {
+        Fate::Taken { turn, cycle } => (Phrase::Number(turn), Phrase::Number(cycle)),
+        Fate::Unread => (Phrase::Words(b"unread"), nothing),
+        Fate::Lost => (Phrase::Words(b"lost"), nothing),
+    };
+    [
+        Phrase::Number(row.turn),
+        Phrase::Number(row.letter.cycle),
+        Phrase::Shown(from),
+        Phrase::Shown(row.letter.other),
+        turn,
+        cycle,
+        Phrase::Shown(row.letter.verb),
+        Phrase::Shown(row.letter.content),
+    ]
 }
 
 /// How many bytes a cell has.
-fn size_of(alloc: Global, cell: Part<'_>) -> Result<u64, Starved> {
-    let text = text_of_part(alloc, cell)?;
+fn size_of(alloc: Global, cell: Phrase<'_>) -> Result<u64, Starved> {
+    let mut text = Seq::new(alloc);
+    put_phrase(alloc, cell, &mut text)?;
     Ok(text.len())
 }
 
-/// The widths of all columns but the last; none for a spreadsheet.
-type Widths = Seq<u64>;
-
-/// How wide a column is, below what stands above it.
-fn width_of(alloc: Global, t: &Table<'_>, column: u64) -> Result<u64, Starved> {
-    let mut most = head_of(false, column).len() as u64;
-    for row in t.rows {
-        let size = size_of(alloc, cell_of(t.names, row, column))?;
-        most = most.max(size);
+/// Makes the columns as wide as the cells of a line, but for the last one.
+fn widen(alloc: Global, cells: &Cells<'_>, widths: &mut [u64; 8]) -> Result<(), Starved> {
+    for column in 0..7 {
+        let size = size_of(alloc, cells[column])?;
+        widths[column] = widths[column].max(size);
     }
-    Ok(most)
+    Ok(())
 }
 
-fn widths_of(alloc: Global, t: &Table<'_>) -> Result<Widths, Starved> {
-    let columns = if t.csv { 0 } else { 7 };
-    let mut widths = Seq::new(alloc);
-    for column in 0..columns {
-        let width = width_of(alloc, t, column)?;
-        widths.push(width)?;
-    }
-    Ok(widths)
-}
-
+/// Whether a cell of a spreadsheet needs no quotes: it has no comma, quote or end of line.
 fn is_plain(cell: &[u8]) -> bool {
     let mut plain = true;
     for b in cell {
@@ -169,112 +137,51 @@ fn is_plain(cell: &[u8]) -> bool {
     plain
 }
 
-/// A cell of a spreadsheet: in quotes where it has a comma, a quote or an end of line, and each quote in it twice.
-fn quoted(cell: &[u8], column: u64) -> [Part<'_>; 4] {
-    let comma: &[u8] = if column == 0 { b"" } else { b"," };
-    let quote: &[u8] = if is_plain(cell) { b"" } else { b"\"" };
-    [
-        Part::Words(comma),
-        Part::Words(quote),
-        Part::Doubled(cell),
-        Part::Words(quote),
-    ]
+/// Puts a cell of a spreadsheet, where it has to be in quotes and each quote in it twice.
+fn put_quoted(cell: &[u8], sheet: &mut Sheet) {
+    let quotes = if is_plain(cell) { 0 } else { 1 };
+    sheet.put_times(b'"', quotes);
+    for b in cell {
+        sheet.put_times(*b, if *b == b'"' { 2 } else { 1 });
+    }
+    sheet.put_times(b'"', quotes);
 }
 
-/// A cell in so many columns, two behind the one before: numbers stand to the right.
-fn padded(cell: &[u8], column: u64, width: u64) -> [Part<'_>; 4] {
-    let gap = if column == 0 { 0 } else { 2 };
+/// Puts a cell in so many columns: numbers stand to the right.
+fn put_padded(cell: &[u8], column: usize, width: u64, sheet: &mut Sheet) {
     let blanks = width.saturating_sub(cell.len() as u64);
     let right = matches!(column, 0 | 1 | 4 | 5);
     let (before, behind) = if right { (blanks, 0) } else { (0, blanks) };
-    [
-        Part::Blanks(gap),
-        Part::Blanks(before),
-        Part::Words(cell),
-        Part::Blanks(behind),
-    ]
+    sheet.put_times(b' ', before);
+    sheet.put(cell);
+    sheet.put_times(b' ', behind);
 }
 
-fn width_at(widths: &Widths, column: u64) -> u64 {
-    match widths.at(column) {
-        Some(width) => *width,
-        None => 0,
-    }
-}
-
-/// The cell of a message in a column, or of the head.
-fn part_of<'a>(t: &Table<'a>, row: Option<&Row<'a>>, column: u64) -> Part<'a> {
-    match row {
-        Some(row) => cell_of(t.names, row, column),
-        None => Part::Words(head_of(t.csv, column)),
-    }
-}
-
-/// Puts a cell.
-fn put_cell<'a>(
-    alloc: Global,
-    t: &Table<'a>,
-    widths: &Widths,
-    row: Option<&Row<'a>>,
-    column: u64,
-    out: &mut Text,
-) -> Result<(), Starved> {
-    let cell = text_of_part(alloc, part_of(t, row, column))?;
-    let parts = if t.csv {
-        quoted(cell.as_slice(), column)
-    } else {
-        padded(cell.as_slice(), column, width_at(widths, column))
-    };
-    put_parts(alloc, &parts, out)
-}
-
-/// Takes away blanks at the end.
-fn trim(out: &mut Text) {
-    for _ in 0..out.len() {
-        match out.as_slice() {
-            [.., b' '] => {
-                let _ = out.pop();
-            }
-            _ => return,
+/// Puts the cells of a line, of a spreadsheet behind commas, of a table in these widths and two columns apart.
+fn put_line(alloc: Global, csv: bool, widths: &[u64; 8], cells: &Cells<'_>, sheet: &mut Sheet) {
+    let gap: &[u8] = if csv { b"," } else { b"  " };
+    for column in 0..8 {
+        let Ok(cell) = sentence(alloc, &[cells[column]]) else {
+            sheet.starved = true;
+            return;
+        };
+        if column > 0 {
+            sheet.put(gap);
+        }
+        if csv {
+            put_quoted(cell.as_slice(), sheet);
+        } else {
+            put_padded(cell.as_slice(), column, widths[column], sheet);
         }
     }
+    if !csv {
+        sheet.trim();
+    }
+    sheet.put(b"\n");
 }
 
-/// Puts the line of a message, or the head.
-fn put_line<'a>(
-    alloc: Global,
-    t: &Table<'a>,
-    widths: &Widths,
-    row: Option<&Row<'a>>,
-    out: &mut Text,
-) -> Result<(), Starved> {
-    for column in 0..8 {
-        put_cell(alloc, t, widths, row, column, out)?;
-    }
-    if !t.csv {
-        trim(out);
-    }
-    out.push(b'\n')
-}
-
-/// Puts the head, and the lines of the messages in this order.
-fn put_lines(
-    alloc: Global,
-    t: &Table<'_>,
-    widths: &Widths,
-    order: &[Key],
-    out: &mut Text,
-) -> Result<(), Starved> {
-    put_line(alloc, t, widths, None, out)?;
-    for key in order {
-        let row = t.rows.get(key.place as usize);
-        put_line(alloc, t, widths, row, out)?;
-    }
-    Ok(())
-}
-
-/// Puts how many were sent, taken, unread and lost.
-fn put_sums(alloc: Global, rows: &[Row<'_>], out: &mut Text) -> Result<(), Starved> {
+/// How many were sent, taken, unread and lost.
+fn sums_of(alloc: Global, rows: &[Row<'_>]) -> Result<Text, Starved> {
     let mut taken: u64 = 0;
     let mut unread: u64 = 0;
     let mut lost: u64 = 0;
@@ -285,38 +192,57 @@ fn put_sums(alloc: Global, rows: &[Row<'_>], out: &mut Text) -> Result<(), Starv
             Fate::Lost => lost = lost.saturating_add(1),
         }
     }
-    let parts = [
-        Part::Number(rows.len() as u64),
-        Part::Words(b" sent, "),
-        Part::Number(taken),
-        Part::Words(b" taken, "),
-        Part::Number(unread),
-        Part::Words(b" unread, "),
-        Part::Number(lost),
-        Part::Words(b" lost\n"),
+    let phrases = [
+        Phrase::Number(rows.len() as u64),
+        Phrase::Words(b" sent, "),
+        Phrase::Number(taken),
+        Phrase::Words(b" taken, "),
+        Phrase::Number(unread),
+        Phrase::Words(b" unread, "),
+        Phrase::Number(lost),
+        Phrase::Words(b" lost\n"),
     ];
-    put_parts(alloc, &parts, out)
+    sentence(alloc, &phrases)
 }
 
-fn put_columns(alloc: Global, t: &Table<'_>, out: &mut Text) -> Result<(), Starved> {
-    let widths = widths_of(alloc, t)?;
-    let order = order_of(alloc, t.rows)?;
-    put_lines(alloc, t, &widths, order.as_slice(), out)
+/// How wide the columns are.
+fn widths_of<'a>(alloc: Global, names: &'a Names, rows: &[Row<'a>]) -> Result<[u64; 8], Starved> {
+    let mut widths = [0; 8];
+    widen(alloc, &heads(false), &mut widths)?;
+    for row in rows {
+        let cells = cells_of(name_of(names, row.letter.agent), row);
+        widen(alloc, &cells, &mut widths)?;
+    }
+    Ok(widths)
 }
 
-/// Puts a table, or a spreadsheet.
-pub fn put_table<'a>(
+/// Rows in this order as a table, or as a spreadsheet.
+pub fn table_of<'a>(
     alloc: Global,
     names: &'a Names,
-    rows: &'a [Row<'a>],
+    rows: &[Row<'a>],
+    order: &[Key],
     csv: bool,
-    out: &mut Text,
-) -> Result<(), Starved> {
-    let table = Table { names, rows, csv };
-    put_columns(alloc, &table, out)?;
-    if csv {
-        Ok(())
+) -> Result<Text, Starved> {
+    let mut sheet = Sheet {
+        text: Seq::new(alloc),
+        starved: false,
+    };
+    let widths = if csv {
+        [0; 8]
     } else {
-        put_sums(alloc, rows, out)
+        widths_of(alloc, names, rows)?
+    };
+    put_line(alloc, csv, &widths, &heads(csv), &mut sheet);
+    for key in order {
+        if let Some(row) = rows.get(key.place as usize) {
+            let cells = cells_of(name_of(names, row.letter.agent), row);
+            put_line(alloc, csv, &widths, &cells, &mut sheet);
+        }
     }
+    if !csv {
+        let sums = sums_of(alloc, rows)?;
+        sheet.put(sums.as_slice());
+    }
+    sheet.into_text()
 }

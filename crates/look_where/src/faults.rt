@@ -1,11 +1,11 @@
 //! What is at fault in the file of a project, as a table: what holds of a place, and what is told then.
 
-use crate::parts::{Part, put_part};
+use crate::leads::world_place;
 use asl_lexer::token::{Sign, Word};
 use asl_term::sequence::{Seq, Starved};
-use asl_term::syntax::Text;
 use look_reasons::mark::Mark;
-use look_reasons::reason::{Reason, reason_at};
+use look_reasons::phrase::Phrase;
+use look_reasons::reason::{Reason, reason_of};
 use std::alloc::Global;
 
 /// A part of what is told of a fault.
@@ -17,9 +17,8 @@ enum Say {
     Before,
     Ending,
     Number,
-    /// The line and the column of another token.
-    Line,
-    Column,
+    /// The place of another token.
+    Place,
 }
 
 /// What holds of a place at which a piece is refused.
@@ -47,7 +46,8 @@ enum Test {
 #[derive(Clone, Copy)]
 pub struct Rule {
     tests: &'static [Test],
-    code: &'static [u8],
+    pub code: &'static [u8],
+    /// At most four parts each.
     words: &'static [Say],
     note: &'static [Say],
 }
@@ -249,22 +249,7 @@ pub const TOO_MANY: Rule = Rule {
     note: &[],
 };
 
-const FIRST: &[Say] = &[
-    Say::Words(b"the first is at "),
-    Say::Line,
-    Say::Words(b":"),
-    Say::Column,
-];
-
 pub const TWICE: Rule = Rule {
-    tests: &[],
-    code: b"name",
-    words: &[Say::Words(b"a second agent has the name "), Say::Token],
-    note: FIRST,
-};
-
-/// The same of an agent with a number.
-pub const NUMBERED_TWICE: Rule = Rule {
     tests: &[],
     code: b"name",
     words: &[
@@ -272,7 +257,7 @@ pub const NUMBERED_TWICE: Rule = Rule {
         Say::Token,
         Say::Number,
     ],
-    note: FIRST,
+    note: &[Say::Words(b"the first is at "), Say::Place],
 };
 
 pub const MISSING: Rule = Rule {
@@ -320,7 +305,8 @@ pub struct Fault<'a> {
     pub token: &'a [u8],
     pub before: &'a [u8],
     pub ending: &'static [u8],
-    pub number: u64,
+    /// How many there are, or the number behind a name.
+    pub number: Phrase<'a>,
     pub line: u64,
     pub column: u64,
 }
@@ -336,35 +322,21 @@ pub fn fault_at<'a>(rule: &'static Rule, at: usize, end: usize) -> Fault<'a> {
         token: &[],
         before: &[],
         ending: &[],
-        number: 0,
+        number: Phrase::Words(b""),
         line: 0,
         column: 0,
     }
 }
 
-/// The place at which a piece is refused, the one of this number.
+/// The place at which a piece is refused, the one of this number, and the tokens before it. Where there are none these have no text.
 #[derive(Clone, Copy)]
 struct Spot<'a> {
     number: u64,
     place: usize,
     token: Mark<'a>,
-    before: Option<Mark<'a>>,
-    second: Option<Mark<'a>>,
+    before: Mark<'a>,
+    second: Mark<'a>,
     world: bool,
-}
-
-fn text_of<'a>(m: Option<Mark<'a>>) -> &'a [u8] {
-    match m {
-        Some(m) => m.text,
-        None => &[],
-    }
-}
-
-fn has_word(m: Option<Mark<'_>>, words: &[Word]) -> bool {
-    match m {
-        Some(m) => words.contains(&m.word),
-        None => false,
-    }
 }
 
 fn holds(s: &Spot<'_>, test: Test) -> bool {
@@ -375,150 +347,104 @@ fn holds(s: &Spot<'_>, test: Test) -> bool {
         Test::Behind(place) => s.place >= place,
         Test::Text(texts) => texts.contains(&s.token.text),
         Test::Word(words) => words.contains(&s.token.word),
-        Test::Before(texts) => texts.contains(&text_of(s.before)),
-        Test::BeforeWord(words) => has_word(s.before, words),
-        Test::Second(text) => text_of(s.second) == text,
+        Test::Before(texts) => texts.contains(&s.before.text),
+        Test::BeforeWord(words) => words.contains(&s.before.word),
+        Test::Second(text) => s.second.text == text,
         Test::World => s.world,
     }
 }
 
-fn fits(s: &Spot<'_>, rule: &Rule) -> bool {
-    let mut all = true;
-    for test in rule.tests {
-        all = all && holds(s, *test);
-    }
-    all
-}
-
 fn rule_for(s: &Spot<'_>) -> &'static Rule {
     for rule in &RULES {
-        if fits(s, rule) {
+        let mut all = true;
+        for test in rule.tests {
+            all = all && holds(s, *test);
+        }
+        if all {
             return rule;
         }
     }
     &ELSE
 }
 
-/// The token so many before a place.
-fn mark_before<'a>(marks: &[Mark<'a>], place: usize, back: usize) -> Option<Mark<'a>> {
-    match place.checked_sub(back) {
-        Some(at) => marks.get(at).copied(),
-        None => None,
-    }
-}
-
-fn is_world_before(marks: &[Mark<'_>], place: usize) -> bool {
-    let mut is = false;
-    let mut at: usize = 0;
-    for m in marks {
-        is = is || (at < place && m.text == b"environment".as_slice());
-        at = at.saturating_add(1);
-    }
-    is
-}
-
-/// The fault of a token at which a piece is refused.
-fn fault_of<'a>(number: u64, marks: &[Mark<'a>], place: usize, token: Mark<'a>) -> Fault<'a> {
-    let spot = Spot {
-        number,
-        place,
-        token,
-        before: mark_before(marks, place, 1),
-        second: mark_before(marks, place, 2),
-        world: is_world_before(marks, place),
+/// The token so many before a place; where there is none, one without a text.
+fn mark_before<'a>(marks: &[Mark<'a>], place: usize, back: usize) -> Mark<'a> {
+    let none = Mark {
+        word: Word::Other,
+        text: &[],
+        at: 0,
+        end: 0,
+        line: 0,
+        column: 0,
     };
-    Fault {
-        token: token.text,
-        before: text_of(spot.before),
-        ..fault_at(rule_for(&spot), token.at, token.end)
-    }
-}
-
-fn end_of(marks: &[Mark<'_>]) -> usize {
-    match marks.last() {
-        Some(m) => m.end,
-        None => 0,
+    match place.checked_sub(back) {
+        Some(at) => marks.get(at).copied().unwrap_or(none),
+        None => none,
     }
 }
 
 /// Why a piece, the one of this number, is refused at a place.
 pub fn fault_in<'a>(number: u64, marks: &[Mark<'a>], place: usize) -> Fault<'a> {
-    match marks.get(place) {
-        Some(token) => fault_of(number, marks, place, *token),
-        None => {
-            let end = end_of(marks);
-            Fault {
-                token: text_of(marks.last().copied()),
-                ..fault_at(&ENDS, end, end.saturating_add(1))
-            }
-        }
+    let last = mark_before(marks, marks.len(), 1);
+    let Some(token) = marks.get(place) else {
+        return fault_at(&ENDS, last.end, last.end.saturating_add(1));
+    };
+    let spot = Spot {
+        number,
+        place,
+        token: *token,
+        before: mark_before(marks, place, 1),
+        second: mark_before(marks, place, 2),
+        world: world_place(marks) < place,
+    };
+    Fault {
+        token: token.text,
+        before: spot.before.text,
+        ..fault_at(rule_for(&spot), token.at, token.end)
     }
 }
 
-/// Whether it is told of something that it is missing.
-pub fn is_missing(fault: &Fault<'_>) -> bool {
-    fault.rule.code == b"missing".as_slice()
-}
-
-fn part_of<'a>(f: &Fault<'a>, say: Say) -> Part<'a> {
-    match say {
-        Say::Words(words) => Part::Words(words),
-        Say::Token => Part::Shown(f.token),
-        Say::Before => Part::Shown(f.before),
-        Say::Ending => Part::Words(f.ending),
-        Say::Number => Part::Number(f.number),
-        Say::Line => Part::Number(f.line),
-        Say::Column => Part::Number(f.column),
+/// A part of what is told of a fault; nothing behind the last one.
+fn phrase_at<'a>(f: &Fault<'a>, says: &[Say], at: usize) -> Phrase<'a> {
+    match says.get(at).copied() {
+        Some(Say::Words(words)) => Phrase::Words(words),
+        Some(Say::Token) => Phrase::Shown(f.token),
+        Some(Say::Before) => Phrase::Shown(f.before),
+        Some(Say::Ending) => Phrase::Words(f.ending),
+        Some(Say::Number) => f.number,
+        Some(Say::Place) => Phrase::Place(f.line, f.column),
+        None => Phrase::Words(b""),
     }
 }
 
-fn said(alloc: Global, f: &Fault<'_>, says: &[Say]) -> Result<Text, Starved> {
-    let mut out = Seq::new(alloc);
-    for say in says {
-        put_part(alloc, part_of(f, *say), &mut out)?;
-    }
-    Ok(out)
-}
-
-fn reason_for(alloc: Global, f: &Fault<'_>) -> Result<Reason, Starved> {
-    let words = said(alloc, f, f.rule.words)?;
-    let note = said(alloc, f, f.rule.note)?;
-    reason_at(
-        alloc,
-        (f.at, f.end),
-        f.rule.code,
-        &[words.as_slice()],
-        note.as_slice(),
-    )
+fn phrases<'a>(f: &Fault<'a>, says: &[Say]) -> [Phrase<'a>; 4] {
+    [
+        phrase_at(f, says, 0),
+        phrase_at(f, says, 1),
+        phrase_at(f, says, 2),
+        phrase_at(f, says, 3),
+    ]
 }
 
 fn put_reason(alloc: Global, f: &Fault<'_>, all: &mut Seq<Reason>) -> Result<(), Starved> {
-    match reason_for(alloc, f) {
+    let words = phrases(f, f.rule.words);
+    let note = phrases(f, f.rule.note);
+    match reason_of(alloc, (f.at, f.end), f.rule.code, &words, &note) {
         Ok(r) => all.push(r),
         Err(_) => Err(Starved),
     }
 }
 
-fn put_reasons(alloc: Global, faults: &[Fault<'_>], all: &mut Seq<Reason>) -> Result<(), Starved> {
-    for f in faults {
-        put_reason(alloc, f, all)?;
-    }
-    Ok(())
-}
-
-/// Faults by their places.
-fn in_order<'a>(faults: Faults<'a>) -> Result<Faults<'a>, Starved> {
-    let mut faults = faults.into_vec();
-    match faults.sort_by_key(|f| f.at as u64) {
-        Ok(()) => Ok(Seq::from_vec(faults)),
-        Err(_) => Err(Starved),
-    }
-}
-
-/// Faults in words, by their places.
-pub fn reasons_of(alloc: Global, faults: Faults<'_>) -> Result<Seq<Reason>, Starved> {
-    let faults = in_order(faults)?;
+/// Faults in words.
+pub fn reasons_of(alloc: Global, faults: &[Fault<'_>]) -> Result<Seq<Reason>, Starved> {
     let mut all = Seq::new(alloc);
-    put_reasons(alloc, faults.as_slice(), &mut all)?;
+    let mut spent = false;
+    for f in faults {
+        spent = spent || put_reason(alloc, f, &mut all).is_err();
+    }
+    if spent {
+        drop(all);
+        return Err(Starved);
+    }
     Ok(all)
 }

@@ -1,6 +1,6 @@
 //! What is told of the files of a project.
 
-ghost use Rattle.std.specs.Prelude.{◌≡◌, ◌≤◌, ◌∷◌, ◌++◌, true, false, IfOk, IfErr, OnOk, MatchResult, option_copied};
+ghost use Rattle.std.specs.Prelude.{◌≡◌, ◌≤◌, [], ◌∷◌, ◌++◌, true, false, IfOk, IfErr, OnOk, MatchResult, option_copied};
 ghost use Rattle.std.specs.Option.{option_to_list};
 ghost use Rattle.std.specs.List.{list_any};
 ghost use Rattle.mas_io.specs.declared.shelf.Fetched.TheVariants.{Bytes};
@@ -11,10 +11,9 @@ ghost use Rattle.look_where.specs.Files as spec;
 ghost use Rattle.look_where.specs.Others.{TellsProject};
 ghost use Rattle.look_where.specs.declared.files.FileKind.TheVariants.{Project};
 
-use crate::faults::{Fault, Faults, MISSING, Rule, TOO_LARGE, UNREAD, fault_at};
+use crate::faults::{Fault, MISSING, TOO_LARGE, UNREAD, fault_at};
 use crate::leads::Lead;
-use crate::parts::{Part, text_of_parts};
-use crate::projects::{project_read, project_told};
+use crate::projects::{ProjectRead, project_read, project_told};
 use crate::worlds::world_told;
 use asl_term::compare::same_text;
 use asl_term::copying::copy_text;
@@ -25,7 +24,7 @@ use look_pieces::agents::agent_told;
 use look_pieces::findings::Findings;
 use look_reasons::bytes::{Mended, mended_of};
 use look_reasons::excerpt::shown;
-use look_reasons::mark::between;
+use look_reasons::phrase::{Phrase, sentence};
 use mas_io::shelf::Shelf;
 use mas_project::syntax::ProjectText;
 use mas_top_files::files::bytes_of;
@@ -151,52 +150,47 @@ pub fn is_lack(status: &Status) -> bool
     matches!(status, Status::Memory)
 }
 
-/// What is told of a file that is not there.
-fn lacking_rule(why: &Status) -> &'static Rule {
-    match why {
-        Status::Missing(_) => &MISSING,
-        Status::Limit { .. } => &TOO_LARGE,
-        _ => &UNREAD,
-    }
-}
-
 /// Whether the file of this name is the one to which a project in a directory leads so.
 fn is_led(name: &[u8], directory: &[u8], lead: &Lead<'_>) -> bool {
-    let stem = directory.len();
-    let ending = stem.saturating_add(lead.stem.len());
-    name.starts_with(directory)
-        && between(name, stem, ending) == lead.stem
-        && between(name, ending, name.len()) == lead.ending
+    let Some(file) = name.strip_prefix(directory) else {
+        return false;
+    };
+    match file.strip_prefix(lead.stem) {
+        Some(ending) => ending == lead.ending,
+        None => false,
+    }
 }
 
 /// Puts why a wanted file is not there, at the first token that leads to it.
-fn put_lacking<'a>(
-    directory: &'a [u8],
-    leads: &[Lead<'a>],
-    w: &Wanted,
-    why: &Status,
-    faults: &mut Faults<'a>,
-) -> Result<(), Starved> {
-    for lead in leads {
-        if lead.world == w.world && is_led(w.name.as_slice(), directory, lead) {
-            return faults.push(Fault {
-                before: directory,
-                token: lead.stem,
-                ending: lead.ending,
-                ..fault_at(lacking_rule(why), lead.named.at, lead.named.end)
-            });
+fn put_lacking<'a>(directory: &'a [u8], w: &Wanted, why: &Status, read: &mut ProjectRead<'a>) {
+    let rule = match why {
+        Status::Missing(_) => &MISSING,
+        Status::Limit { .. } => &TOO_LARGE,
+        _ => &UNREAD,
+    };
+    for at in 0..read.leads.len() {
+        match read.leads.at(at).copied() {
+            Some(lead) if lead.world == w.world && is_led(w.name.as_slice(), directory, &lead) => {
+                read.put_fault(Fault {
+                    before: directory,
+                    token: lead.stem,
+                    ending: lead.ending,
+                    ..fault_at(rule, lead.named.at, lead.named.end)
+                });
+                return;
+            }
+            _ => {}
         }
     }
-    Ok(())
 }
 
-fn want(alloc: Global, world: bool, name: &Text) -> Result<Wanted, Starved>
-    ensures { IfOk result (λ w. w ≡ spec.wanted world name.now) }
+fn want(alloc: Global, all: &mut Seq<Wanted>, world: bool, name: &Text) -> Result<(), Starved>
+    ensures { OnOk result (all.new ≡ all.old ++ spec.wanted world name.now ∷ []) }
 {
-    Ok(Wanted {
-        name: copy_text(alloc, name)?,
-        world,
-    })
+    match copy_text(alloc, name) {
+        Ok(name) => all.push(Wanted { name, world }),
+        Err(_) => Err(Starved),
+    }
 }
 
 /// Whether the file of this name is wanted already, of an agent.
@@ -219,7 +213,7 @@ fn put_agent(alloc: Global, all: &mut Seq<Wanted>, name: &Text) -> Result<(), St
     if is_wanted(all.as_slice(), name) {
         return Ok(());
     }
-    all.push(want(alloc, false, name)?)
+    want(alloc, all, false, name)
 }
 
 /// The file of a world.
@@ -228,7 +222,7 @@ fn world_wanted(alloc: Global, world: Option<&Text>) -> Result<Seq<Wanted>, Star
 {
     let mut all = Seq::new(alloc);
     if let Some(name) = world {
-        all.push(want(alloc, true, name)?)?;
+        want(alloc, &mut all, true, name)?;
     }
     Ok(all)
 }
@@ -255,23 +249,19 @@ fn wanted_in(alloc: Global, p: ProjectText) -> Result<Seq<Wanted>, Starved>
     wanted
 }
 
-/// The name of the file to which a project in a directory leads so.
-fn file_of(alloc: Global, directory: &[u8], lead: &Lead<'_>) -> Result<Text, Starved> {
-    let parts = [
-        Part::Words(directory),
-        Part::Words(lead.stem),
-        Part::Words(lead.ending),
-    ];
-    text_of_parts(alloc, &parts)
-}
-
+/// Puts the file to which a project in a directory leads so.
 fn put_wanted(
     alloc: Global,
     all: &mut Seq<Wanted>,
     directory: &[u8],
     lead: &Lead<'_>,
 ) -> Result<(), Starved> {
-    let name = file_of(alloc, directory, lead)?;
+    let parts = [
+        Phrase::Words(directory),
+        Phrase::Words(lead.stem),
+        Phrase::Words(lead.ending),
+    ];
+    let name = sentence(alloc, &parts)?;
     if lead.world {
         all.push(Wanted { name, world: true })
     } else {
@@ -295,8 +285,7 @@ fn wanted_told<'a, S: Shelf>(
     known: &Names,
     w: &Wanted,
     directory: &'a [u8],
-    leads: &[Lead<'a>],
-    faults: &mut Faults<'a>,
+    read: &mut ProjectRead<'a>,
     shelf: &mut S,
 ) -> Result<Option<FileTold>, Status>
     ensures same { S.holds shelf.new ≡ S.holds shelf.old }
@@ -308,12 +297,9 @@ fn wanted_told<'a, S: Shelf>(
         Ok(told) => Ok(Some(told)),
         Err(why) => {
             let lack = is_lack(&why);
-            let put = put_lacking(directory, leads, w, &why, faults);
+            put_lacking(directory, w, &why, read);
             drop(why);
-            match put {
-                Ok(()) if !lack => Ok(None),
-                _ => Err(Status::Memory),
-            }
+            if lack { Err(Status::Memory) } else { Ok(None) }
         }
     }
 }
@@ -334,8 +320,7 @@ fn all_told<'a, S: Shelf>(
     known: &Names,
     wanted: &Seq<Wanted>,
     directory: &'a [u8],
-    leads: &[Lead<'a>],
-    faults: &mut Faults<'a>,
+    read: &mut ProjectRead<'a>,
     shelf: &mut S,
 ) -> Result<FilesTold, Status>
     ensures same { S.holds shelf.new ≡ S.holds shelf.old }
@@ -346,7 +331,7 @@ fn all_told<'a, S: Shelf>(
     let mut files: FilesTold = Seq::new(alloc);
     let mut rest = wanted.as_slice();
     'wanted: while let Some((w, after)) = rest.split_first() {
-        let told = match wanted_told(alloc, known, w, directory, leads, faults, shelf) {
+        let told = match wanted_told(alloc, known, w, directory, read, shelf) {
             Ok(told) => told,
             Err(_) => return Err(Status::Memory),
         };
@@ -361,8 +346,7 @@ fn others_told<'a, S: Shelf>(
     alloc: Global,
     known: &Names,
     word: &'a Text,
-    leads: &[Lead<'a>],
-    faults: &mut Faults<'a>,
+    read: &mut ProjectRead<'a>,
     shelf: &mut S,
 ) -> Result<FilesTold, Status>
     ensures same { S.holds shelf.new ≡ S.holds shelf.old }
@@ -374,7 +358,7 @@ fn others_told<'a, S: Shelf>(
     match project_of(alloc, word, shelf) {
         Ok(p) => {
             let wanted = wanted_in(alloc, p)?;
-            match all_told(alloc, known, &wanted, directory, leads, faults, shelf) {
+            match all_told(alloc, known, &wanted, directory, read, shelf) {
                 Ok(files) => Ok(files),
                 Err(_) => Err(Status::Memory),
             }
@@ -385,8 +369,8 @@ fn others_told<'a, S: Shelf>(
                 return Err(Status::Memory);
             }
             drop(why);
-            let wanted = wanted_by(alloc, directory, leads)?;
-            match all_told(alloc, known, &wanted, directory, leads, faults, shelf) {
+            let wanted = wanted_by(alloc, directory, read.leads.as_slice())?;
+            match all_told(alloc, known, &wanted, directory, read, shelf) {
                 Ok(files) => Ok(files),
                 Err(_) => Err(Status::Memory),
             }
@@ -404,17 +388,17 @@ fn with_first(alloc: Global, first: FileTold, others: FilesTold) -> Result<Files
     Ok(all)
 }
 
-/// What is told of the file of a project with these bytes and faults.
+/// What is told of the file of a project with these bytes, which was read so.
 fn first_told(
     alloc: Global,
     word: &Text,
     bytes: &[u8],
     m: &Mended,
-    faults: Faults<'_>,
+    read: ProjectRead<'_>,
 ) -> Result<FileTold, Starved>
     ensures { IfOk result (λ t. (t.kind ≡ Project) × (t.name ≡ word.now) × TellsProject bytes.now t.findings) }
 {
-    let findings = project_told(alloc, bytes, m, faults)?;
+    let findings = project_told(alloc, bytes, m, read)?;
     named(alloc, FileKind::Project, word, findings)
 }
 
@@ -435,14 +419,12 @@ fn project_files<S: Shelf>(
     ensures starved { IfErr result (λ s. s ≡ status.Memory) }
 {
     let mended = mended_of(alloc, bytes)?;
-    let read = project_read(alloc, &mended)?;
-    let (faults, leads) = read.into_parts();
-    let mut faults = faults;
-    let files = match others_told(alloc, known, word, leads.as_slice(), &mut faults, shelf) {
+    let mut read = project_read(alloc, &mended);
+    let files = match others_told(alloc, known, word, &mut read, shelf) {
         Ok(files) => files,
         Err(_) => return Err(Status::Memory),
     };
-    let first = first_told(alloc, word, bytes, &mended, faults)?;
+    let first = first_told(alloc, word, bytes, &mended, read)?;
     match with_first(alloc, first, files) {
         Ok(all) => Ok(all),
         Err(_) => Err(Status::Memory),

@@ -1,24 +1,15 @@
 //! Where a project leads: its world and the files of its entries, read off its tokens, as far as they can be.
 
 use asl_lexer::scan::value;
-use asl_lexer::token::{Sign, Tok, TokKind, Word};
+use asl_lexer::token::{Tok, TokKind, Word};
 use asl_term::copying::text_of;
 use asl_term::sequence::{Seq, Starved};
 use asl_term::syntax::Text;
-use look_reasons::mark::{Mark, is_atom, is_sign};
-use mas_project::lexeme::lexeme_behind;
+use look_reasons::mark::{Mark, is_atom};
+use look_reasons::mending::is_pair;
 use mas_project::piece::NextPiece;
-use mas_project::state::State;
-use mas_project::step::{begin, step};
+use mas_project::reading::{Outcome, read};
 use std::alloc::Global;
-
-/// The file of an entry: how its name begins and ends, and the token that names it.
-#[derive(Clone, Copy)]
-struct Named<'a> {
-    stem: &'a [u8],
-    ending: &'static [u8],
-    token: Mark<'a>,
-}
 
 /// A file to which a project leads, and the token that names it. The file of an entry also has the name of its agents, and how many there are
 /// where a number stands there.
@@ -52,78 +43,59 @@ impl Drop for Entry {
     }
 }
 
-/// How far a reading has come.
-struct Reached {
-    state: State,
-}
-
-/// By hand, so that who lets one go proves nothing of its parts.
-impl Drop for Reached {
-    fn drop(self) {
-        let Reached { state: _ } = self;
-    }
-}
-
-impl Reached {
-    fn into_state(self) -> State {
-        let Reached { state } = self;
-        state
-    }
-
-    fn is_whole(&self) -> bool {
-        matches!(self.state, State::Whole(_))
-    }
-}
-
-/// How far a reading comes with one token more; none where it stops there.
-fn with_token(
-    alloc: Global,
-    reached: Reached,
-    before: Option<&Tok>,
-    t: &Tok,
-) -> Result<Option<Reached>, Starved> {
-    let Ok(word) = lexeme_behind(alloc, before, t) else {
-        drop(reached);
-        return Err(Starved);
-    };
-    match step(alloc, reached.into_state(), word) {
-        Ok(Some(state)) => Ok(Some(Reached { state })),
-        Ok(None) => Ok(None),
+/// Whether a reading goes over tokens at the front of a piece, and then whether these are a whole piece.
+fn goes_over(alloc: Global, turn: NextPiece, front: &[Tok]) -> Result<Option<bool>, Starved> {
+    match read(alloc, turn, front) {
+        Ok(outcome) => {
+            let whole = match &outcome {
+                Outcome::Whole(_) => Some(true),
+                Outcome::Early => Some(false),
+                Outcome::Stops(_) => None,
+            };
+            drop(outcome);
+            Ok(whole)
+        }
         Err(_) => Err(Starved),
     }
 }
 
-/// How many tokens of a piece a reading goes over; none where it is read whole.
+/// How many tokens of a piece a reading goes over; none where it is read whole. These are few: no piece has many.
 pub fn stop_of(alloc: Global, turn: NextPiece, piece: &[Tok]) -> Result<Option<usize>, Starved> {
-    let mut reached = Reached { state: begin(turn) };
-    let mut before = None;
-    let mut place: usize = 0;
-    for t in piece {
-        match with_token(alloc, reached, before, t)? {
-            Some(next) => reached = next,
-            None => return Ok(Some(place)),
+    let mut whole = false;
+    for place in 0..piece.len() {
+        let (front, _) = piece.split_at(place.saturating_add(1).min(piece.len()));
+        match goes_over(alloc, turn, front) {
+            Ok(Some(is)) => whole = is,
+            Ok(None) => return Ok(Some(place)),
+            Err(_) => return Err(Starved),
         }
-        before = Some(t);
-        place = place.saturating_add(1);
     }
-    let whole = reached.is_whole();
-    drop(reached);
-    Ok(if whole { None } else { Some(place) })
+    Ok(if whole { None } else { Some(piece.len()) })
 }
 
-/// Whether `agents :` stands here.
-fn is_agents(marks: &[Mark<'_>], at: usize) -> bool {
-    match (marks.get(at), marks.get(at.saturating_add(1))) {
-        (Some(m), Some(n)) => m.text == b"agents".as_slice() && is_sign(n.word, Sign::Colon),
-        _ => false,
+/// The text of a token; none behind all of them.
+fn text_at<'a>(marks: &[Mark<'a>], at: usize) -> &'a [u8] {
+    match marks.get(at) {
+        Some(m) => m.text,
+        None => &[],
     }
 }
 
 /// The place behind `agents :`; behind all tokens where that stands nowhere.
 fn behind_agents(marks: &[Mark<'_>]) -> usize {
     for at in 0..marks.len() {
-        if is_agents(marks, at) {
+        if is_pair(marks, at, b"agents:") {
             return at.saturating_add(2);
+        }
+    }
+    marks.len()
+}
+
+/// The first place of `environment`; behind all tokens where that stands nowhere.
+pub fn world_place(marks: &[Mark<'_>]) -> usize {
+    for at in 0..marks.len() {
+        if text_at(marks, at) == b"environment".as_slice() {
+            return at;
         }
     }
     marks.len()
@@ -137,46 +109,24 @@ fn count_in(toks: &[Tok]) -> Option<u64> {
     }
 }
 
-fn is_suffix(m: Option<&Mark<'_>>) -> bool {
-    match m {
-        Some(m) => m.text == b".asl".as_slice(),
-        None => false,
-    }
-}
-
-fn with_suffix<'a>(token: Mark<'a>) -> Named<'a> {
-    Named {
-        stem: token.text,
-        ending: b".asl",
-        token,
-    }
-}
-
-/// The file of an entry whose name stands directly before this place.
-fn file_at<'a>(marks: &[Mark<'a>], toks: &'a [Tok], at: usize, name: Mark<'a>) -> Named<'a> {
+/// Where an entry leads, whose file may stand at this place: else its name stands for the file.
+fn with_file<'a>(marks: &[Mark<'a>], toks: &'a [Tok], at: usize, own: Lead<'a>) -> Lead<'a> {
     match (marks.get(at), toks.get(at)) {
-        (Some(m), _) if is_atom(m.word) && is_suffix(marks.get(at.saturating_add(1))) => {
-            with_suffix(*m)
-        }
-        (Some(m), Some(t)) if matches!(m.word, Word::Str) => Named {
+        (Some(m), Some(t)) if matches!(m.word, Word::Str) => Lead {
             stem: t.text.as_slice(),
             ending: b"",
-            token: *m,
+            named: *m,
+            ..own
         },
-        _ => with_suffix(name),
-    }
-}
-
-/// Where an entry leads whose name stands here.
-fn lead_at<'a>(marks: &[Mark<'a>], toks: &'a [Tok], at: usize, name: Mark<'a>) -> Lead<'a> {
-    let file = file_at(marks, toks, at.saturating_add(1), name);
-    Lead {
-        stem: file.stem,
-        ending: file.ending,
-        world: false,
-        named: file.token,
-        name,
-        count: count_in(toks),
+        (Some(m), _)
+            if is_atom(m.word) && text_at(marks, at.saturating_add(1)) == b".asl".as_slice() => {
+            Lead {
+                stem: m.text,
+                named: *m,
+                ..own
+            }
+        }
+        _ => own,
     }
 }
 
@@ -190,9 +140,15 @@ pub fn lead_in<'a>(
     let at = if first { behind_agents(marks) } else { 0 };
     match marks.get(at) {
         Some(name) if is_atom(name.word) => {
-            let lead = lead_at(marks, toks, at, *name);
-            let count = if whole { lead.count } else { None };
-            Some(Lead { count, ..lead })
+            let own = Lead {
+                stem: name.text,
+                ending: b".asl",
+                world: false,
+                named: *name,
+                name: *name,
+                count: if whole { count_in(toks) } else { None },
+            };
+            Some(with_file(marks, toks, at.saturating_add(1), own))
         }
         _ => None,
     }
@@ -221,34 +177,22 @@ pub fn entry_in(
     }
 }
 
-/// Whether the environment is named here, and a reading goes on behind it.
-fn is_world(marks: &[Mark<'_>], at: usize, stop: Option<usize>) -> bool {
+/// Where the name of the environment leads, where a reading goes on behind it. It has no agents.
+pub fn world_in<'a>(marks: &[Mark<'a>], stop: Option<usize>) -> Option<Lead<'a>> {
+    let at = world_place(marks);
     let goes_on = match stop {
         Some(stop) => stop > at.saturating_add(3),
         None => true,
     };
-    match marks.get(at) {
-        Some(m) => goes_on && m.text == b"environment".as_slice(),
-        None => false,
+    match marks.get(at.saturating_add(2)) {
+        Some(m) if goes_on => Some(Lead {
+            stem: m.text,
+            ending: b".env",
+            world: true,
+            named: *m,
+            name: *m,
+            count: Some(0),
+        }),
+        _ => None,
     }
-}
-
-/// Where the name of the environment leads, where a reading goes on behind it. It has no agents.
-pub fn world_in<'a>(marks: &[Mark<'a>], stop: Option<usize>) -> Option<Lead<'a>> {
-    for at in 0..marks.len() {
-        if is_world(marks, at, stop) {
-            return match marks.get(at.saturating_add(2)) {
-                Some(m) => Some(Lead {
-                    stem: m.text,
-                    ending: b".env",
-                    world: true,
-                    named: *m,
-                    name: *m,
-                    count: Some(0),
-                }),
-                None => None,
-            };
-        }
-    }
-    None
 }

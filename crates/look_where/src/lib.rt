@@ -8,7 +8,6 @@
 pub mod faults;
 pub mod files;
 pub mod leads;
-pub mod parts;
 pub mod printing;
 pub mod projects;
 pub mod worlds;

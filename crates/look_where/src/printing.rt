@@ -5,13 +5,13 @@ ghost use Rattle.std.specs.List.{flat_map, list_any};
 ghost use Rattle.look_where.specs.Showing as spec;
 
 use crate::files::{FileTold, FilesTold, files_told, is_lack};
-use crate::parts::{Part, text_of_parts};
 use asl_term::names::Names;
 use asl_term::printing::write_number;
 use asl_term::sequence::{Seq, Starved};
 use asl_term::syntax::Text;
 use look_answer::answer::Output;
 use look_pieces::findings::Finding;
+use look_reasons::phrase::{Phrase, sentence};
 use mas_io::shelf::Shelf;
 use mas_top_files::sources::sources;
 use mas_top_status::status::{Status, fault_line};
@@ -101,19 +101,19 @@ fn behind_files(alloc: Global, files: &[FileTold], line: &Text) -> Result<Text, 
     let all = files.len() as u64;
     let counts = counts_of(files);
     let parts = [
-        Part::Words(line.as_slice()),
-        Part::Number(all),
-        Part::Words(b" file"),
-        Part::Words(plural(all)),
-        Part::Words(b", "),
-        Part::Number(counts.refused),
-        Part::Words(b" refused, "),
-        Part::Number(counts.places),
-        Part::Words(b" place"),
-        Part::Words(plural(counts.places)),
-        Part::Words(b"\n"),
+        Phrase::Words(line.as_slice()),
+        Phrase::Number(all),
+        Phrase::Words(b" file"),
+        Phrase::Words(plural(all)),
+        Phrase::Words(b", "),
+        Phrase::Number(counts.refused),
+        Phrase::Words(b" refused, "),
+        Phrase::Number(counts.places),
+        Phrase::Words(b" place"),
+        Phrase::Words(plural(counts.places)),
+        Phrase::Words(b"\n"),
     ];
-    text_of_parts(alloc, &parts)
+    sentence(alloc, &parts)
 }
 
 /// Whether `jasonrun` refuses the project, and the line with which it does.
@@ -122,23 +122,19 @@ pub struct Refusal {
     pub line: Text,
 }
 
-/// A line without its line feed.
-fn without_end(line: &[u8]) -> &[u8] {
-    match line {
-        [text @ .., b'\n'] => text,
-        _ => line,
-    }
-}
-
 /// The line of a status, as it is shown.
 fn status_line(alloc: Global, status: &Status) -> Result<Text, Starved> {
     let line = fault_line(alloc, status)?;
+    let text = match line.as_slice() {
+        [text @ .., b'\n'] => text,
+        text => text,
+    };
     let parts = [
-        Part::Words(b"jasonrun: "),
-        Part::Shown(without_end(line.as_slice())),
-        Part::Words(b"\n"),
+        Phrase::Words(b"jasonrun: "),
+        Phrase::Shown(text),
+        Phrase::Words(b"\n"),
     ];
-    text_of_parts(alloc, &parts)
+    sentence(alloc, &parts)
 }
 
 /// Whether `jasonrun` refuses the project. Each agent may make one cycle, so that the limit of cycles is none of the causes.

@@ -6,7 +6,6 @@ ghost use Rattle.look_pieces.specs.Telling.{IsSome, TellsByte};
 ghost use Rattle.look_where.specs.Others as spec;
 ghost use Rattle.look_where.specs.Others.{TellsWorld};
 
-use asl_lexer::lexing::tokens;
 use asl_lexer::pieces::{ClausePieces, cut};
 use asl_lexer::token::{LexFault, Tok};
 use asl_parser_tree::bounded::Bounded;
@@ -22,7 +21,7 @@ use env_file::world::world;
 use look_pieces::agents::is_behind_decimal;
 use look_pieces::findings::{Findings, at_least_one, findings_in};
 use look_pieces::spoilt::{is_dirty, is_ended, piece_end, with_bytes};
-use look_reasons::bytes::{Spoilt, mended_of};
+use look_reasons::bytes::{Mended, Spoilt, mended_of};
 use look_reasons::flaws::{artifact_reason, limit_reason, unbound_reason};
 use look_reasons::mark::{Mark, marks_of};
 use look_reasons::mending::Piece;
@@ -30,7 +29,7 @@ use look_reasons::reason::{Reason, reasons};
 use mas_world::acts::WorldText;
 use std::alloc::Global;
 
-/// Makes of a world what a piece with these lexemes says, which begins with this token.
+/// Makes of a world what a piece with these lexemes says, the one of this number, which begins with this token.
 fn made_by(
     alloc: Global,
     known: &Names,
@@ -39,6 +38,9 @@ fn made_by(
     first: &Tok,
     all: &[Lexeme],
 ) -> Result<(), WorldFault> {
+    if too_deep(all) {
+        return Err(WorldFault::Limit { number });
+    }
     match statement(alloc, all, 250) {
         Ok(Some(Bounded::Within(s))) => {
             let answer = make(alloc, known, made, number, first, &s);
@@ -55,76 +57,55 @@ fn made_by(
     }
 }
 
-/// Why a piece is refused, where it is.
-fn fault_of(answer: Result<(), WorldFault>) -> Result<Option<WorldFault>, Starved> {
-    match answer {
-        Ok(()) => Ok(None),
-        Err(WorldFault::Memory) => Err(Starved),
-        Err(why) => Ok(Some(why)),
-    }
-}
-
 /// Makes of a world what a piece says, or tells why the piece is refused.
-fn refusal(
+fn made_of(
     alloc: Global,
     known: &Names,
     made: &mut WorldText,
     number: u64,
     toks: &[Tok],
-) -> Result<Option<WorldFault>, Starved> {
+) -> Result<(), WorldFault> {
     let [first, ..] = toks else {
-        return Ok(None);
+        return Ok(());
     };
-    let all = lexemes(alloc, toks)?;
-    if too_deep(&all) {
-        Ok(Some(WorldFault::Limit { number }))
-    } else {
-        fault_of(made_by(alloc, known, made, number, first, &all))
-    }
-}
-
-fn put_known(name: Option<&Text>, out: &mut Text) -> Result<(), Starved> {
-    match name {
-        Some(name) => {
-            out.push(b' ')?;
-            out.append(name.as_slice())
-        }
-        None => Ok(()),
+    match lexemes(alloc, toks) {
+        Ok(all) => made_by(alloc, known, made, number, first, &all),
+        Err(_) => Err(WorldFault::Memory),
     }
 }
 
 /// The known names, each behind a blank.
 fn names_text(alloc: Global, known: &Names) -> Result<Text, Starved> {
     let mut out = Seq::new(alloc);
+    let mut spent = false;
     for k in 0..known.len() {
-        put_known(known.at(k.saturating_add(1)), &mut out)?;
+        if let Some(name) = known.at(k.saturating_add(1)) {
+            spent = spent || out.push(b' ').is_err() || out.append(name.as_slice()).is_err();
+        }
     }
-    Ok(out)
+    if spent { Err(Starved) } else { Ok(out) }
 }
 
-/// A reason, where there is one.
-fn one_reason(alloc: Global, r: Result<Option<Reason>, Starved>) -> Result<Seq<Reason>, Starved> {
-    let mut all = Seq::new(alloc);
-    match r {
-        Ok(Some(r)) => match all.push(r) {
-            Ok(()) => Ok(all),
+/// The reason for the refusal of a piece that is a clause, where there is one.
+fn own_reason(
+    alloc: Global,
+    known: &Names,
+    why: &WorldFault,
+    p: &Piece<'_>,
+) -> Result<Option<Reason>, Starved> {
+    match why {
+        WorldFault::Memory => Err(Starved),
+        WorldFault::Limit { .. } => match limit_reason(alloc, p) {
+            Ok(r) => Ok(Some(r)),
             Err(_) => Err(Starved),
         },
-        Ok(None) => Ok(all),
-        Err(_) => Err(Starved),
+        WorldFault::Unbound { name, .. } => unbound_reason(alloc, p, name.as_slice()),
+        WorldFault::UnknownArtifact { .. } => {
+            let names = names_text(alloc, known)?;
+            artifact_reason(alloc, p, names.as_slice())
+        }
+        _ => Ok(None),
     }
-}
-
-fn limit_told(alloc: Global, p: &Piece<'_>) -> Result<Option<Reason>, Starved> {
-    match limit_reason(alloc, p) {
-        Ok(r) => Ok(Some(r)),
-        Err(_) => Err(Starved),
-    }
-}
-
-fn artifact_told(alloc: Global, known: &Names, p: &Piece<'_>) -> Result<Option<Reason>, Starved> {
-    let names = names_text(alloc, known)?;
-    artifact_reason(alloc, p, names.as_slice())
 }
 
 /// The reasons for the refusal of a piece.
@@ -134,27 +115,32 @@ fn reasons_for(
     why: &WorldFault,
     p: &Piece<'_>,
 ) -> Result<Seq<Reason>, Starved> {
-    match why {
-        WorldFault::Limit { .. } => one_reason(alloc, limit_told(alloc, p)),
-        WorldFault::Unbound { name, .. } => {
-            one_reason(alloc, unbound_reason(alloc, p, name.as_slice()))
-        }
-        WorldFault::UnknownArtifact { .. } => one_reason(alloc, artifact_told(alloc, known, p)),
-        _ => reasons(alloc, p),
+    if matches!(why, WorldFault::Clause { .. }) {
+        return reasons(alloc, p);
+    }
+    let mut all = Seq::new(alloc);
+    match own_reason(alloc, known, why, p) {
+        Ok(Some(r)) => match all.push(r) {
+            Ok(()) => Ok(all),
+            Err(_) => Err(Starved),
+        },
+        Ok(None) => Ok(all),
+        Err(_) => Err(Starved),
     }
 }
 
-/// The reasons for the refusal of the piece of this number, which has these tokens in a text, the mended bytes of a source.
-fn all_reasons(
+/// The findings of the piece of this number that is refused so, which has these tokens in a text, the mended bytes of a source.
+fn refused_piece(
     alloc: Global,
     known: &Names,
     why: &WorldFault,
     source: &[u8],
     text: &[u8],
     number: u64,
+    toks: &[Tok],
     marks: &[Mark<'_>],
     used: &[Mark<'_>],
-) -> Result<Seq<Reason>, Starved> {
+) -> Result<Findings, Starved> {
     let at = match marks.first() {
         Some(m) => m.at,
         None => 0,
@@ -168,7 +154,8 @@ fn all_reasons(
         number,
         behind_decimal: is_behind_decimal(text, at),
     };
-    reasons_for(alloc, known, why, &piece)
+    let all = reasons_for(alloc, known, why, &piece)?;
+    findings_in(alloc, source, toks, all.as_slice())
 }
 
 /// What is kept of the pieces while they are read: the world, the tokens of the names that it uses, and what is found.
@@ -176,6 +163,8 @@ struct Draft<'a> {
     world: WorldText,
     used: Seq<Mark<'a>>,
     found: Findings,
+    /// Whether memory was wanting.
+    spent: bool,
 }
 
 /// By hand, so that who lets one go proves nothing of its parts.
@@ -185,56 +174,47 @@ impl<'a> Drop for Draft<'a> {
             world: _,
             used: _,
             found: _,
+            spent: _,
         } = self;
     }
 }
 
 impl<'a> Draft<'a> {
-    fn into_found(self) -> Findings {
+    fn put_found(&mut self, found: Result<Findings, Starved>) {
+        match found {
+            Ok(found) => {
+                if self.found.append_all(found).is_err() {
+                    self.spent = true;
+                }
+            }
+            Err(_) => self.spent = true,
+        }
+    }
+
+    /// Keeps the token of the name that a piece uses.
+    fn put_used(&mut self, marks: &[Mark<'a>]) {
+        match marks {
+            [first, second, ..] if first.text == b"use".as_slice() => {
+                if self.used.push(*second).is_err() {
+                    self.spent = true;
+                }
+            }
+            _ => {}
+        }
+    }
+
+    fn into_found(self) -> Result<Findings, Starved> {
         let Draft {
             world: _,
             used: _,
             found,
+            spent,
         } = self;
-        found
-    }
-}
-
-fn no_draft<'a>(alloc: Global) -> Result<Draft<'a>, Starved> {
-    let world = WorldText {
-        facts: Seq::new(alloc),
-        hidden: Names::new(alloc)?,
-        uses: Names::new(alloc)?,
-        acts: Seq::new(alloc),
-    };
-    Ok(Draft {
-        world,
-        used: Seq::new(alloc),
-        found: Seq::new(alloc),
-    })
-}
-
-/// The findings of a piece that is refused so.
-fn refused_piece(
-    alloc: Global,
-    known: &Names,
-    why: &WorldFault,
-    bytes: &[u8],
-    text: &[u8],
-    number: u64,
-    toks: &[Tok],
-    marks: &[Mark<'_>],
-    used: &[Mark<'_>],
-) -> Result<Findings, Starved> {
-    let all = all_reasons(alloc, known, why, bytes, text, number, marks, used)?;
-    findings_in(alloc, bytes, toks, all.as_slice())
-}
-
-/// Keeps the token of the name that a piece uses.
-fn put_used<'a>(marks: &[Mark<'a>], used: &mut Seq<Mark<'a>>) -> Result<(), Starved> {
-    match marks {
-        [first, second, ..] if first.text == b"use".as_slice() => used.push(*second),
-        _ => Ok(()),
+        if spent {
+            drop(found);
+            return Err(Starved);
+        }
+        Ok(found)
     }
 }
 
@@ -247,29 +227,20 @@ fn put_piece<'a>(
     number: u64,
     toks: &[Tok],
     draft: &mut Draft<'a>,
-) -> Result<(), Starved> {
-    let marks = marks_of(alloc, text, toks)?;
-    match refusal(alloc, known, &mut draft.world, number, toks)? {
-        Some(why) => {
+) {
+    let Ok(marks) = marks_of(alloc, text, toks) else {
+        draft.spent = true;
+        return;
+    };
+    match made_of(alloc, known, &mut draft.world, number, toks) {
+        Ok(()) => draft.put_used(marks.as_slice()),
+        Err(why) => {
             let used = draft.used.as_slice();
-            let found = refused_piece(
-                alloc,
-                known,
-                &why,
-                bytes,
-                text,
-                number,
-                toks,
-                marks.as_slice(),
-                used,
-            );
+            let marks = marks.as_slice();
+            let found = refused_piece(alloc, known, &why, bytes, text, number, toks, marks, used);
             drop(why);
-            match found {
-                Ok(found) => draft.found.append_all(found),
-                Err(_) => Err(Starved),
-            }
+            draft.put_found(found);
         }
-        None => put_used(marks.as_slice(), &mut draft.used),
     }
 }
 
@@ -282,7 +253,7 @@ fn put_pieces<'a>(
     toks: &[Tok],
     faults: &[Spoilt],
     draft: &mut Draft<'a>,
-) -> Result<(), Starved> {
+) {
     let mut number: u64 = 1;
     let mut from = 0;
     let mut rest = toks;
@@ -293,37 +264,53 @@ fn put_pieces<'a>(
         let end = piece_end(text, piece);
         let open = behind.is_empty() && !is_ended(piece);
         if !is_dirty(faults, from, end, open) {
-            put_piece(alloc, known, bytes, text, number, piece, draft)?;
+            put_piece(alloc, known, bytes, text, number, piece, draft);
         }
         from = end;
         number = number.saturating_add(1);
         rest = behind;
     }
-    Ok(())
 }
 
-/// The findings of the pieces of a text in which no fault lies that is not mended.
+/// The findings of the pieces of these bytes, as they are mended, in which no fault lies that is not.
 fn pieces_told(
     alloc: Global,
     known: &Names,
     bytes: &[u8],
-    text: &[u8],
-    toks: &[Tok],
-    faults: &[Spoilt],
+    m: &Mended,
 ) -> Result<Findings, Starved> {
-    let mut draft = no_draft(alloc)?;
-    put_pieces(alloc, known, bytes, text, toks, faults, &mut draft)?;
-    Ok(draft.into_found())
+    let Ok(nothing) = world(alloc, b"", known) else {
+        return Err(Starved);
+    };
+    let mut draft = Draft {
+        world: nothing,
+        used: Seq::new(alloc),
+        found: Seq::new(alloc),
+        spent: false,
+    };
+    if let Some(toks) = &m.toks {
+        let text = m.text.as_slice();
+        let faults = m.faults.as_slice();
+        put_pieces(
+            alloc,
+            known,
+            bytes,
+            text,
+            toks.as_slice(),
+            faults,
+            &mut draft,
+        );
+    }
+    draft.into_found()
 }
 
 /// The findings of a world that is refused for a piece.
 fn refused_told(alloc: Global, known: &Names, bytes: &[u8]) -> Result<Findings, Starved>
     ensures { IfOk result IsSome }
 {
-    let found = match tokens(alloc, bytes) {
-        Ok(toks) => pieces_told(alloc, known, bytes, bytes, toks.as_slice(), &[])?,
-        Err(_) => return Err(Starved),
-    };
+    let m = mended_of(alloc, bytes)?;
+    let found = pieces_told(alloc, known, bytes, &m)?;
+    drop(m);
     at_least_one(alloc, found)
 }
 
@@ -345,17 +332,7 @@ fn spoilt_told(
     ensures { IfOk result (TellsByte bytes.now) }
 {
     let m = mended_of(alloc, bytes)?;
-    let found = match &m.toks {
-        Some(toks) => pieces_told(
-            alloc,
-            known,
-            bytes,
-            m.text.as_slice(),
-            toks.as_slice(),
-            m.faults.as_slice(),
-        )?,
-        None => Seq::new(alloc),
-    };
+    let found = pieces_told(alloc, known, bytes, &m)?;
     let told = with_bytes(alloc, bytes, why, m.faults.as_slice(), found);
     drop(m);
     told
