@@ -144,14 +144,12 @@ fn put_signs(here: &Here<'_>, sheet: &mut Sheet) {
 
 /// Puts a hint where what is collected has arithmetic.
 fn put_collected(here: &Here<'_>, c: &Called<'_>, sheet: &mut Sheet) {
+    let collects = c.call.name.as_slice() == b"findall".as_slice();
     match c.call.args.as_slice() {
-        [ArgOf::Plain(t), ..] if c.call.name.as_slice() == b"findall".as_slice() && !is_plain(t) =>
-            {
-                sheet.look(&Sight {
-                    term: Some(t),
-                    ..sight_at(here, Subject::Collected, c.at)
-                });
-            }
+        [ArgOf::Plain(t), ..] if collects && !is_plain(t) => sheet.look(&Sight {
+            term: Some(t),
+            ..sight_at(here, Subject::Collected, c.at)
+        }),
         _ => {}
     }
 }

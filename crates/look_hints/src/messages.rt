@@ -84,22 +84,6 @@ struct Written<'a> {
     content: usize,
 }
 
-/// The message that a call sends, with its places.
-fn written_by<'a>(here: &Here<'_>, c: &Called<'a>) -> Option<Written<'a>> {
-    let sent = sent_by(c.call)?;
-    let open = c.at.saturating_add(1);
-    let number: u64 = if sent.to.is_some() { 1 } else { 0 };
-    let verb = argument(here.marks, open, number)?;
-    let content = argument(here.marks, open, number.saturating_add(1))?;
-    Some(Written {
-        sent,
-        name: c.at,
-        first: open.saturating_add(1),
-        verb,
-        content,
-    })
-}
-
 /// Puts a hint where the verb is none; a variable may be one. Else what is looked at of the content.
 fn put_verb(here: &Here<'_>, w: &Written<'_>, sheet: &mut Sheet) -> Option<Subject> {
     let all = w.sent.to.is_none();
@@ -165,10 +149,24 @@ fn put_receiver<'a>(here: &Here<'a>, w: &Written<'a>, to: &'a Term, sheet: &mut 
 
 /// Puts the hints at a message.
 pub fn put_message<'a>(here: &Here<'a>, c: &Called<'a>, sheet: &mut Sheet) {
-    let Some(w) = written_by(here, c) else {
+    let Some(sent) = sent_by(c.call) else {
         return;
     };
-    if let Some(to) = w.sent.to {
+    let open = c.at.saturating_add(1);
+    let number: u64 = if sent.to.is_some() { 1 } else { 0 };
+    let verb = argument(here.marks, open, number);
+    let content = argument(here.marks, open, number.saturating_add(1));
+    let (Some(verb), Some(content)) = (verb, content) else {
+        return;
+    };
+    let w = Written {
+        sent,
+        name: c.at,
+        first: open.saturating_add(1),
+        verb,
+        content,
+    };
+    if let Some(to) = sent.to {
         put_receiver(here, &w, to, sheet);
     }
     if let Some(subject) = put_verb(here, &w, sheet) {

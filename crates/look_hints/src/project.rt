@@ -69,14 +69,13 @@ fn names_of(alloc: Global, sources: &[ReadSource]) -> Result<Seq<Text>, Starved>
     Ok(all)
 }
 
-/// What each source does, the last one first, and whether some message may tell a plan.
+/// What each source does, and whether some message may tell a plan.
 fn all_deeds(alloc: Global, sources: &[ReadSource]) -> Result<(Seq<Groups>, bool), Starved> {
     let sent = all_sent(alloc, sources)?;
     let mut all = Seq::new(alloc);
     for s in sources {
         all.push(deeds_of(alloc, s, sent.as_slice())?)?;
     }
-    all.reverse();
     Ok((all, tells_plans(sent.as_slice())))
 }
 
@@ -89,11 +88,17 @@ pub fn project_of(
     let agents = names_of(alloc, sources.as_slice())?;
     let (mut deeds, tells_plans) = all_deeds(alloc, sources.as_slice())?;
     let mut members = Seq::new(alloc);
-    for source in sources.into_vec() {
-        if let Some(deeds) = deeds.pop() {
-            members.push(Member { source, deeds })?;
-        }
+    let mut sources = sources;
+    for _ in 0..sources.len() {
+        let Some(source) = sources.pop() else {
+            break;
+        };
+        let Some(deeds) = deeds.pop() else {
+            break;
+        };
+        members.push(Member { source, deeds })?;
     }
+    members.reverse();
     Ok(ReadProject {
         members,
         world,
