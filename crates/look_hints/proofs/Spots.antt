@@ -48,7 +48,7 @@ length_spots : (hs : List Hint) → length (map spot hs) ≡ length hs
 length_spots [] = refl
 length_spots (x ∷ xs) = ap (λ (n : ℕ). suc n) (length_spots xs)
 
-pub as_many : (goals others : List Hint) (tells_plans : Bool) (cs : List ReadClause) (fs shown : List Finding) →
-    map spot goals ≡ all_planless tells_plans cs cs → length fs ≡ length (goals ++ others) → shown ≡ fs → TellsGoals tells_plans cs shown
-as_many goals others tells_plans cs fs shown e l s =
-    omega (arith, ap length s, l, length-append goals others, length_spots goals, ap length e)
+pub as_many : (goals others : List Hint) (tells_plans : Bool) (cs : List ReadClause) (shown : List Finding) →
+    map spot goals ≡ all_planless tells_plans cs cs → length shown ≡ length (goals ++ others) → TellsGoals tells_plans cs shown
+as_many goals others tells_plans cs shown e l =
+    omega (arith, l, length-append goals others, length_spots goals, ap length e)

@@ -3,8 +3,9 @@
 use crate::places::trigger_at;
 use crate::project::Here;
 use crate::rules::Subject;
-use crate::sight::{Sight, asked_here, sight_at};
+use crate::sight::{Sight, asked_of, sight_at};
 use crate::telling::Sheet;
+use crate::uses::literal_of;
 use asl_lint::covers::covers;
 use asl_parser::sentence::Sentence;
 use asl_term::sequence::Starved;
@@ -14,41 +15,42 @@ use asl_term_actions::named::named;
 use look_names::clause::{ReadClause, is_plan_for};
 use look_names::name::same_name;
 
-fn plan_of(c: &ReadClause) -> Option<&Plan> {
+/// The plan that a clause is for events of this kind about the name of a literal.
+fn plan_for<'a>(c: &'a ReadClause, add: bool, kind: Kind, l: &Literal) -> Option<&'a Plan> {
     match &c.said {
-        Sentence::Plan(p) => Some(p),
+        Sentence::Plan(p) if is_plan_for(c, add, kind, l) => Some(p),
         _ => None,
     }
 }
 
 /// Whether an earlier plan takes each event that a plan takes: it has no context and no annotations, and its arguments match all that the plan's do.
 fn takes_all(here: &Here<'_>, earlier: &ReadClause, t: &Trigger) -> Result<bool, Starved> {
-    if !is_plan_for(earlier, t.add, t.kind, &t.lit) {
-        return Ok(false);
+    match plan_for(earlier, t.add, t.kind, &t.lit) {
+        Some(p) if matches!(p.context, Expr::True) && p.trigger.lit.annots.len() == 0 => {
+            covers(here.alloc, &p.trigger.lit, &t.lit)
+        }
+        _ => Ok(false),
     }
-    let Some(p) = plan_of(earlier) else {
-        return Ok(false);
-    };
-    if !matches!(p.context, Expr::True) || p.trigger.lit.annots.len() > 0 {
-        return Ok(false);
-    }
-    covers(here.alloc, &p.trigger.lit, &t.lit)
 }
 
 /// The line of the first plan before this one that takes all of its events.
-fn taken_before(here: &Here<'_>, number: usize, t: &Trigger) -> Result<Option<u64>, Starved> {
+fn taken_before(here: &Here<'_>, number: usize, t: &Trigger, sheet: &mut Sheet) -> Option<u64> {
     let clauses = here.member.source.clauses.as_slice();
     for c in &clauses[..number.min(clauses.len())] {
-        if takes_all(here, c, t)? {
-            return Ok(match c.toks.as_slice() {
-                [first, ..] => Some(first.line),
-                [] => None,
-            });
+        match (takes_all(here, c, t), c.toks.as_slice()) {
+            (Ok(takes), [first, ..]) => {
+                if takes {
+                    return Some(first.line);
+                }
+            }
+            (Ok(_), []) => {}
+            (Err(_), _) => sheet.spend(),
         }
     }
-    Ok(None)
+    None
 }
 
+/// Puts what is said of a plan's trigger; it has the line of an earlier plan, or 0.
 fn put_trigger<'a>(
     here: &Here<'a>,
     subject: Subject,
@@ -57,35 +59,37 @@ fn put_trigger<'a>(
     sheet: &mut Sheet,
 ) {
     sheet.look(&Sight {
-        asked: asked_here(here, &t.lit),
+        asked: asked_of(here, here.member, &t.lit),
         line,
         ..sight_at(here, subject, trigger_at(here.marks))
     });
 }
 
+/// Puts a hint at a plan for a goal that nothing posts here.
+fn put_received<'a>(here: &Here<'a>, t: &'a Trigger, sheet: &mut Sheet) {
+    let functor = t.lit.functor.as_slice();
+    let received = functor == b"kqml_received".as_slice()
+        || functor == b"kqml_received_error".as_slice();
+    if received && matches!(t.kind, Kind::Achieve) {
+        put_trigger(here, Subject::Received, t, 0, sheet);
+    }
+}
+
 /// Puts a hint at a plan that is never taken, the one of this number of its source, from 0.
 pub fn put_untaken<'a>(here: &Here<'a>, number: usize, t: &'a Trigger, sheet: &mut Sheet) {
     if t.lit.functor.as_slice().starts_with(b"kqml_received") {
-        return;
+        return put_received(here, t, sheet);
     }
-    if let Some(line) = sheet.found(taken_before(here, number, t)) {
-        put_trigger(here, Subject::Covered, t, line, sheet);
-        return;
-    }
-    let subject = match t.kind {
-        Kind::Achieve => Subject::Goal,
-        Kind::Test => Subject::Question,
-        Kind::Belief => Subject::Belief(t.add),
+    let (subject, line) = match taken_before(here, number, t, sheet) {
+        Some(line) => (Subject::Covered, line),
+        None => match (t.kind, t.add) {
+            (Kind::Achieve, _) => (Subject::Goal, 0),
+            (Kind::Test, _) => (Subject::Question, 0),
+            (Kind::Belief, true) => (Subject::Comes, 0),
+            (Kind::Belief, false) => (Subject::Goes, 0),
+        },
     };
-    put_trigger(here, subject, t, 0, sheet);
-}
-
-fn posts(f: &Formula, l: &Literal) -> bool {
-    match f {
-        Formula::Achieve(g) => same_name(g, l),
-        Formula::Spawn(g) => same_name(g, l),
-        _ => false,
-    }
+    put_trigger(here, subject, t, line, sheet);
 }
 
 fn stops(f: &Formula) -> bool {
@@ -95,40 +99,38 @@ fn stops(f: &Formula) -> bool {
     }
 }
 
-/// Whether each plan for a goal posts it again, and none stops the run.
-fn is_endless(clauses: &[ReadClause], l: &Literal) -> bool {
-    for c in clauses {
-        if let Some(p) = plan_of(c) {
-            if is_plan_for(c, true, Kind::Achieve, l) {
-                let body = p.body.as_slice();
-                let again = body.iter().any(|f| posts(f, l));
-                if !again || body.iter().any(|f| stops(f)) {
-                    return false;
-                }
+/// Whether a plan posts a goal, and does not stop the run.
+fn goes_on(p: &Plan, l: &Literal) -> bool {
+    let mut again = false;
+    for f in p.body.as_slice() {
+        if stops(f) {
+            return false;
+        }
+        again = again
+            || match literal_of(f) {
+                Some((Subject::Posted, g)) => same_name(g, l),
+                _ => false,
+            };
+    }
+    again
+}
+
+/// Whether this clause is the first plan for a goal, and each plan for it goes on with it.
+fn is_endless(clauses: &[ReadClause], number: usize, l: &Literal) -> bool {
+    for (k, c) in clauses.iter().enumerate() {
+        if let Some(p) = plan_for(c, true, Kind::Achieve, l) {
+            if k < number || !goes_on(p, l) {
+                return false;
             }
         }
     }
     true
 }
 
-/// Whether a clause before this one is a plan for the goal.
-fn is_planned_before(here: &Here<'_>, number: usize, l: &Literal) -> bool {
-    let clauses = here.member.source.clauses.as_slice();
-    for c in &clauses[..number.min(clauses.len())] {
-        if is_plan_for(c, true, Kind::Achieve, l) {
-            return true;
-        }
-    }
-    false
-}
-
 /// Puts a hint at the first plan of a goal that never ends.
 pub fn put_endless<'a>(here: &Here<'a>, number: usize, t: &'a Trigger, sheet: &mut Sheet) {
     let goal = t.add && matches!(t.kind, Kind::Achieve);
-    if goal
-        && !is_planned_before(here, number, &t.lit)
-        && is_endless(here.member.source.clauses.as_slice(), &t.lit)
-    {
+    if goal && is_endless(here.member.source.clauses.as_slice(), number, &t.lit) {
         put_trigger(here, Subject::Endless, t, 0, sheet);
     }
 }

@@ -4,19 +4,19 @@ ghost use Rattle.std.specs.Prelude.{◌≡◌, length, map, IfOk};
 ghost use Rattle.look_hints.specs.Planless as spec;
 
 use crate::covered::{put_endless, put_untaken};
-use crate::hint::{Hint, Hints};
+use crate::hint::{Hint, Hints, span_to};
 use crate::jason::put_forms;
 use crate::planless::planless;
 use crate::project::{Here, Member, ReadProject};
+use crate::rules::Subject;
+use crate::sight::{Sight, asked_of, sight_of};
 use crate::singles::{put_once, put_singles};
 use crate::telling::{Sheet, new_sheet};
-use crate::unmet::put_unmet;
 use crate::uses::uses_of;
 use crate::world::ReadWorld;
 use asl_parser::sentence::Sentence;
 use asl_term::sequence::{Seq, Starved};
 use asl_term::syntax::Text;
-use look_names::clause::ReadClause;
 use look_pieces::findings::{Finding, Findings, about};
 use look_reasons::excerpt::shown;
 use look_reasons::mark::marks_of;
@@ -39,72 +39,66 @@ impl Drop for HintsTold {
 }
 
 /// Puts the hints at a clause, the one of this number of its source, from 0, but for those at its goals.
-fn put_clause<'a>(here: &Here<'a>, number: usize, sheet: &mut Sheet) -> Result<(), Starved> {
+fn put_clause<'a>(here: &Here<'a>, number: usize, sheet: &mut Sheet) {
     let said = &here.clause.said;
     put_once(here.alloc, here.marks, said, sheet);
-    let uses = uses_of(here.alloc, here.marks, said)?;
-    put_unmet(here, &uses, sheet);
+    let Ok(uses) = uses_of(here.alloc, here.marks, said) else {
+        sheet.spend();
+        return;
+    };
+    for u in uses.literals.as_slice() {
+        let last = if u.literal.neg {
+            u.at.saturating_add(1)
+        } else {
+            u.at
+        };
+        sheet.look(&Sight {
+            asked: asked_of(here, here.member, u.literal),
+            ..sight_of(u.part, span_to(here.marks, u.at, last))
+        });
+    }
     if let Sentence::Plan(p) = said {
         put_forms(here, &p.trigger, &uses, sheet);
         put_untaken(here, number, &p.trigger, sheet);
         put_endless(here, number, &p.trigger, sheet);
     }
-    Ok(())
 }
 
-/// By place, and then by the word of the code.
-fn order_of(h: &Hint) -> u64 {
-    h.place.at.saturating_mul(16).saturating_add(h.code as u64)
-}
-
-fn finding_of(alloc: Global, bytes: &[u8], h: Hint) -> Result<Finding, Starved> {
-    let place = h.place;
-    let r = h.into_reason();
-    let about = about(alloc, bytes, place.line, place.column, &r);
-    drop(r);
-    Ok(Finding {
-        line: place.line,
-        column: place.column,
-        about: about?,
-    })
-}
-
-/// Hints in their order.
+/// Hints by their places, and then by the words of their codes.
 fn sorted(hints: Hints) -> Result<Hints, Starved>
     ensures { IfOk result (λ all. length all ≡ length hints) }
 {
     let mut all = hints.into_vec();
-    all.sort_by_key(|h| order_of(h))?;
+    all.sort_by_key(|h| { h.place.at.saturating_mul(16).saturating_add(h.code as u64) })?;
     Ok(Seq::from_vec(all))
 }
 
-/// Hints in their order, as they are shown.
-fn findings_of(alloc: Global, bytes: &[u8], hints: Hints) -> Result<Findings, Starved>
-    ensures { IfOk result (λ all. length all ≡ length hints) }
+fn finding_of(alloc: Global, bytes: &[u8], h: &Hint) -> Result<Finding, Starved> {
+    let line = h.place.line;
+    let column = h.place.column;
+    Ok(Finding {
+        line,
+        column,
+        about: about(alloc, bytes, line, column, &h.reason)?,
+    })
+}
+
+/// The hints of a file of this name and these bytes, in their order, as they are shown.
+fn told_in(alloc: Global, file: &Text, bytes: &Text, hints: Hints) -> Result<HintsTold, Starved>
+    ensures { IfOk result (λ t. length t.findings ≡ length hints) }
 {
-    let mut left = sorted(hints)?;
-    left.reverse();
-    let mut all = Seq::new(alloc);
-    'hints: while let Some(h) = left.pop() {
-        all.push(finding_of(alloc, bytes, h)?)?;
+    let ordered = sorted(hints)?;
+    let shown = shown(alloc, file.as_slice())?;
+    let mut findings = Seq::new(alloc);
+    let mut rest = ordered.as_slice();
+    'hints: while let Some((h, after)) = rest.split_first() {
+        findings.push(finding_of(alloc, bytes.as_slice(), h)?)?;
+        rest = after;
     }
-    Ok(all)
+    Ok(HintsTold { shown, findings })
 }
 
-/// The hints at the goals of a clause for which its source has no plan.
-fn goal_hints(
-    alloc: Global,
-    tells_plans: bool,
-    m: &Member,
-    c: &ReadClause,
-) -> Result<Hints, Starved>
-    ensures { IfOk result (λ hs. map spec.spot hs ≡ spec.planless tells_plans m.now.source.clauses c.now) }
-{
-    let marks = marks_of(alloc, m.source.text.as_slice(), c.toks.as_slice())?;
-    planless(alloc, tells_plans, m, c, marks.as_slice())
-}
-
-/// The same of all clauses.
+/// The hints at the goals of all clauses for which their source has no plan.
 #[tactic(auto, using(crate::proofs::Spots::joined, crate::proofs::Spots::none_left))]
 fn all_goal_hints(alloc: Global, tells_plans: bool, m: &Member) -> Result<Hints, Starved>
     ensures { IfOk result (λ hs. map spec.spot hs ≡ spec.all_planless tells_plans m.now.source.clauses m.now.source.clauses) }
@@ -112,7 +106,8 @@ fn all_goal_hints(alloc: Global, tells_plans: bool, m: &Member) -> Result<Hints,
     let mut all = Seq::new(alloc);
     let mut rest = m.source.clauses.as_slice();
     'clauses: while let Some((c, after)) = rest.split_first() {
-        all.append_all(goal_hints(alloc, tells_plans, m, c)?)?;
+        let marks = marks_of(alloc, m.source.text.as_slice(), c.toks.as_slice())?;
+        all.append_all(planless(alloc, tells_plans, m, c, marks.as_slice())?)?;
         rest = after;
     }
     Ok(all)
@@ -136,19 +131,9 @@ fn other_hints(
             clause,
             marks: marks.as_slice(),
         };
-        put_clause(&here, number, &mut sheet)?;
+        put_clause(&here, number, &mut sheet);
     }
     sheet.into_hints()
-}
-
-/// These findings of a file of this name.
-fn told_in(alloc: Global, file: &Text, findings: Findings) -> Result<HintsTold, Starved>
-    ensures { IfOk result (λ t. t.findings ≡ findings) }
-{
-    Ok(HintsTold {
-        shown: shown(alloc, file.as_slice())?,
-        findings,
-    })
 }
 
 /// The hints of a source of a project, the one at this place: at least one for each goal for which it has no plan.
@@ -163,17 +148,15 @@ pub fn member_told(
 {
     let mut all = all_goal_hints(alloc, project.tells_plans, member)?;
     all.append_all(other_hints(alloc, project, place, member)?)?;
-    let findings = findings_of(alloc, member.source.bytes.as_slice(), all)?;
-    told_in(alloc, &member.source.file, findings)
+    told_in(alloc, &member.source.file, &member.source.bytes, all)
 }
 
 /// The hints of a world: variables of its acts that occur once.
 pub fn world_told(alloc: Global, w: &ReadWorld) -> Result<HintsTold, Starved> {
     let mut sheet = new_sheet(alloc);
     for piece in w.written.as_slice() {
-        let marks = marks_of(alloc, w.text.as_slice(), piece.toks.as_slice())?;
-        put_singles(alloc, marks.as_slice(), None, &mut sheet);
+        let marks = marks_of(alloc, w.text.as_slice(), piece.as_slice())?;
+        put_singles(alloc, marks.as_slice(), Subject::Once, None, &mut sheet);
     }
-    let findings = findings_of(alloc, w.bytes.as_slice(), sheet.into_hints()?)?;
-    told_in(alloc, &w.file, findings)
+    told_in(alloc, &w.file, &w.bytes, sheet.into_hints()?)
 }

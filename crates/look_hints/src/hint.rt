@@ -2,7 +2,6 @@
 
 use asl_lexer::token::Place;
 use asl_term::sequence::Seq;
-use asl_term::syntax::Text;
 use look_reasons::mark::Mark;
 use look_reasons::reason::Reason;
 
@@ -25,7 +24,7 @@ pub enum Code {
 }
 
 /// The word of a code.
-fn code_word(code: Code) -> &'static [u8] {
+pub fn code_word(code: Code) -> &'static [u8] {
     match code {
         Code::Covered => b"covered",
         Code::Endless => b"endless",
@@ -50,12 +49,11 @@ pub struct Span {
     pub end: u64,
 }
 
+/// Where a hint stands, what it is about, and the reason.
 pub struct Hint {
     pub place: Place,
-    pub end: u64,
     pub code: Code,
-    pub text: Text,
-    pub notes: Seq<Text>,
+    pub reason: Reason,
 }
 
 /// By hand, so that who lets one go proves nothing of its parts.
@@ -63,53 +61,27 @@ impl Drop for Hint {
     fn drop(self) {
         let Hint {
             place: _,
-            end: _,
             code: _,
-            text: _,
-            notes: _,
+            reason: _,
         } = self;
-    }
-}
-
-impl Hint {
-    /// The reason at its place.
-    pub fn into_reason(self) -> Reason {
-        let Hint {
-            place,
-            end,
-            code,
-            text,
-            notes,
-        } = self;
-        Reason {
-            at: place.at as usize,
-            end: end as usize,
-            code: code_word(code),
-            text,
-            notes,
-        }
     }
 }
 
 pub type Hints = Seq<Hint>;
 
-/// The bytes of a token.
-pub fn span_of(m: &Mark<'_>) -> Span {
-    Span {
-        place: Place {
-            at: m.at as u64,
-            line: m.line,
-            column: m.column,
+/// The bytes from the token at a place to the end of one behind it; of the last one where there is none.
+pub fn span_to(marks: &[Mark<'_>], at: usize, last: usize) -> Span {
+    let most = marks.len().saturating_sub(1);
+    match (marks.get(at.min(most)), marks.get(last.min(most))) {
+        (Some(m), Some(n)) => Span {
+            place: Place {
+                at: m.at as u64,
+                line: m.line,
+                column: m.column,
+            },
+            end: n.end as u64,
         },
-        end: m.end as u64,
-    }
-}
-
-/// The bytes of the token at a place; of the last one where there is none.
-pub fn span_at(marks: &[Mark<'_>], at: usize) -> Span {
-    match marks.get(at.min(marks.len().saturating_sub(1))) {
-        Some(m) => span_of(m),
-        None => Span {
+        _ => Span {
             place: Place {
                 at: 0,
                 line: 1,
@@ -117,13 +89,5 @@ pub fn span_at(marks: &[Mark<'_>], at: usize) -> Span {
             },
             end: 0,
         },
-    }
-}
-
-/// The bytes from the token at a place to the end of one behind it.
-pub fn span_to(marks: &[Mark<'_>], at: usize, last: usize) -> Span {
-    Span {
-        place: span_at(marks, at).place,
-        end: span_at(marks, last).end,
     }
 }

@@ -23,6 +23,5 @@ pub mod sight;
 pub mod singles;
 pub mod sources;
 pub mod telling;
-pub mod unmet;
 pub mod uses;
 pub mod world;

@@ -3,19 +3,35 @@
 use asl_lexer::token::{Sign, Word};
 use look_reasons::mark::{Mark, is_relation, is_sign};
 
-/// Whether this sign stands at a place.
-pub fn has_sign(marks: &[Mark<'_>], at: usize, sign: Sign) -> bool {
-    match marks.get(at) {
-        Some(m) => is_sign(m.word, sign),
-        None => false,
+/// A token that is looked for.
+#[derive(Clone, Copy)]
+pub enum Sought<'a> {
+    /// One of this spelling.
+    Text(&'a [u8]),
+    Sign(Sign),
+    /// The internal action of this name.
+    Inner(&'a [u8]),
+    /// An atom, as the functor of a literal is.
+    Atom,
+}
+
+fn is_sought(m: &Mark<'_>, sought: Sought<'_>) -> bool {
+    match sought {
+        Sought::Text(text) => m.text == text,
+        Sought::Sign(sign) => is_sign(m.word, sign),
+        Sought::Inner(name) => match m.text {
+            [b'.', rest @ ..] => rest == name,
+            _ => false,
+        },
+        Sought::Atom => matches!(m.word, Word::Atom),
     }
 }
 
-/// The first place from this one on with a token of this spelling; behind all where there is none.
-pub fn text_from(marks: &[Mark<'_>], from: usize, text: &[u8]) -> usize {
+/// The first place from this one on with such a token; behind all where there is none.
+pub fn place_of(marks: &[Mark<'_>], from: usize, sought: Sought<'_>) -> usize {
     for k in from..marks.len() {
         if let Some(m) = marks.get(k) {
-            if m.text == text {
+            if is_sought(m, sought) {
                 return k;
             }
         }
@@ -23,47 +39,12 @@ pub fn text_from(marks: &[Mark<'_>], from: usize, text: &[u8]) -> usize {
     marks.len()
 }
 
-/// The same for a sign.
-pub fn sign_from(marks: &[Mark<'_>], from: usize, sign: Sign) -> usize {
-    for k in from..marks.len() {
-        if has_sign(marks, k, sign) {
-            return k;
-        }
-    }
-    marks.len()
-}
-
-/// Whether the internal action of this name stands at a place.
-fn is_inner(marks: &[Mark<'_>], at: usize, name: &[u8]) -> bool {
-    let Some(m) = marks.get(at) else {
-        return false;
-    };
-    match m.text {
-        [b'.', rest @ ..] => rest == name,
-        _ => false,
-    }
-}
-
-/// The first place from this one on with the internal action of this name; behind all where there is none.
-pub fn inner_from(marks: &[Mark<'_>], from: usize, name: &[u8]) -> usize {
-    for k in from..marks.len() {
-        if is_inner(marks, k, name) {
-            return k;
-        }
-    }
-    marks.len()
-}
-
 /// What the token at a place is.
-fn word_at(marks: &[Mark<'_>], at: usize) -> Word {
+pub fn word_at(marks: &[Mark<'_>], at: usize) -> Word {
     match marks.get(at) {
         Some(m) => m.word,
         None => Word::Other,
     }
-}
-
-fn is_close(word: Word) -> bool {
-    matches!(word, Word::Sign(Sign::Close | Sign::CloseSquare))
 }
 
 /// How many brackets are open behind a token, where so many are before it.
@@ -79,44 +60,30 @@ fn depth_behind(depth: u64, word: Word) -> u64 {
 pub fn behind_brackets(marks: &[Mark<'_>], at: usize) -> usize {
     let mut depth: u64 = 0;
     for k in at..marks.len() {
-        let word = word_at(marks, k);
-        depth = depth_behind(depth, word);
+        depth = depth_behind(depth, word_at(marks, k));
         if depth == 0 {
-            return if is_close(word) {
-                k.saturating_add(1)
-            } else {
-                k
-            };
+            return if k == at { k } else { k.saturating_add(1) };
         }
     }
     marks.len()
 }
 
-/// The place behind a literal whose functor stands here.
+/// The place behind a literal whose functor stands here: behind its arguments and its annotations.
 pub fn behind_literal(marks: &[Mark<'_>], functor: usize) -> usize {
-    let mut at = functor.saturating_add(1);
-    if has_sign(marks, at, Sign::Open) {
-        at = behind_brackets(marks, at);
-    }
-    if has_sign(marks, at, Sign::OpenSquare) {
-        at = behind_brackets(marks, at);
-    }
-    at
+    behind_brackets(marks, behind_brackets(marks, functor.saturating_add(1)))
 }
 
 /// Where an argument begins between the brackets that open here, the one of this number, from 0.
 pub fn argument(marks: &[Mark<'_>], open: usize, number: u64) -> Option<usize> {
-    if !has_sign(marks, open, Sign::Open) {
-        return None;
-    }
     let mut depth: u64 = 0;
     let mut count: u64 = 0;
     for k in open..marks.len() {
-        depth = depth_behind(depth, word_at(marks, k));
+        let word = word_at(marks, k);
+        depth = depth_behind(depth, word);
         if depth == 0 {
             return None;
         }
-        if depth == 1 && (k == open || has_sign(marks, k, Sign::Comma)) {
+        if depth == 1 && (k == open || is_sign(word, Sign::Comma)) {
             if count == number {
                 return Some(k.saturating_add(1));
             }
@@ -176,8 +143,8 @@ fn is_nothing(marks: &[Mark<'_>], from: usize) -> bool {
     false
 }
 
-/// Where the next item of a body begins behind an arrow or a `;` from this place on, but for those that are `true`.
-pub fn next_item(marks: &[Mark<'_>], from: usize) -> Option<usize> {
+/// Where the next item of a body begins behind an arrow or a `;` from this place on, but for those that are `true`; behind all where there is none.
+pub fn next_item(marks: &[Mark<'_>], from: usize) -> usize {
     for k in from..marks.len() {
         let ends = matches!(
             word_at(marks, k),
@@ -185,31 +152,18 @@ pub fn next_item(marks: &[Mark<'_>], from: usize) -> Option<usize> {
         );
         let item = k.saturating_add(1);
         if ends && !is_nothing(marks, item) {
-            return Some(item);
+            return item;
         }
     }
-    None
+    marks.len()
 }
 
 /// Where the literal of a plan's trigger begins.
 pub fn trigger_at(marks: &[Mark<'_>]) -> usize {
-    let change = if has_sign(marks, 0, Sign::At) { 2 } else { 0 };
-    let at = change + 1;
-    if has_sign(marks, at, Sign::Bang) || has_sign(marks, at, Sign::Question) {
-        at + 1
-    } else {
-        at
+    let labelled = is_sign(word_at(marks, 0), Sign::At);
+    let at = if labelled { 3 } else { 1 };
+    match word_at(marks, at) {
+        Word::Sign(Sign::Bang | Sign::Question) => at + 1,
+        _ => at,
     }
-}
-
-/// Where the functor of a literal stands that begins here, or behind brackets.
-pub fn functor_at(marks: &[Mark<'_>], from: usize) -> usize {
-    for k in from..marks.len() {
-        if let Some(m) = marks.get(k) {
-            if matches!(m.word, Word::Atom) {
-                return k;
-            }
-        }
-    }
-    marks.len()
 }

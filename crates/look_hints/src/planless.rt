@@ -4,7 +4,7 @@ ghost use Rattle.std.specs.Prelude.{◌≡◌, map, IfOk};
 ghost use Rattle.look_names.specs.Goals.{unplanned};
 ghost use Rattle.look_hints.specs.Planless as spec;
 
-use crate::hint::{Code, Hint, Hints, Span, span_at};
+use crate::hint::{Code, Hint, Hints, Span, span_to};
 use crate::project::Member;
 use crate::rules::{Subject, planless_rule};
 use crate::sight::{Asked, Sight, sight_of};
@@ -21,7 +21,7 @@ fn goal_span(marks: &[Mark<'_>], p: &PlacedGoal) -> Span {
     for (k, m) in marks.iter().enumerate() {
         if m.at as u64 == p.place.at {
             let last = if p.goal.neg { k.saturating_add(1) } else { k };
-            end = span_at(marks, last).end;
+            end = span_to(marks, last, last).end;
         }
     }
     Span {
@@ -30,13 +30,15 @@ fn goal_span(marks: &[Mark<'_>], p: &PlacedGoal) -> Span {
     }
 }
 
-/// What is said of a goal.
-fn goal_hint<'a>(
+/// The hint at the place of a goal.
+fn planless_hint<'a>(
     alloc: Global,
     m: &'a Member,
     marks: &[Mark<'_>],
     p: &'a PlacedGoal,
-) -> Result<Hint, Starved> {
+) -> Result<Hint, Starved>
+    ensures { IfOk result (λ h. spec.spot h ≡ spec.spot_of p.now) }
+{
     let asked = Asked {
         literal: &p.goal,
         member: m,
@@ -47,19 +49,7 @@ fn goal_hint<'a>(
         asked: Some(asked),
         ..sight_of(Subject::Planless, goal_span(marks, p))
     };
-    told_by_rule(alloc, &s, planless_rule())
-}
-
-/// The hint at the place of a goal.
-fn planless_hint(
-    alloc: Global,
-    m: &Member,
-    marks: &[Mark<'_>],
-    p: &PlacedGoal,
-) -> Result<Hint, Starved>
-    ensures { IfOk result (λ h. spec.spot h ≡ spec.spot_of p.now) }
-{
-    let mut h = goal_hint(alloc, m, marks, p)?;
+    let mut h = told_by_rule(alloc, &s, planless_rule())?;
     h.place = p.place;
     h.code = Code::NoPlan;
     Ok(h)

@@ -15,7 +15,7 @@ use asl_term::syntax::Text;
 use look_answer::answer::Output;
 use look_pieces::findings::Finding;
 use look_where::files::{FileTold, files_told};
-use look_where::printing::put_counted;
+use look_where::parts::{Part, text_of_parts};
 use mas_io::shelf::Shelf;
 use mas_top_status::status::Status;
 use std::alloc::Global;
@@ -59,7 +59,14 @@ fn put_files(alloc: Global, files: &[HintsTold], out: &mut Text) -> Result<(), S
 fn is_found(files: &[HintsTold]) -> bool
     ensures { result ≡ list_any spec.is_told files.now }
 {
-    files.iter().any(|t| t.findings.len() > 0)
+    let mut rest = files;
+    'files: while let Some((t, after)) = rest.split_first() {
+        if t.findings.len() > 0 {
+            return true;
+        }
+        rest = after;
+    }
+    false
 }
 
 /// How many places are refused.
@@ -71,21 +78,24 @@ fn refused_in(files: &[FileTold]) -> u64 {
     all
 }
 
-/// The line on what is refused, and how many hints there are.
+/// How many places are refused, where some are, and how many hints there are.
 fn last_lines(alloc: Global, refused: u64, files: &[HintsTold]) -> Result<Text, Starved> {
-    let mut out = Seq::new(alloc);
-    if refused > 0 {
-        out.append(b"note: ")?;
-        put_counted(alloc, refused, b" place", &mut out)?;
-        out.append(b" refused and left out here: see `where`\n")?;
-    }
     let mut hints: u64 = 0;
     for t in files {
         hints = hints.saturating_add(t.findings.len());
     }
-    put_counted(alloc, hints, b" hint", &mut out)?;
-    out.push(b'\n')?;
-    Ok(out)
+    let place: &[u8] = if refused == 1 { b" place" } else { b" places" };
+    let hint: &[u8] = if hints == 1 { b" hint\n" } else { b" hints\n" };
+    let parts = [
+        Part::Words(b"note: "),
+        Part::Number(refused),
+        Part::Words(place),
+        Part::Words(b" refused and left out here: see `where`\n"),
+        Part::Number(hints),
+        Part::Words(hint),
+    ];
+    let from = if refused == 0 { 4 } else { 0 };
+    text_of_parts(alloc, &parts[from..])
 }
 
 /// What is written of these hints, where so many places are refused.

@@ -1,21 +1,20 @@
 //! A project as it is read: its sources with what they do, and its world.
 
-use crate::deeds::{Deeds, comes, deeds_of};
+use crate::deeds::{Groups, deeds_of};
 use crate::reading::ReadSource;
 use crate::sends::{all_sent, tells_plans};
 use crate::world::ReadWorld;
 use asl_term::copying::copy_text;
 use asl_term::sequence::{Seq, Starved};
-use asl_term::syntax::{Literal, Text};
+use asl_term::syntax::Text;
 use look_names::clause::ReadClause;
-use look_names::name::has_name;
 use look_reasons::mark::Mark;
 use std::alloc::Global;
 
 /// A source and what it does.
 pub struct Member {
     pub source: ReadSource,
-    pub deeds: Deeds,
+    pub deeds: Groups,
 }
 
 /// By hand, so that who lets one go proves nothing of its parts.
@@ -70,15 +69,14 @@ fn names_of(alloc: Global, sources: &[ReadSource]) -> Result<Seq<Text>, Starved>
     Ok(all)
 }
 
-fn all_deeds(alloc: Global, sources: &[ReadSource]) -> Result<(Seq<Deeds>, bool), Starved> {
+/// What each source does, and whether some message may tell a plan.
+fn all_deeds(alloc: Global, sources: &[ReadSource]) -> Result<(Seq<Groups>, bool), Starved> {
     let sent = all_sent(alloc, sources)?;
     let mut all = Seq::new(alloc);
     for s in sources {
         all.push(deeds_of(alloc, s, sent.as_slice())?)?;
     }
-    let tells = tells_plans(sent.as_slice());
-    drop(sent);
-    Ok((all, tells))
+    Ok((all, tells_plans(sent.as_slice())))
 }
 
 /// The project of these sources and this world.
@@ -90,34 +88,21 @@ pub fn project_of(
     let agents = names_of(alloc, sources.as_slice())?;
     let (mut deeds, tells_plans) = all_deeds(alloc, sources.as_slice())?;
     let mut members = Seq::new(alloc);
-    deeds.reverse();
-    for source in sources.into_vec() {
-        if let Some(deeds) = deeds.pop() {
-            members.push(Member { source, deeds })?;
-        }
+    let mut sources = sources;
+    for _ in 0..sources.len() {
+        let Some(source) = sources.pop() else {
+            break;
+        };
+        let Some(deeds) = deeds.pop() else {
+            break;
+        };
+        members.push(Member { source, deeds })?;
     }
+    members.reverse();
     Ok(ReadProject {
         members,
         world,
         agents,
         tells_plans,
     })
-}
-
-/// Whether agents may see facts of the name of a literal.
-fn is_seen(world: Option<&ReadWorld>, l: &Literal) -> bool {
-    match world {
-        Some(w) => w.any_fact || has_name(w.facts.as_slice(), l),
-        None => false,
-    }
-}
-
-/// Whether the agents of a source may know something of the name of a literal: it is written, added, replaced or told, the head of a rule, or seen.
-pub fn is_known(world: Option<&ReadWorld>, d: &Deeds, l: &Literal) -> bool {
-    is_changing(world, d, l) || has_name(d.rules.as_slice(), l)
-}
-
-/// Whether a belief of the name of a literal may come or go, which the heads of rules do not.
-pub fn is_changing(world: Option<&ReadWorld>, d: &Deeds, l: &Literal) -> bool {
-    comes(d, l) || is_seen(world, l)
 }

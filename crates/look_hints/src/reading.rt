@@ -50,24 +50,21 @@ fn said(alloc: Global, toks: &[Tok]) -> Result<Option<Sentence>, Starved> {
 }
 
 /// The pieces of mended bytes in which no fault lies that is not mended.
-pub fn clean_pieces(alloc: Global, m: &Mended) -> Result<Seq<ToksOf>, Starved> {
-    let mut all = Seq::new(alloc);
-    let Some(toks) = &m.toks else {
-        return Ok(all);
+pub fn clean_pieces<'a>(alloc: Global, m: &'a Mended) -> Result<Vec<&'a [Tok]>, Starved> {
+    let mut all = Vec::new(alloc);
+    let mut rest: &[Tok] = match &m.toks {
+        Some(toks) => toks.as_slice(),
+        None => &[],
     };
-    let text = m.text.as_slice();
-    let faults = m.faults.as_slice();
     let mut from = 0;
-    let mut rest = toks.as_slice();
-    for _ in 0..toks.len() {
+    for _ in 0..rest.len() {
         let Some((piece, behind)) = cut::<ClausePieces>(rest) else {
             return Ok(all);
         };
-        let end = piece_end(text, piece);
-        if !is_dirty(faults, from, end, behind.is_empty() && !is_ended(piece)) {
-            all.push(ToksOf {
-                toks: copy_toks(alloc, piece)?,
-            })?;
+        let end = piece_end(m.text.as_slice(), piece);
+        let open = behind.is_empty() && !is_ended(piece);
+        if !is_dirty(m.faults.as_slice(), from, end, open) {
+            all.push(piece)?;
         }
         from = end;
         rest = behind;
@@ -75,34 +72,13 @@ pub fn clean_pieces(alloc: Global, m: &Mended) -> Result<Seq<ToksOf>, Starved> {
     Ok(all)
 }
 
-/// The tokens of a piece.
-pub struct ToksOf {
-    pub toks: Seq<Tok>,
-}
-
-/// By hand, so that who lets one go proves nothing of its parts.
-impl Drop for ToksOf {
-    fn drop(self) {
-        let ToksOf { toks: _ } = self;
-    }
-}
-
-impl ToksOf {
-    fn into_toks(self) -> Seq<Tok> {
-        let ToksOf { toks } = self;
-        toks
-    }
-}
-
 /// The clauses of mended bytes.
 fn clauses_of(alloc: Global, m: &Mended) -> Result<ReadClauses, Starved> {
     let mut all = Seq::new(alloc);
-    for piece in clean_pieces(alloc, m)?.into_vec() {
-        if let Some(said) = said(alloc, piece.toks.as_slice())? {
-            all.push(ReadClause {
-                toks: piece.into_toks(),
-                said,
-            })?;
+    for piece in clean_pieces(alloc, m)?.as_slice() {
+        if let Some(said) = said(alloc, *piece)? {
+            let toks = copy_toks(alloc, *piece)?;
+            all.push(ReadClause { toks, said })?;
         }
     }
     Ok(all)

@@ -1,19 +1,26 @@
 //! The hints, as a table: what they are about, what holds then, and what is said.
 
 use crate::hint::Code;
-use crate::uses::Part;
 use asl_term::syntax::Kind;
 
 /// What a hint is about.
-#[derive(Clone, Copy, PartialEq, Eq)]
+#[derive(Clone, Copy)]
 pub enum Subject {
-    /// A literal of a clause.
-    Use(Part),
+    /// A literal that holds in a context, a rule or an argument that is a formula.
+    Held,
+    /// The literal of an item, by what it is for.
+    Posted,
+    Tested,
+    Added,
+    Deleted,
+    Replaced,
+    Acted,
     /// The trigger of a plan: one for events that an earlier plan takes, else for a goal, a question or a belief that comes or goes.
     Covered,
     Goal,
     Question,
-    Belief(bool),
+    Comes,
+    Goes,
     /// The trigger of a goal that each of its plans posts again.
     Endless,
     /// That of `kqml_received`.
@@ -45,41 +52,41 @@ pub enum Subject {
     Planless,
 }
 
+/// Among which names one is looked for.
+#[derive(Clone, Copy)]
+pub enum Among {
+    /// Those of which something may be known, and of beliefs that come and go.
+    Known,
+    Changing,
+    /// Goals that are posted, by the source itself or by messages too.
+    Goals,
+    Posted,
+    Questions,
+    /// Goals for which there are plans.
+    Planned,
+    /// Beliefs in triggers and those that are looked at; those that are looked at or changed.
+    Used,
+    Changed,
+    Acts,
+}
+
 /// What may hold of the literal, of its source and of the world.
 #[derive(Clone, Copy)]
 pub enum Test {
-    /// Something of its name may be known.
-    Known,
+    /// Its name is one of these, or may be.
+    May(Among),
+    /// Its name is one of these.
+    Is(Among),
     /// Some message may tell a plan.
     TellsPlans,
     /// There is a plan for its name.
     Plan(bool, Kind),
-    /// There may be an act of its name.
-    Act,
     World,
-    /// It may be posted as a goal, as a question, or come and go.
-    Posted,
-    Questioned,
-    Changing,
-    /// It is the name of a goal that is posted.
-    Goal,
     /// It is the name of an internal action, and of one that does not stand in formulas.
     Internal,
     Deed,
-    /// As a belief it is of use.
-    OfUse,
     /// An item fails.
     Item,
-}
-
-/// Among which names those with other numbers of arguments are looked for.
-#[derive(Clone, Copy)]
-pub enum Among {
-    Known,
-    Goals,
-    Planned,
-    Used,
-    Acts,
 }
 
 /// A part of what is said.
@@ -147,10 +154,10 @@ static PLANLESS: Rule = Rule {
     ],
 };
 
-static USES: [Rule; 5] = [
+static LITERALS: [Rule; 9] = [
     Rule {
-        subject: Subject::Use(Part::Held),
-        tests: &[(Test::Known, false)],
+        subject: Subject::Held,
+        tests: &[(Test::May(Among::Known), false)],
         code: Code::Never,
         words: &[
             Say::Words(b"nothing ever makes "),
@@ -163,8 +170,8 @@ static USES: [Rule; 5] = [
         }],
     },
     Rule {
-        subject: Subject::Use(Part::Deleted),
-        tests: &[(Test::Known, false)],
+        subject: Subject::Deleted,
+        tests: &[(Test::May(Among::Known), false)],
         code: Code::Never,
         words: &[Say::Words(b"nothing ever makes "), Say::Name],
         notes: &[Note {
@@ -173,9 +180,9 @@ static USES: [Rule; 5] = [
         }],
     },
     Rule {
-        subject: Subject::Use(Part::Tested),
+        subject: Subject::Tested,
         tests: &[
-            (Test::Known, false),
+            (Test::May(Among::Known), false),
             (Test::TellsPlans, false),
             (Test::Plan(true, Kind::Test), false),
         ],
@@ -191,8 +198,8 @@ static USES: [Rule; 5] = [
         }],
     },
     Rule {
-        subject: Subject::Use(Part::Acted),
-        tests: &[(Test::Act, false), (Test::World, true)],
+        subject: Subject::Acted,
+        tests: &[(Test::May(Among::Acts), false), (Test::World, true)],
         code: Code::NoAct,
         words: &[
             Say::Words(b"no act "),
@@ -224,8 +231,8 @@ static USES: [Rule; 5] = [
         ],
     },
     Rule {
-        subject: Subject::Use(Part::Acted),
-        tests: &[(Test::Act, false), (Test::World, false)],
+        subject: Subject::Acted,
+        tests: &[(Test::May(Among::Acts), false), (Test::World, false)],
         code: Code::NoAct,
         words: &[
             Say::Words(b"no act "),
@@ -256,9 +263,73 @@ static USES: [Rule; 5] = [
             },
         ],
     },
+    Rule {
+        subject: Subject::Achieved,
+        tests: &[
+            (Test::TellsPlans, false),
+            (Test::Plan(true, Kind::Achieve), false),
+        ],
+        code: Code::NoPlan,
+        words: &[
+            Say::Words(b"no plan +!"),
+            Say::Name,
+            Say::Words(b" at "),
+            Say::Agents,
+        ],
+        notes: &[Note {
+            tests: &[],
+            words: &[Say::Same(Among::Planned)],
+        }],
+    },
+    Rule {
+        subject: Subject::Told,
+        tests: &[
+            (Test::TellsPlans, false),
+            (Test::Plan(true, Kind::Belief), false),
+            (Test::May(Among::Changed), false),
+        ],
+        code: Code::Unused,
+        words: &[
+            Say::Agents,
+            Say::Words(b" neither asks for "),
+            Say::Name,
+            Say::Words(b" nor has a plan for +"),
+            Say::Name,
+        ],
+        notes: &[Note {
+            tests: &[],
+            words: &[Say::Same(Among::Used)],
+        }],
+    },
+    Rule {
+        subject: Subject::Asked,
+        tests: &[(Test::May(Among::Known), false)],
+        code: Code::NoAnswer,
+        words: &[
+            Say::Agents,
+            Say::Words(b" has no belief or rule "),
+            Say::Name,
+        ],
+        notes: &[Note {
+            tests: &[],
+            words: &[Say::Same(Among::Known)],
+        }],
+    },
+    Rule {
+        subject: Subject::Asked,
+        tests: &[(Test::Plan(true, Kind::Test), true)],
+        code: Code::Jason,
+        words: &[
+            Say::Words(b"an ask is answered by beliefs and rules alone, not by the plan +?"),
+            Say::Name,
+            Say::Words(b" of "),
+            Say::Agents,
+        ],
+        notes: &[],
+    },
 ];
 
-static TRIGGERS: [Rule; 7] = [
+static PLANS: [Rule; 12] = [
     Rule {
         subject: Subject::Covered,
         tests: &[],
@@ -272,7 +343,7 @@ static TRIGGERS: [Rule; 7] = [
     },
     Rule {
         subject: Subject::Goal,
-        tests: &[(Test::Posted, false)],
+        tests: &[(Test::May(Among::Posted), false)],
         code: Code::NotCalled,
         words: &[
             Say::Words(b"nobody ever posts !"),
@@ -287,14 +358,14 @@ static TRIGGERS: [Rule; 7] = [
     },
     Rule {
         subject: Subject::Question,
-        tests: &[(Test::Questioned, false)],
+        tests: &[(Test::May(Among::Questions), false)],
         code: Code::NotCalled,
         words: &[Say::Agents, Say::Words(b" never asks ?"), Say::Name],
         notes: &[],
     },
     Rule {
-        subject: Subject::Belief(true),
-        tests: &[(Test::Changing, false)],
+        subject: Subject::Comes,
+        tests: &[(Test::May(Among::Changing), false)],
         code: Code::NotCalled,
         words: &[
             Say::Words(b"no belief "),
@@ -303,18 +374,18 @@ static TRIGGERS: [Rule; 7] = [
         ],
         notes: &[
             Note {
-                tests: &[(Test::Goal, true)],
+                tests: &[(Test::Is(Among::Posted), true)],
                 words: &[Say::Words(b"a plan for a goal begins with +!")],
             },
             Note {
-                tests: &[(Test::Goal, false)],
+                tests: &[(Test::Is(Among::Posted), false)],
                 words: &[Say::Same(Among::Known)],
             },
         ],
     },
     Rule {
-        subject: Subject::Belief(false),
-        tests: &[(Test::Changing, false)],
+        subject: Subject::Goes,
+        tests: &[(Test::May(Among::Changing), false)],
         code: Code::NotCalled,
         words: &[
             Say::Words(b"no belief "),
@@ -322,7 +393,7 @@ static TRIGGERS: [Rule; 7] = [
             Say::Words(b" ever goes"),
         ],
         notes: &[Note {
-            tests: &[(Test::Goal, false)],
+            tests: &[(Test::Is(Among::Posted), false)],
             words: &[Say::Same(Among::Known)],
         }],
     },
@@ -355,72 +426,6 @@ static TRIGGERS: [Rule; 7] = [
             )],
         }],
     },
-];
-
-static CONTENTS: [Rule; 4] = [
-    Rule {
-        subject: Subject::Achieved,
-        tests: &[
-            (Test::TellsPlans, false),
-            (Test::Plan(true, Kind::Achieve), false),
-        ],
-        code: Code::NoPlan,
-        words: &[
-            Say::Words(b"no plan +!"),
-            Say::Name,
-            Say::Words(b" at "),
-            Say::Agents,
-        ],
-        notes: &[Note {
-            tests: &[],
-            words: &[Say::Same(Among::Planned)],
-        }],
-    },
-    Rule {
-        subject: Subject::Told,
-        tests: &[(Test::TellsPlans, false), (Test::OfUse, false)],
-        code: Code::Unused,
-        words: &[
-            Say::Agents,
-            Say::Words(b" neither asks for "),
-            Say::Name,
-            Say::Words(b" nor has a plan for +"),
-            Say::Name,
-        ],
-        notes: &[Note {
-            tests: &[],
-            words: &[Say::Same(Among::Used)],
-        }],
-    },
-    Rule {
-        subject: Subject::Asked,
-        tests: &[(Test::Known, false)],
-        code: Code::NoAnswer,
-        words: &[
-            Say::Agents,
-            Say::Words(b" has no belief or rule "),
-            Say::Name,
-        ],
-        notes: &[Note {
-            tests: &[],
-            words: &[Say::Same(Among::Known)],
-        }],
-    },
-    Rule {
-        subject: Subject::Asked,
-        tests: &[(Test::Plan(true, Kind::Test), true)],
-        code: Code::Jason,
-        words: &[
-            Say::Words(b"an ask is answered by beliefs and rules alone, not by the plan +?"),
-            Say::Name,
-            Say::Words(b" of "),
-            Say::Agents,
-        ],
-        notes: &[],
-    },
-];
-
-static RECEIVERS: [Rule; 5] = [
     Rule {
         subject: Subject::ToNobody,
         tests: &[],
@@ -592,24 +597,14 @@ static FORMS: [Rule; 8] = [
     },
 ];
 
-/// Of literals.
-pub fn use_rules() -> &'static [Rule] {
-    &USES
+/// Of literals, and of what messages say.
+pub fn literal_rules() -> &'static [Rule] {
+    &LITERALS
 }
 
-/// Of the triggers of plans.
-pub fn trigger_rules() -> &'static [Rule] {
-    &TRIGGERS
-}
-
-/// Of what messages say.
-pub fn content_rules() -> &'static [Rule] {
-    &CONTENTS
-}
-
-/// Of receivers and verbs of messages.
-pub fn receiver_rules() -> &'static [Rule] {
-    &RECEIVERS
+/// Of the triggers of plans, and of receivers and verbs of messages.
+pub fn plan_rules() -> &'static [Rule] {
+    &PLANS
 }
 
 /// Of failures, signs and variables.

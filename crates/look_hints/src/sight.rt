@@ -1,22 +1,21 @@
 //! What hints are about: a literal, a token or a variable of a clause, with what is known around it.
 
-use crate::deeds::{is_asked, is_posted};
-use crate::hint::{Span, span_at};
-use crate::project::{Here, Member, is_changing, is_known};
-use crate::rules::{Subject, Test};
-use crate::world::{ReadWorld, has_act};
-use asl_term::syntax::{Formula, Kind, Literal, Term, Text};
+use crate::deeds::{Group, Groups, Set};
+use crate::hint::{Span, span_to};
+use crate::project::{Here, Member};
+use crate::rules::{Among, Subject, Test};
+use asl_term::syntax::{Formula, Literal, Term, Text};
 use asl_term_actions::action::stands_in_formula;
 use asl_term_actions::named::named;
 use look_names::clause::has_plan;
 use look_names::name::has_name;
 
-/// A literal, and the source of whose agents something is asked about its name.
+/// A literal, the source of whose agents something is asked about its name, and the names of the world.
 #[derive(Clone, Copy)]
 pub struct Asked<'a> {
     pub literal: &'a Literal,
     pub member: &'a Member,
-    pub world: Option<&'a ReadWorld>,
+    pub world: Option<&'a Groups>,
     /// Whether some message may tell a plan.
     pub tells_plans: bool,
 }
@@ -52,12 +51,7 @@ pub fn sight_of(subject: Subject, span: Span) -> Sight<'static> {
 
 /// What is seen at the token at a place.
 pub fn sight_at(here: &Here<'_>, subject: Subject, at: usize) -> Sight<'static> {
-    sight_of(subject, span_at(here.marks, at))
-}
-
-/// A literal, of which its own source is asked.
-pub fn asked_here<'a>(here: &Here<'a>, literal: &'a Literal) -> Option<Asked<'a>> {
-    asked_of(here, here.member, literal)
+    sight_of(subject, span_to(here.marks, at, at))
 }
 
 /// A literal, of which this source is asked.
@@ -66,46 +60,71 @@ pub fn asked_of<'a>(
     member: &'a Member,
     literal: &'a Literal,
 ) -> Option<Asked<'a>> {
+    let world = match &here.project.world {
+        Some(w) => Some(&w.names),
+        None => None,
+    };
     Some(Asked {
         literal,
         member,
-        world: here.project.world.as_ref(),
+        world,
         tells_plans: here.project.tells_plans,
     })
 }
 
-/// Whether the source has a plan for a belief, or looks at it.
-fn is_of_use(m: &Member, l: &Literal) -> bool {
-    m.deeds.abolishes
-        || has_plan(m.source.clauses.as_slice(), true, Kind::Belief, l)
-        || has_name(m.deeds.watched.as_slice(), l)
-        || has_name(m.deeds.changed.as_slice(), l)
-}
-
-/// Whether this is the name of an internal action that does not stand in formulas.
-fn is_deed(name: &Text) -> bool {
-    match named(name) {
-        Some(action) => !stands_in_formula(action),
-        None => false,
+/// The groups among which some names are looked for.
+pub fn sets_in(among: Among) -> &'static [Set] {
+    match among {
+        Among::Known => &[Set::Made, Set::Rules, Set::Told, Set::Facts],
+        Among::Changing => &[Set::Made, Set::Told, Set::Facts],
+        Among::Goals => &[Set::Goals],
+        Among::Posted => &[Set::Goals, Set::Asked],
+        Among::Questions => &[Set::Questions],
+        Among::Planned => &[Set::Planned],
+        Among::Used => &[Set::Heard, Set::Watched],
+        Among::Changed => &[Set::Watched, Set::Changed],
+        Among::Acts => &[Set::Acts],
     }
 }
 
+/// A group of the world, where there is one, or of the source.
+pub fn group_of<'a>(a: &Asked<'a>, set: Set) -> Option<&'a Group> {
+    let groups = match set {
+        Set::Facts | Set::Acts => a.world,
+        _ => Some(&a.member.deeds),
+    };
+    match groups {
+        Some(groups) => groups.all.at(set as u64),
+        None => None,
+    }
+}
+
+/// Whether the name of the literal is one of these, or, where that counts, may be.
+fn is_in(a: &Asked<'_>, among: Among, may: bool) -> bool {
+    for set in sets_in(among) {
+        if let Some(g) = group_of(a, *set) {
+            if (may && g.any) || has_name(g.names.as_slice(), a.literal) {
+                return true;
+            }
+        }
+    }
+    false
+}
+
 fn holds_of(a: &Asked<'_>, test: Test) -> bool {
-    let l = a.literal;
-    let d = &a.member.deeds;
     match test {
-        Test::Known => is_known(a.world, d, l),
+        Test::May(among) => is_in(a, among, true),
+        Test::Is(among) => is_in(a, among, false),
         Test::TellsPlans => a.tells_plans,
-        Test::Plan(add, kind) => has_plan(a.member.source.clauses.as_slice(), add, kind, l),
-        Test::Act => has_act(a.world, l),
+        Test::Plan(add, kind) => {
+            has_plan(a.member.source.clauses.as_slice(), add, kind, a.literal)
+        }
         Test::World => a.world.is_some(),
-        Test::Posted => is_posted(d, l),
-        Test::Questioned => has_name(d.questions.as_slice(), l),
-        Test::Changing => is_changing(a.world, d, l),
-        Test::Goal => is_asked(d, l),
-        Test::Internal => named(&l.functor).is_some(),
-        Test::Deed => is_deed(&l.functor),
-        Test::OfUse => is_of_use(a.member, l),
+        Test::Internal => named(&a.literal.functor).is_some(),
+        Test::Deed => match named(&a.literal.functor) {
+            Some(action) => !stands_in_formula(action),
+            None => false,
+        },
         Test::Item => false,
     }
 }

@@ -1,17 +1,18 @@
 //! Variables that occur once.
 
-use crate::hint::span_of;
+use crate::hint::span_to;
+use crate::places::{Sought, place_of};
 use crate::rules::Subject;
 use crate::sight::{Sight, sight_of};
 use crate::telling::Sheet;
+use crate::uses::literal_of;
 use asl_lexer::token::{Sign, Word};
 use asl_parser::sentence::Sentence;
 use asl_parser_tree::plain::{is_plain, is_plain_literal};
 use asl_term::name::name_of;
-use asl_term::sequence::Starved;
 use asl_term::syntax::{ArgOf, Call, Expr, Formula, Literal, Plan, Term, Var};
 use asl_term::variables::occurs;
-use look_reasons::mark::{Mark, is_sign};
+use look_reasons::mark::Mark;
 use std::alloc::Global;
 
 /// Whether a variable has this one token in its clause, and no `_` in front.
@@ -29,7 +30,12 @@ fn is_single(marks: &[Mark<'_>], m: &Mark<'_>) -> bool {
 }
 
 fn stands_in(ts: &[Term], x: &Var) -> bool {
-    ts.iter().any(|t| occurs(x, t))
+    for t in ts {
+        if occurs(x, t) {
+            return true;
+        }
+    }
+    false
 }
 
 fn stands_in_literal(l: &Literal, x: &Var) -> bool {
@@ -39,11 +45,6 @@ fn stands_in_literal(l: &Literal, x: &Var) -> bool {
 /// Whether a term with this variable is calculated.
 fn is_calculated(t: &Term, x: &Var) -> bool {
     !is_plain(t) && occurs(x, t)
-}
-
-/// Whether a literal with this variable has arithmetic.
-fn is_calculated_literal(l: &Literal, x: &Var) -> bool {
-    !is_plain_literal(l) && stands_in_literal(l, x)
 }
 
 /// The most parts of a formula.
@@ -72,20 +73,17 @@ impl<'a> Parts<'a> {
     /// Whether a part of a formula has a calculated term with this variable; other parts in it are kept for later.
     fn is_calculated(&mut self, e: &'a Expr, x: &Var) -> bool {
         match e {
-            Expr::True | Expr::False => false,
-            Expr::Holds(l) => is_calculated_literal(l, x),
-            Expr::Rel(r) => is_calculated(&r.left, x) || is_calculated(&r.right, x),
-            Expr::Inner(c) => self.is_call_calculated(c, x),
-            Expr::Not(inner) => {
-                self.keep(inner.get());
-                false
-            }
+            Expr::True | Expr::False => {}
+            Expr::Holds(l) => return !is_plain_literal(l) && stands_in_literal(l, x),
+            Expr::Rel(r) => return is_calculated(&r.left, x) || is_calculated(&r.right, x),
+            Expr::Inner(c) => return self.is_call_calculated(c, x),
+            Expr::Not(inner) => self.keep(inner.get()),
             Expr::And(first, second) | Expr::Or(first, second) => {
                 self.keep(first.get());
                 self.keep(second.get());
-                false
             }
         }
+        false
     }
 
     /// The same of the arguments of a call.
@@ -102,156 +100,131 @@ impl<'a> Parts<'a> {
         }
         false
     }
-}
 
-/// Whether a call has a calculated term with this variable.
-fn has_calculated(alloc: Global, c: &Call, x: &Var) -> Result<bool, Starved> {
-    let mut parts = Parts {
-        left: Vec::new(alloc),
-        spent: false,
-    };
-    let mut found = parts.is_call_calculated(c, x);
-    for _ in 0..MOST_PARTS {
-        if found || parts.spent {
-            break;
+    /// Whether a call has a calculated term with this variable.
+    fn has_calculated(&mut self, c: &'a Call, x: &Var) -> bool {
+        self.left.clear();
+        let mut found = self.is_call_calculated(c, x);
+        for _ in 0..MOST_PARTS {
+            if found {
+                break;
+            }
+            let Some(e) = self.left.pop() else {
+                break;
+            };
+            found = self.is_calculated(e, x);
         }
-        let Some(e) = parts.left.pop() else {
-            break;
+        found
+    }
+
+    /// How an item fails since this variable has no value.
+    fn failure(&mut self, f: &'a Formula, x: &Var) -> &'static [u8] {
+        let fails = match (f, literal_of(f)) {
+            (_, Some((part, l))) => {
+                let plain = is_plain_literal(l);
+                let wants = matches!(part, Subject::Added | Subject::Replaced | Subject::Acted);
+                if wants && stands_in_literal(l, x) {
+                    return if plain {
+                        b" fails with not_ground"
+                    } else {
+                        b" fails with arith"
+                    };
+                }
+                !wants && !plain && stands_in_literal(l, x)
+            }
+            (Formula::Rel(r), _) => is_calculated(&r.left, x) || is_calculated(&r.right, x),
+            (Formula::Inner(c), _) => self.has_calculated(c, x),
+            _ => false,
         };
-        found = parts.is_calculated(e, x);
-    }
-    if parts.spent { Err(Starved) } else { Ok(found) }
-}
-
-/// Whether an item may fail since this variable has no value when it is calculated.
-fn may_fail(alloc: Global, f: &Formula, x: &Var) -> Result<bool, Starved> {
-    match f {
-        Formula::Achieve(l) => Ok(is_calculated_literal(l, x)),
-        Formula::Spawn(l) => Ok(is_calculated_literal(l, x)),
-        Formula::Test(l) => Ok(is_calculated_literal(l, x)),
-        Formula::Del(l) => Ok(is_calculated_literal(l, x)),
-        Formula::Rel(r) => Ok(is_calculated(&r.left, x) || is_calculated(&r.right, x)),
-        Formula::Inner(c) => has_calculated(alloc, c, x),
-        Formula::Add(_) | Formula::Replace(_) | Formula::Act(_) => Ok(false),
-    }
-}
-
-/// The literal of an item that wants a value for each variable.
-fn wanting(f: &Formula) -> Option<&Literal> {
-    match f {
-        Formula::Add(l) => Some(l),
-        Formula::Replace(l) => Some(l),
-        Formula::Act(l) => Some(l),
-        _ => None,
+        if fails { b" may fail with arith" } else { b"" }
     }
 }
 
 /// An item that fails, and how.
 #[derive(Clone, Copy)]
 struct Failing<'a> {
-    item: &'a Formula,
+    item: Option<&'a Formula>,
     how: &'static [u8],
 }
 
-/// How an item fails since a variable has no value.
-fn failure(alloc: Global, f: &Formula, x: &Var) -> Result<&'static [u8], Starved> {
-    if let Some(l) = wanting(f) {
-        if stands_in_literal(l, x) {
-            return Ok(if is_plain_literal(l) {
-                b" fails with not_ground"
-            } else {
-                b" fails with arith"
-            });
-        }
-    }
-    Ok(if may_fail(alloc, f, x)? {
-        b" may fail with arith"
-    } else {
-        b""
-    })
-}
-
-/// The first item that wants a value for a variable without one.
-fn first_failing<'a>(alloc: Global, p: &'a Plan, x: &Var) -> Result<Option<Failing<'a>>, Starved> {
+/// The first item of a plan that wants a value for a variable without one.
+fn first_failing<'a>(alloc: Global, p: &'a Plan, x: &Var, sheet: &mut Sheet) -> Failing<'a> {
+    let mut parts = Parts {
+        left: Vec::new(alloc),
+        spent: false,
+    };
+    let mut failing = Failing {
+        item: None,
+        how: b"",
+    };
     for item in p.body.as_slice() {
-        let how = failure(alloc, item, x)?;
+        let how = parts.failure(item, x);
         if !how.is_empty() {
-            return Ok(Some(Failing { item, how }));
+            failing = Failing {
+                item: Some(item),
+                how,
+            };
+            break;
         }
     }
-    Ok(None)
+    if parts.spent {
+        sheet.spend();
+    }
+    failing
 }
 
-/// The first item of a plan that wants a value for the variable of this name.
+/// The same for the variable of this name.
 fn failing_item<'a>(
     alloc: Global,
     plan: Option<&'a Plan>,
     name: &[u8],
-) -> Result<Option<Failing<'a>>, Starved> {
-    let Some(p) = plan else {
-        return Ok(None);
-    };
-    let x = Var {
-        name: name_of(alloc, name)?,
-        number: 0,
-    };
-    let found = first_failing(alloc, p, &x);
-    drop(x);
-    found
+    sheet: &mut Sheet,
+) -> Failing<'a> {
+    if let Some(p) = plan {
+        match name_of(alloc, name) {
+            Ok(name) => {
+                let x = Var { name, number: 0 };
+                let failing = first_failing(alloc, p, &x, sheet);
+                drop(x);
+                return failing;
+            }
+            Err(_) => sheet.spend(),
+        }
+    }
+    Failing {
+        item: None,
+        how: b"",
+    }
 }
 
 /// Puts the hints at the variables of a clause that occur once; of the plan that it is.
 pub fn put_singles<'a>(
     alloc: Global,
     marks: &'a [Mark<'a>],
+    subject: Subject,
     plan: Option<&'a Plan>,
     sheet: &mut Sheet,
 ) {
-    for m in marks {
+    for (k, m) in marks.iter().enumerate() {
         if is_single(marks, m) {
-            let (item, rest): (Option<&Formula>, &[u8]) = match sheet.found(failing_item(
-                alloc, plan, m.text,
-            )) {
-                Some(f) => (Some(f.item), f.how),
-                None => (None, b""),
-            };
+            let failing = failing_item(alloc, plan, m.text, sheet);
             sheet.look(&Sight {
                 text: m.text,
-                rest,
-                item,
-                ..sight_of(Subject::Once, span_of(m))
+                rest: failing.how,
+                item: failing.item,
+                ..sight_of(subject, span_to(marks, k, k))
             });
         }
     }
 }
 
-/// The same of a belief.
-fn put_open(marks: &[Mark<'_>], sheet: &mut Sheet) {
-    for m in marks {
-        if is_single(marks, m) {
-            sheet.look(&Sight {
-                text: m.text,
-                ..sight_of(Subject::OpenBelief, span_of(m))
-            });
-        }
-    }
-}
-
-/// Whether a clause is a belief: it is no rule with a body.
-fn is_belief(marks: &[Mark<'_>]) -> bool {
-    for m in marks {
-        if is_sign(m.word, Sign::If) {
-            return false;
-        }
-    }
-    true
-}
-
-/// Puts the hints at the variables of a source's clause that occur once.
+/// Puts the hints at the variables of a source's clause that occur once. A rule without a body is a belief.
 pub fn put_once<'a>(alloc: Global, marks: &'a [Mark<'a>], said: &'a Sentence, sheet: &mut Sheet) {
-    match said {
-        Sentence::Plan(p) => put_singles(alloc, marks, Some(p), sheet),
-        Sentence::Rule(_) if is_belief(marks) => put_open(marks, sheet),
-        _ => put_singles(alloc, marks, None, sheet),
-    }
+    let belief = place_of(marks, 0, Sought::Sign(Sign::If)) >= marks.len();
+    let (subject, plan) = match said {
+        Sentence::Plan(p) => (Subject::Once, Some(p)),
+        Sentence::Rule(_) if belief => (Subject::OpenBelief, None),
+        _ => (Subject::Once, None),
+    };
+    put_singles(alloc, marks, subject, plan, sheet);
 }

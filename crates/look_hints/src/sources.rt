@@ -16,7 +16,8 @@ use asl_term::syntax::Text;
 use look_reasons::bytes::mended_of;
 use look_reasons::mark::marks_of;
 use look_where::files::{FileKind, FileTold, MOST_BYTES};
-use look_where::leads::{entry_in, stop_of};
+use look_where::leads::{Entry, lead_in, stop_of};
+use look_where::parts::{Part, text_of_parts};
 use mas_io::shelf::Shelf;
 use mas_project::piece::NextPiece;
 use mas_project::project::ProjectPieces;
@@ -27,38 +28,17 @@ use mas_top_files::project as whole;
 use mas_top_status::status::Status;
 use std::alloc::Global;
 
-/// The file of a source, the name of its agents, and how many there are where they are counted.
-struct Entry {
-    file: Text,
-    name: Text,
-    count: Option<u64>,
-}
-
-/// By hand, so that who lets one go proves nothing of its parts.
-impl Drop for Entry {
-    fn drop(self) {
-        let Entry {
-            file: _,
-            name: _,
-            count: _,
-        } = self;
-    }
-}
-
 type Entries = Seq<Entry>;
 
 fn put_entry(
     alloc: Global,
-    all: &mut Entries,
-    name: &Text,
-    file: &Text,
+    file: Text,
+    name: &[u8],
     count: Option<u64>,
+    all: &mut Entries,
 ) -> Result<(), Starved> {
-    all.push(Entry {
-        file: copy_text(alloc, file)?,
-        name: copy_text(alloc, name)?,
-        count,
-    })
+    let name = text_of(alloc, name)?;
+    all.push(Entry { name, file, count })
 }
 
 fn entries_of(alloc: Global, p: &ProjectText) -> Result<Entries, Starved> {
@@ -69,52 +49,58 @@ fn entries_of(alloc: Global, p: &ProjectText) -> Result<Entries, Starved> {
         } else {
             None
         };
-        put_entry(alloc, &mut all, &line.name, &line.file, count)?;
+        let file = copy_text(alloc, &line.file)?;
+        put_entry(alloc, file, line.name.as_slice(), count, &mut all)?;
     }
     Ok(all)
 }
 
-/// Puts the entry of a piece of a project, the one of this number.
-fn put_piece(
+/// Puts the entry of a piece of a project, of its first one or of a later one.
+fn put_piece<'a>(
     alloc: Global,
-    directory: &[u8],
-    text: &[u8],
-    number: u64,
-    piece: &[Tok],
+    directory: &'a [u8],
+    text: &'a [u8],
+    first: bool,
+    piece: &'a [Tok],
     all: &mut Entries,
 ) -> Result<(), Starved> {
-    let turn = match number {
-        1 => return Ok(()),
-        2 => NextPiece::First,
-        _ => NextPiece::Later,
+    let turn = if first {
+        NextPiece::First
+    } else {
+        NextPiece::Later
     };
     let marks = marks_of(alloc, text, piece)?;
     let stop = stop_of(alloc, turn, piece)?;
-    let entry = entry_in(alloc, marks.as_slice(), piece, number == 2, stop.is_none())?;
-    if let Some(e) = entry {
-        let mut file = text_of(alloc, directory)?;
-        file.append(e.file.as_slice())?;
-        put_entry(alloc, all, &e.name, &file, e.count)?;
+    match lead_in(marks.as_slice(), piece, first, stop.is_none()) {
+        Some(lead) => {
+            let parts = [
+                Part::Words(directory),
+                Part::Words(lead.stem),
+                Part::Words(lead.ending),
+            ];
+            let file = text_of_parts(alloc, &parts)?;
+            put_entry(alloc, file, lead.name.text, lead.count, all)
+        }
+        None => Ok(()),
     }
-    Ok(())
 }
 
-/// The entries of a project that is refused, as far as they can be read.
+/// The entries of a project that is refused, as far as they can be read. Its first piece is its title.
 fn entries_in(alloc: Global, word: &Text, bytes: &[u8]) -> Result<Entries, Starved> {
     let mut all = Seq::new(alloc);
     let m = mended_of(alloc, bytes)?;
-    let Some(toks) = &m.toks else {
-        return Ok(all);
+    let mut rest: &[Tok] = match &m.toks {
+        Some(toks) => toks.as_slice(),
+        None => &[],
     };
     let directory = folder(word.as_slice());
-    let mut number: u64 = 1;
-    let mut rest = toks.as_slice();
-    for _ in 0..toks.len() {
+    for k in 0..rest.len() {
         let Some((piece, behind)) = cut::<ProjectPieces>(rest) else {
             return Ok(all);
         };
-        put_piece(alloc, directory, m.text.as_slice(), number, piece, &mut all)?;
-        number = number.saturating_add(1);
+        if k > 0 {
+            put_piece(alloc, directory, m.text.as_slice(), k == 1, piece, &mut all)?;
+        }
         rest = behind;
     }
     Ok(all)
@@ -139,15 +125,17 @@ fn entries<S: Shelf>(alloc: Global, word: &Text, shelf: &mut S) -> Result<Entrie
     }
 }
 
+/// The most agents of an entry.
+const MOST_AGENTS: u64 = 1024;
+
 /// Puts the agents of an entry: one of this name, or as many as counted, with numbers behind it.
 fn put_agents(alloc: Global, e: &Entry, agents: &mut Seq<Text>) -> Result<(), Starved> {
-    let Some(count) = e.count else {
-        return agents.push(copy_text(alloc, &e.name)?);
-    };
-    for k in 0..count.min(1024) {
-        let mut numbered = copy_text(alloc, &e.name)?;
-        write_number(alloc, k.saturating_add(1), &mut numbered)?;
-        agents.push(numbered)?;
+    for k in 0..e.count.unwrap_or(1).min(MOST_AGENTS) {
+        let mut name = copy_text(alloc, &e.name)?;
+        if e.count.is_some() {
+            write_number(alloc, k.saturating_add(1), &mut name)?;
+        }
+        agents.push(name)?;
     }
     Ok(())
 }
@@ -186,6 +174,24 @@ impl Draft {
     }
 }
 
+/// Puts a file with these bytes, a world or a source.
+fn put_bytes(
+    alloc: Global,
+    known: &Names,
+    entries: &Entries,
+    t: &FileTold,
+    bytes: Text,
+    draft: &mut Draft,
+) -> Result<(), Starved> {
+    let file = copy_text(alloc, &t.name)?;
+    if matches!(t.kind, FileKind::World) {
+        draft.world = Some(world_of(alloc, known, file, bytes)?);
+        return Ok(());
+    }
+    let agents = agents_of(alloc, entries, &t.name)?;
+    draft.sources.push(source_of(alloc, agents, file, bytes)?)
+}
+
 /// Reads one file more.
 fn put_file<S: Shelf>(
     alloc: Global,
@@ -202,15 +208,7 @@ fn put_file<S: Shelf>(
         return Ok(());
     }
     let bytes = bytes_of(alloc, &t.name, MOST_BYTES, shelf)?;
-    let file = copy_text(alloc, &t.name)?;
-    match t.kind {
-        FileKind::World => draft.world = Some(world_of(alloc, known, file, bytes)?),
-        _ => {
-            let agents = agents_of(alloc, entries, &t.name)?;
-            draft.sources.push(source_of(alloc, agents, file, bytes)?)?;
-        }
-    }
-    Ok(())
+    Ok(put_bytes(alloc, known, entries, t, bytes, draft)?)
 }
 
 /// The project of a word whose files these are, as far as it is read.

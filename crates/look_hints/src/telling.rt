@@ -1,17 +1,24 @@
 //! What hints say, in words.
 
-use crate::hint::{Hint, Hints};
-use crate::naming::{put_agents, put_file, put_names, put_same};
-use crate::rules::{
-    Rule, Say, content_rules, form_rules, receiver_rules, trigger_rules, use_rules,
-};
+use crate::hint::{Hint, Hints, code_word};
+use crate::naming::{put_agents, put_names, put_same};
+use crate::rules::{Rule, Say, form_rules, literal_rules, plan_rules};
 use crate::sight::{Asked, Sight, hold};
 use asl_term::printing::{print, write_number};
 use asl_term::printing_expr::print_formula;
 use asl_term::sequence::{Seq, Starved};
 use asl_term::syntax::Text;
 use look_names::name::write_name;
+use look_reasons::excerpt::put_shown;
+use look_reasons::mark::between;
+use look_reasons::reason::Reason;
+use mas_top_files::folder::folder;
 use std::alloc::Global;
+
+/// The name of a file without its folders, as it is shown.
+fn put_file(alloc: Global, name: &[u8], out: &mut Text) -> Result<(), Starved> {
+    put_shown(alloc, between(name, folder(name).len(), name.len()), out)
+}
 
 fn put_asked(alloc: Global, a: &Asked<'_>, say: Say, out: &mut Text) -> Result<(), Starved> {
     let l = a.literal;
@@ -19,7 +26,7 @@ fn put_asked(alloc: Global, a: &Asked<'_>, say: Say, out: &mut Text) -> Result<(
         Say::Name => write_name(alloc, l.neg, &l.functor, l.args.len(), out),
         Say::Functor => out.append(l.functor.as_slice()),
         Say::Agents => put_agents(a.member.source.agents.as_slice(), out),
-        Say::File => put_file(alloc, &a.member.source.file, out),
+        Say::File => put_file(alloc, a.member.source.file.as_slice(), out),
         Say::Same(among) => put_same(alloc, a, among, out),
         _ => Ok(()),
     }
@@ -70,28 +77,19 @@ fn notes_of(alloc: Global, s: &Sight<'_>, rule: &Rule) -> Result<Seq<Text>, Star
 
 /// What a rule says.
 pub fn told_by_rule(alloc: Global, s: &Sight<'_>, rule: &Rule) -> Result<Hint, Starved> {
+    let text = said_of(alloc, s, rule.words)?;
+    let notes = notes_of(alloc, s, rule)?;
     Ok(Hint {
         place: s.span.place,
-        end: s.span.end,
         code: rule.code,
-        text: said_of(alloc, s, rule.words)?,
-        notes: notes_of(alloc, s, rule)?,
+        reason: Reason {
+            at: s.span.place.at as usize,
+            end: s.span.end as usize,
+            code: code_word(rule.code),
+            text,
+            notes,
+        },
     })
-}
-
-/// Puts what those of some rules say that fit.
-fn put_told(
-    alloc: Global,
-    s: &Sight<'_>,
-    rules: &'static [Rule],
-    all: &mut Hints,
-) -> Result<(), Starved> {
-    for rule in rules {
-        if rule.subject == s.subject && hold(s, rule.tests) {
-            all.push(told_by_rule(alloc, s, rule)?)?;
-        }
-    }
-    Ok(())
 }
 
 /// The hints so far, and whether memory was refused.
@@ -123,29 +121,29 @@ pub fn new_sheet(alloc: Global) -> Sheet {
 impl Sheet {
     /// Puts what the rules say that fit.
     pub fn look(&mut self, s: &Sight<'_>) {
-        let tables = [
-            use_rules(),
-            trigger_rules(),
-            content_rules(),
-            receiver_rules(),
-            form_rules(),
-        ];
-        for rules in tables {
-            if !self.spent && put_told(self.alloc, s, rules, &mut self.all).is_err() {
-                self.spent = true;
+        for rules in [literal_rules(), plan_rules(), form_rules()] {
+            for rule in rules {
+                if rule.subject as u64 == s.subject as u64 && hold(s, rule.tests) {
+                    self.put(s, rule);
+                }
             }
         }
     }
 
-    /// What was found with some memory, or else nothing, and the sheet is spent.
-    pub fn found<T>(&mut self, found: Result<Option<T>, Starved>) -> Option<T> {
-        match found {
-            Ok(found) => found,
-            Err(_) => {
-                self.spent = true;
-                None
+    fn put(&mut self, s: &Sight<'_>, rule: &Rule) {
+        match told_by_rule(self.alloc, s, rule) {
+            Ok(hint) => {
+                if self.all.push(hint).is_err() {
+                    self.spent = true;
+                }
             }
+            Err(_) => self.spent = true,
         }
+    }
+
+    /// Notes that memory was refused.
+    pub fn spend(&mut self) {
+        self.spent = true;
     }
 
     pub fn into_hints(self) -> Result<Hints, Starved> {

@@ -1,31 +1,21 @@
 //! The literals and internal actions of a clause, by what they are for, each with the place of its token.
 
 use crate::places::{
-    argument, behind_brackets, behind_literal, behind_relation, functor_at, has_sign, inner_from,
-    next_item, sign_from, trigger_at,
+    Sought, argument, behind_brackets, behind_literal, behind_relation, next_item, place_of,
+    trigger_at, word_at,
 };
+use crate::rules::Subject;
 use asl_lexer::token::Sign;
 use asl_parser::sentence::Sentence;
 use asl_term::sequence::Starved;
 use asl_term::syntax::{ArgOf, Call, Expr, Formula, Literal, Plan};
-use look_reasons::mark::Mark;
+use look_reasons::mark::{Mark, is_sign};
 use std::alloc::Global;
 
-/// What a literal is for.
-#[derive(Clone, Copy, PartialEq, Eq)]
-pub enum Part {
-    /// It holds in a context, a rule or an argument that is a formula.
-    Held,
-    Tested,
-    Deleted,
-    Replaced,
-    Acted,
-}
-
-/// A literal, and where it begins: at its `~` or its functor.
+/// A literal, what it is for, and where it begins: at its `~` or its functor.
 #[derive(Clone, Copy)]
 pub struct Use<'a> {
-    pub part: Part,
+    pub part: Subject,
     pub literal: &'a Literal,
     pub at: usize,
 }
@@ -76,10 +66,10 @@ impl<'a> Uses<'a> {
         &mut self,
         marks: &[Mark<'_>],
         from: usize,
-        part: Part,
+        part: Subject,
         literal: &'a Literal,
     ) -> usize {
-        let functor = functor_at(marks, from);
+        let functor = place_of(marks, from, Sought::Atom);
         let at = if literal.neg {
             functor.saturating_sub(1)
         } else {
@@ -93,7 +83,7 @@ impl<'a> Uses<'a> {
 
     /// Puts a call whose name stands at or behind a place, and what is still to be gone through of it. The place of its name.
     fn put_call(&mut self, marks: &[Mark<'_>], from: usize, call: &'a Call) -> usize {
-        let at = inner_from(marks, from, call.name.as_slice());
+        let at = place_of(marks, from, Sought::Inner(call.name.as_slice()));
         if self.calls.push(Called { call, at }).is_err() {
             self.spent = true;
         }
@@ -116,7 +106,7 @@ impl<'a> Uses<'a> {
     fn go_over(&mut self, marks: &[Mark<'_>], at: usize, e: &'a Expr) -> usize {
         match e {
             Expr::True | Expr::False => at,
-            Expr::Holds(l) => self.put_literal(marks, at, Part::Held, l),
+            Expr::Holds(l) => self.put_literal(marks, at, Subject::Held, l),
             Expr::Rel(_) => behind_relation(marks, at),
             Expr::Inner(c) => self.put_call(marks, at, c),
             Expr::Not(inner) => {
@@ -131,7 +121,7 @@ impl<'a> Uses<'a> {
         }
     }
 
-    /// Goes through all that is left.
+    /// Goes through all that is left, and begins at or behind a place.
     fn walk(&mut self, marks: &[Mark<'_>], from: usize) {
         let mut at = from;
         // Each part of a formula has a token of its own.
@@ -148,47 +138,37 @@ impl<'a> Uses<'a> {
         self.steps.clear();
     }
 
-    /// Puts the uses of a formula that begins at or behind a place.
-    fn put_formula(&mut self, marks: &[Mark<'_>], from: usize, e: &'a Expr) {
-        self.step(Step::Formula(e));
-        self.walk(marks, from);
-    }
-
-    /// Puts the uses of an item that begins at a place.
-    fn put_item(&mut self, marks: &[Mark<'_>], at: usize, f: &'a Formula) {
-        if let Formula::Inner(c) = f {
-            let name = self.put_call(marks, at, c);
-            self.walk(marks, name);
-        }
-        if let Some((part, l)) = part_of(f) {
-            self.put_literal(marks, at, part, l);
-        }
-    }
-
     fn put_plan(&mut self, marks: &[Mark<'_>], p: &'a Plan) {
-        let colon = behind_literal(marks, functor_at(marks, trigger_at(marks)));
-        if has_sign(marks, colon, Sign::Colon) {
-            self.put_formula(marks, colon.saturating_add(1), &p.context);
+        let functor = place_of(marks, trigger_at(marks), Sought::Atom);
+        let colon = behind_literal(marks, functor);
+        if is_sign(word_at(marks, colon), Sign::Colon) {
+            self.step(Step::Formula(&p.context));
+            self.walk(marks, colon.saturating_add(1));
         }
-        let mut from = sign_from(marks, 0, Sign::LeftArrow);
+        let mut at = place_of(marks, 0, Sought::Sign(Sign::LeftArrow));
         for f in p.body.as_slice() {
-            let Some(at) = next_item(marks, from) else {
-                return;
-            };
-            self.put_item(marks, at, f);
-            from = at;
+            at = next_item(marks, at);
+            if let Formula::Inner(c) = f {
+                let name = self.put_call(marks, at, c);
+                self.walk(marks, name);
+            }
+            if let Some((part, l)) = literal_of(f) {
+                self.put_literal(marks, at, part, l);
+            }
         }
     }
 }
 
 /// The literal of an item, and what it is for.
-fn part_of(f: &Formula) -> Option<(Part, &Literal)> {
+pub fn literal_of(f: &Formula) -> Option<(Subject, &Literal)> {
     match f {
-        Formula::Test(l) => Some((Part::Tested, l)),
-        Formula::Del(l) => Some((Part::Deleted, l)),
-        Formula::Replace(l) => Some((Part::Replaced, l)),
-        Formula::Act(l) => Some((Part::Acted, l)),
-        _ => None,
+        Formula::Achieve(l) | Formula::Spawn(l) => Some((Subject::Posted, l)),
+        Formula::Test(l) => Some((Subject::Tested, l)),
+        Formula::Add(l) => Some((Subject::Added, l)),
+        Formula::Del(l) => Some((Subject::Deleted, l)),
+        Formula::Replace(l) => Some((Subject::Replaced, l)),
+        Formula::Act(l) => Some((Subject::Acted, l)),
+        Formula::Inner(_) | Formula::Rel(_) => None,
     }
 }
 
@@ -207,9 +187,10 @@ pub fn uses_of<'a>(
     match said {
         Sentence::Plan(p) => uses.put_plan(marks, p),
         Sentence::Rule(r) => {
-            let sign = sign_from(marks, 0, Sign::If);
+            let sign = place_of(marks, 0, Sought::Sign(Sign::If));
             if sign < marks.len() {
-                uses.put_formula(marks, sign.saturating_add(1), &r.body);
+                uses.step(Step::Formula(&r.body));
+                uses.walk(marks, sign.saturating_add(1));
             }
         }
         Sentence::Belief(_) => {}

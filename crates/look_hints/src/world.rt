@@ -1,11 +1,11 @@
 //! A world, as far as it is read: what agents may see of it, and its acts.
 
-use crate::reading::{ToksOf, clean_pieces};
-use asl_lexer::token::Tok;
+use crate::deeds::{Groups, Set, new_groups};
+use crate::reading::clean_pieces;
+use asl_lexer::token::{Tok, Toks};
 use asl_parser_tree::bounded::Bounded;
 use asl_parser_tree::lexeme::lexemes;
 use asl_parser_tree::limits::too_deep;
-use asl_term::copying::text_of;
 use asl_term::names::{Names, find};
 use asl_term::sequence::{Seq, Starved};
 use asl_term::syntax::{Literal, Term, Text};
@@ -13,32 +13,28 @@ use env_file::clauses::statement;
 use env_file::fault::WorldFault;
 use env_file::statement::Statement;
 use env_file::taking::make;
-use look_names::name::{Name, NameSet, has_name, put_name};
+use look_names::clause::copy_toks;
 use look_reasons::bytes::mended_of;
 use mas_world::acts::WorldText;
 use std::alloc::Global;
 
-/// What is known of a world: the names of the facts that agents may see, whether they may see any, the names of its acts, whether
-/// there may be others, and its bytes with the tokens of its acts.
+/// What is known of a world: what its pieces make, the names of the facts that agents may see and of its acts, and its bytes with the tokens of
+/// its acts.
 pub struct ReadWorld {
-    pub facts: NameSet,
-    pub any_fact: bool,
-    pub acts: NameSet,
-    pub any_act: bool,
+    made: WorldText,
+    pub names: Groups,
     pub file: Text,
     pub bytes: Text,
     pub text: Text,
-    pub written: Seq<ToksOf>,
+    pub written: Seq<Toks>,
 }
 
 /// By hand, so that who lets one go proves nothing of its parts.
 impl Drop for ReadWorld {
     fn drop(self) {
         let ReadWorld {
-            facts: _,
-            any_fact: _,
-            acts: _,
-            any_act: _,
+            made: _,
+            names: _,
             file: _,
             bytes: _,
             text: _,
@@ -47,12 +43,29 @@ impl Drop for ReadWorld {
     }
 }
 
-fn no_world(alloc: Global) -> Result<WorldText, Starved> {
-    Ok(WorldText {
-        facts: Seq::new(alloc),
-        hidden: Names::new(alloc)?,
-        uses: Names::new(alloc)?,
-        acts: Seq::new(alloc),
+/// The acts of artifacts: the name of the artifact, and the functor and the number of arguments of the act.
+static ACTS: [(&[u8], &[u8], u64); 5] = [
+    (b"tally", b"tally_add", 1),
+    (b"slot", b"slot_take", 0),
+    (b"slot", b"slot_give", 0),
+    (b"belt", b"belt_put", 1),
+    (b"belt", b"belt_take", 1),
+];
+
+/// A world of this file with these bytes, of which nothing is read.
+fn unread(alloc: Global, file: Text, bytes: Text) -> Result<ReadWorld, Starved> {
+    Ok(ReadWorld {
+        made: WorldText {
+            facts: Seq::new(alloc),
+            hidden: Names::new(alloc)?,
+            uses: Names::new(alloc)?,
+            acts: Seq::new(alloc),
+        },
+        names: new_groups(alloc),
+        file,
+        bytes,
+        text: Seq::new(alloc),
+        written: Seq::new(alloc),
     })
 }
 
@@ -82,81 +95,56 @@ fn take(alloc: Global, known: &Names, made: &mut WorldText, toks: &[Tok]) -> Res
 }
 
 /// Puts the name of a fact, unless no agent sees facts of its functor.
-fn put_seen(alloc: Global, w: &mut ReadWorld, hidden: &Names, l: &Literal) -> Result<(), Starved> {
-    match find(hidden, &l.functor) {
-        Some(_) => Ok(()),
-        None => put_name(alloc, &mut w.facts, l),
+fn put_seen(names: &mut Groups, hidden: &Names, l: &Literal) {
+    if find(hidden, &l.functor).is_none() {
+        names.put(Set::Facts, l);
     }
 }
 
 /// Puts the name of a fact, and of the fact in `for(A, F)`, which the agent A alone sees; that may be any.
-fn put_fact(alloc: Global, w: &mut ReadWorld, hidden: &Names, l: &Literal) -> Result<(), Starved> {
-    put_seen(alloc, w, hidden, l)?;
-    match l.args.as_slice() {
-        [_, fact] if l.functor.as_slice() == b"for".as_slice() => match fact {
-            Term::Lit(inner) => put_seen(alloc, w, hidden, inner),
-            _ => {
-                w.any_fact = true;
-                Ok(())
-            }
-        },
-        _ => Ok(()),
-    }
-}
-
-fn put_facts(alloc: Global, w: &mut ReadWorld, made: &WorldText) -> Result<(), Starved> {
-    for l in made.facts.as_slice() {
-        put_fact(alloc, w, &made.hidden, l)?;
-    }
-    for act in made.acts.as_slice() {
-        put_name(alloc, &mut w.acts, &act.head)?;
-        for l in act.adds.as_slice() {
-            put_fact(alloc, w, &made.hidden, l)?;
+fn put_fact(names: &mut Groups, hidden: &Names, l: &Literal) {
+    put_seen(names, hidden, l);
+    if l.functor.as_slice() == b"for".as_slice() {
+        match l.args.as_slice() {
+            [_, Term::Lit(inner)] => put_seen(names, hidden, inner),
+            [_, _] => names.put_any(Set::Facts),
+            _ => {}
         }
     }
-    Ok(())
-}
-
-/// A name of so many arguments.
-fn plain_name(alloc: Global, functor: &[u8], count: u64) -> Result<Name, Starved> {
-    Ok(Name {
-        neg: false,
-        functor: text_of(alloc, functor)?,
-        count,
-    })
 }
 
 /// Puts what an artifact of this name shows and does. One that is not known may do anything.
-fn put_artifact(
-    alloc: Global,
-    w: &mut ReadWorld,
-    hidden: &Names,
-    name: &Text,
-) -> Result<(), Starved> {
-    let acts: &[(&[u8], u64)] = match name.as_slice() {
-        b"tally" => &[(b"tally_add", 1)],
-        b"slot" => &[(b"slot_take", 0), (b"slot_give", 0)],
-        b"belt" => &[(b"belt_put", 1), (b"belt_take", 1)],
-        _ => {
-            w.any_act = true;
-            w.any_fact = true;
-            return Ok(());
+fn put_artifact(names: &mut Groups, hidden: &Names, artifact: &Text) {
+    let mut known = false;
+    for (name, functor, count) in &ACTS {
+        if *name == artifact.as_slice() {
+            known = true;
+            names.put_plain(Set::Acts, *functor, *count);
         }
-    };
-    if find(hidden, name).is_none() {
-        w.facts.push(plain_name(alloc, name.as_slice(), 1)?)?;
     }
-    for (functor, count) in acts {
-        w.acts.push(plain_name(alloc, *functor, *count)?)?;
+    if !known {
+        names.put_any(Set::Acts);
+        names.put_any(Set::Facts);
+    } else if find(hidden, artifact).is_none() {
+        names.put_plain(Set::Facts, artifact.as_slice(), 1);
     }
-    Ok(())
 }
 
-/// Whether a world has an act of the name of a literal, or may have any.
-pub fn has_act(world: Option<&ReadWorld>, l: &Literal) -> bool {
-    match world {
-        Some(w) => w.any_act || has_name(w.acts.as_slice(), l),
-        None => false,
+/// Puts the names of what agents may see of a world, and of its acts.
+fn put_names(names: &mut Groups, made: &WorldText) {
+    for l in made.facts.as_slice() {
+        put_fact(names, &made.hidden, l);
+    }
+    for act in made.acts.as_slice() {
+        names.put(Set::Acts, &act.head);
+        for l in act.adds.as_slice() {
+            put_fact(names, &made.hidden, l);
+        }
+    }
+    for k in 0..made.uses.len() {
+        if let Some(name) = made.uses.at(k.saturating_add(1)) {
+            put_artifact(names, &made.hidden, name);
+        }
     }
 }
 
@@ -168,28 +156,13 @@ pub fn world_of(
     bytes: Text,
 ) -> Result<ReadWorld, Starved> {
     let m = mended_of(alloc, bytes.as_slice())?;
-    let mut made = no_world(alloc)?;
-    let mut written = Seq::new(alloc);
-    for piece in clean_pieces(alloc, &m)?.into_vec() {
-        if take(alloc, known, &mut made, piece.toks.as_slice())? {
-            written.push(piece)?;
+    let mut w = unread(alloc, file, bytes)?;
+    for piece in clean_pieces(alloc, &m)?.as_slice() {
+        if take(alloc, known, &mut w.made, *piece)? {
+            w.written.push(copy_toks(alloc, *piece)?)?;
         }
     }
-    let mut w = ReadWorld {
-        facts: Seq::new(alloc),
-        any_fact: false,
-        acts: Seq::new(alloc),
-        any_act: false,
-        file,
-        bytes,
-        text: m.into_text(),
-        written,
-    };
-    put_facts(alloc, &mut w, &made)?;
-    for k in 0..made.uses.len() {
-        if let Some(name) = made.uses.at(k.saturating_add(1)) {
-            put_artifact(alloc, &mut w, &made.hidden, name)?;
-        }
-    }
-    Ok(w)
+    w.text = m.into_text();
+    put_names(&mut w.names, &w.made);
+    if w.names.spent { Err(Starved) } else { Ok(w) }
 }
