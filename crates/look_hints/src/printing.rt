@@ -14,8 +14,8 @@ use asl_term::sequence::{Seq, Starved};
 use asl_term::syntax::Text;
 use look_answer::answer::Output;
 use look_pieces::findings::Finding;
+use look_reasons::phrase::{Phrase, sentence};
 use look_where::files::{FileTold, files_told};
-use look_where::parts::{Part, text_of_parts};
 use mas_io::shelf::Shelf;
 use mas_top_status::status::Status;
 use std::alloc::Global;
@@ -86,16 +86,18 @@ fn last_lines(alloc: Global, refused: u64, files: &[HintsTold]) -> Result<Text, 
     }
     let place: &[u8] = if refused == 1 { b" place" } else { b" places" };
     let hint: &[u8] = if hints == 1 { b" hint\n" } else { b" hints\n" };
+    if refused == 0 {
+        return sentence(alloc, &[Phrase::Number(hints), Phrase::Words(hint)]);
+    }
     let parts = [
-        Part::Words(b"note: "),
-        Part::Number(refused),
-        Part::Words(place),
-        Part::Words(b" refused and left out here: see `where`\n"),
-        Part::Number(hints),
-        Part::Words(hint),
+        Phrase::Words(b"note: "),
+        Phrase::Number(refused),
+        Phrase::Words(place),
+        Phrase::Words(b" refused and left out here: see `where`\n"),
+        Phrase::Number(hints),
+        Phrase::Words(hint),
     ];
-    let from = if refused == 0 { 4 } else { 0 };
-    text_of_parts(alloc, &parts[from..])
+    sentence(alloc, &parts)
 }
 
 /// What is written of these hints, where so many places are refused.

@@ -15,9 +15,9 @@ use asl_term::sequence::{Seq, Starved};
 use asl_term::syntax::Text;
 use look_reasons::bytes::mended_of;
 use look_reasons::mark::marks_of;
+use look_reasons::phrase::{Phrase, sentence};
 use look_where::files::{FileKind, FileTold, MOST_BYTES};
 use look_where::leads::{Entry, lead_in, stop_of};
-use look_where::parts::{Part, text_of_parts};
 use mas_io::shelf::Shelf;
 use mas_project::piece::NextPiece;
 use mas_project::project::ProjectPieces;
@@ -74,11 +74,11 @@ fn put_piece<'a>(
     match lead_in(marks.as_slice(), piece, first, stop.is_none()) {
         Some(lead) => {
             let parts = [
-                Part::Words(directory),
-                Part::Words(lead.stem),
-                Part::Words(lead.ending),
+                Phrase::Words(directory),
+                Phrase::Words(lead.stem),
+                Phrase::Words(lead.ending),
             ];
-            let file = text_of_parts(alloc, &parts)?;
+            let file = sentence(alloc, &parts)?;
             put_entry(alloc, file, lead.name.text, lead.count, all)
         }
         None => Ok(()),
