@@ -1,19 +1,9 @@
 //! When each message was sent and taken: the k-th from one agent to another is the k-th that this one took from that one.
 
-use crate::lines::{Fate, Letter, MailLines, agent_of};
+use crate::lines::{Fate, Letter, Letters, MailLines, agent_of};
 use asl_term::names::Names;
 use asl_term::sequence::{Seq, Starved};
 use std::alloc::Global;
-
-/// A message with the turn in which it was sent or taken, from 1; 0 where there is no such turn.
-#[derive(Clone, Copy)]
-pub struct Row<'a> {
-    pub letter: Letter<'a>,
-    pub turn: u64,
-    pub fate: Fate,
-}
-
-pub type Rows<'a> = Seq<Row<'a>>;
 
 /// A number, and the place of what has it.
 #[derive(Clone, Copy)]
@@ -22,14 +12,42 @@ pub struct Key {
     pub place: u64,
 }
 
-pub type Keys = Seq<Key>;
+pub struct Keys {
+    pub all: Seq<Key>,
+    /// Whether memory was wanting.
+    pub starved: bool,
+}
 
-/// By their numbers. Those of one number stay in their order.
-fn in_order(keys: Keys) -> Result<Keys, Starved> {
-    let mut keys = keys.into_vec();
-    match keys.sort_by_key(|k| k.number) {
-        Ok(()) => Ok(Seq::from_vec(keys)),
-        Err(_) => Err(Starved),
+/// By hand, so that who lets one go proves nothing of its parts.
+impl Drop for Keys {
+    fn drop(self) {
+        let Keys { all: _, starved: _ } = self;
+    }
+}
+
+impl Keys {
+    fn put(&mut self, number: u64, place: u64) {
+        if self.all.push(Key { number, place }).is_err() {
+            self.starved = true;
+        }
+    }
+
+    /// By their numbers. Those of one number stay in their order.
+    fn in_order(self) -> Keys {
+        let Keys { all, starved } = self;
+        let mut all = all.into_vec();
+        let sorted = all.sort_by_key(|k| k.number).is_ok();
+        Keys {
+            all: Seq::from_vec(all),
+            starved: starved || !sorted,
+        }
+    }
+}
+
+fn no_keys(alloc: Global) -> Keys {
+    Keys {
+        all: Seq::new(alloc),
+        starved: false,
     }
 }
 
@@ -42,16 +60,13 @@ fn are_agents(turns: &[u64], agents: u64) -> bool {
 }
 
 /// The turns by their agents.
-fn turns_of(alloc: Global, turns: &[u64]) -> Result<Keys, Starved> {
-    let mut keys = Seq::new(alloc);
-    for number in turns {
-        let place = keys.len();
-        keys.push(Key {
-            number: *number,
-            place,
-        })?;
+fn turns_of(alloc: Global, turns: &[u64]) -> Keys {
+    let mut keys = no_keys(alloc);
+    for agent in turns {
+        let place = keys.all.len();
+        keys.put(*agent, place);
     }
-    in_order(keys)
+    keys.in_order()
 }
 
 /// How many keys have a smaller number.
@@ -88,32 +103,19 @@ fn is_spent(spent: &[Letter<'_>], letter: &Letter<'_>) -> bool {
     is
 }
 
-/// The row of a message before it is known whether one that was sent was taken.
-fn row_of<'a>(spent: &[Letter<'_>], turns: &[Key], letter: &Letter<'a>) -> Row<'a> {
-    let turn = turn_at(turns, letter.agent, letter.own);
+/// A message with its turn among all turns. It is lost where its cycle spent a budget.
+fn placed<'a>(spent: &[Letter<'_>], turns: &[Key], letter: &Letter<'a>) -> Letter<'a> {
+    let turn = turn_at(turns, letter.agent, letter.turn);
     let fate = match letter.fate {
         Fate::Taken { cycle, .. } => Fate::Taken { turn, cycle },
         _ if is_spent(spent, letter) => Fate::Lost,
         other => other,
     };
-    Row {
-        letter: *letter,
+    Letter {
         turn,
         fate,
+        ..*letter
     }
-}
-
-/// Puts the rows of messages that were sent where some cycles spent a budget, or of those that came in.
-fn put_rows<'a>(
-    letters: &[Letter<'a>],
-    spent: &[Letter<'_>],
-    turns: &[Key],
-    rows: &mut Rows<'a>,
-) -> Result<(), Starved> {
-    for letter in letters {
-        rows.push(row_of(spent, turns, letter))?;
-    }
-    Ok(())
 }
 
 /// A number for the two agents of a message, the one who sends first; 0 where one of them is not there.
@@ -130,93 +132,97 @@ fn pair_of(alloc: Global, names: &Names, letter: &Letter<'_>, sent: bool) -> Res
     Ok(from.saturating_mul(4_294_967_296).saturating_add(to))
 }
 
-/// The messages that were sent and went out, or those that came in, by their agents.
-fn keys_of(alloc: Global, names: &Names, rows: &[Row<'_>], sent: bool) -> Result<Keys, Starved> {
-    let mut keys = Seq::new(alloc);
+/// The messages that were sent and went out, or those that came in, by their agents. One that was sent in no turn has no agents.
+fn keys_of(alloc: Global, names: &Names, letters: &[Letter<'_>], sent: bool) -> Keys {
+    let mut keys = no_keys(alloc);
     let mut place: u64 = 0;
-    for row in rows {
-        let pair = pair_of(alloc, names, &row.letter, sent)?;
-        let number = if sent && row.turn == 0 { 0 } else { pair };
-        if number == 0 || !matches!(row.fate, Fate::Lost) {
-            keys.push(Key { number, place })?;
+    for letter in letters {
+        let number = match pair_of(alloc, names, letter, sent) {
+            Ok(pair) if !sent || letter.turn > 0 => pair,
+            Ok(_) => 0,
+            Err(_) => {
+                keys.starved = true;
+                0
+            }
+        };
+        if number == 0 || !matches!(letter.fate, Fate::Lost) {
+            keys.put(number, place);
         }
         place = place.saturating_add(1);
     }
-    in_order(keys)
+    keys.in_order()
 }
 
 /// Whether what came in fits a message that was sent: it waits, or is the same and was taken later.
-fn is_fit(row: &Row<'_>, came: &Row<'_>) -> bool {
+fn is_fit(row: &Letter<'_>, came: &Letter<'_>) -> bool {
     match came.fate {
         Fate::Taken { turn, .. } => {
-            row.letter.verb == came.letter.verb
-                && row.letter.content == came.letter.content
-                && turn > row.turn
+            row.verb == came.verb && row.content == came.content && turn > row.turn
         }
         _ => true,
     }
 }
 
 /// Tells the message of one key that it came in as that of the other; whether they fit.
-fn put_fate(passed: &Key, came: &Key, from: &[Row<'_>], rows: &mut Rows<'_>) -> bool {
+fn put_fate(
+    passed: Option<&Key>,
+    came: Option<&Key>,
+    from: &[Letter<'_>],
+    turns: &[Key],
+    rows: &mut Letters<'_>,
+) -> bool {
+    let (Some(passed), Some(came)) = (passed, came) else {
+        return false;
+    };
     if passed.number == 0 || passed.number != came.number || passed.place >= rows.len() {
         return false;
     }
-    let Some(taken) = from.get(came.place as usize) else {
+    let Some(letter) = from.get(came.place as usize) else {
         return false;
     };
+    let taken = placed(&[], turns, letter);
     let row = rows.at_mut(passed.place);
-    let fit = is_fit(row, taken);
+    let fit = is_fit(row, &taken);
     if fit {
         row.fate = taken.fate;
     }
     fit
 }
 
-/// Tells each message that was sent when it came in; whether all fit, and between any two agents as many came in as went out.
-fn put_fates(
-    alloc: Global,
-    names: &Names,
-    from: &[Row<'_>],
-    rows: &mut Rows<'_>,
-) -> Result<bool, Starved> {
-    let passed = keys_of(alloc, names, rows.as_slice(), true)?;
-    let came = keys_of(alloc, names, from, false)?;
-    let mut fit = passed.len() == came.len();
-    for at in 0..passed.len() {
-        fit = fit
-            && match (passed.at(at), came.at(at)) {
-                (Some(passed), Some(came)) => put_fate(passed, came, from, rows),
-                _ => false,
-            };
-    }
-    Ok(fit)
-}
-
-/// Puts the messages of these lines that were sent, where the agents made these turns; whether all fit.
+/// Puts the messages of these lines that were sent, where the agents made these turns. Tells those that came in when they did; whether all
+/// fit, and between any two agents as many came in as went out.
 pub fn put_sent<'a>(
     alloc: Global,
     m: &MailLines<'a>,
     turns: &[u64],
-    rows: &mut Rows<'a>,
+    rows: &mut Letters<'a>,
 ) -> Result<bool, Starved> {
-    let keys = turns_of(alloc, turns)?;
-    let mut came = Seq::new(alloc);
-    put_rows(m.sent.as_slice(), m.spent.as_slice(), keys.as_slice(), rows)?;
-    put_rows(m.came.as_slice(), &[], keys.as_slice(), &mut came)?;
-    let fit = put_fates(alloc, &m.names, came.as_slice(), rows)?;
-    Ok(fit && are_agents(turns, m.names.len() as u64))
+    let keys = turns_of(alloc, turns);
+    let mut starved = keys.starved;
+    for letter in m.sent.as_slice() {
+        let row = placed(m.spent.as_slice(), keys.all.as_slice(), letter);
+        starved = starved || rows.push(row).is_err();
+    }
+    let passed = keys_of(alloc, &m.names, rows.as_slice(), true);
+    let came = keys_of(alloc, &m.names, m.came.as_slice(), false);
+    let mut fit = passed.all.len() == came.all.len();
+    for at in 0..passed.all.len() {
+        let (p, c) = (passed.all.at(at), came.all.at(at));
+        fit = fit && put_fate(p, c, m.came.as_slice(), keys.all.as_slice(), rows);
+    }
+    fit = fit && are_agents(turns, m.names.len() as u64);
+    if starved || passed.starved || came.starved {
+        return Err(Starved);
+    }
+    Ok(fit)
 }
 
-/// Rows by their turns. Those of one turn stay in their order.
-pub fn by_turns(alloc: Global, rows: &[Row<'_>]) -> Result<Keys, Starved> {
-    let mut keys = Seq::new(alloc);
+/// Messages by their turns. Those of one turn stay in their order.
+pub fn by_turns(alloc: Global, rows: &[Letter<'_>]) -> Keys {
+    let mut keys = no_keys(alloc);
     for row in rows {
-        let place = keys.len();
-        keys.push(Key {
-            number: row.turn,
-            place,
-        })?;
+        let place = keys.all.len();
+        keys.put(row.turn, place);
     }
-    in_order(keys)
+    keys.in_order()
 }

@@ -25,8 +25,8 @@ pub struct Letter<'a> {
     pub cycle: u64,
     pub verb: &'a [u8],
     pub content: &'a [u8],
-    /// In which of the agent's own turns it was sent or taken, from 1; 0 where it was in none.
-    pub own: u64,
+    /// The turn in which it was sent or taken, from 1; 0 where there is none. Lines tell which of the agent's own it was.
+    pub turn: u64,
     pub fate: Fate,
 }
 
@@ -119,14 +119,14 @@ fn put_trace<'a>(m: &mut MailLines<'a>, line: &'a [u8]) {
         cycle,
         verb,
         content,
-        own: second.max(1),
+        turn: second.max(1),
         fate: Fate::Unread,
     };
     let put = if word == b"sends".as_slice() {
         m.sent.push(letter)
     } else if word == b"took".as_slice() {
         m.came.push(Letter {
-            own: second.saturating_sub(1),
+            turn: second.saturating_sub(1),
             fate: Fate::Taken { turn: 0, cycle },
             ..letter
         })
@@ -160,7 +160,7 @@ fn put_waiting<'a>(alloc: Global, m: &mut MailLines<'a>, line: &'a [u8]) {
             cycle: 0,
             verb: &[],
             content: &[],
-            own: 0,
+            turn: 0,
             fate: Fate::Unread,
         }),
         Err(_) => Err(Starved),

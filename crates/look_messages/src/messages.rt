@@ -4,7 +4,7 @@ ghost use Rattle.std.specs.Prelude.{◌≡◌, IfOk, IfErr, false};
 ghost use Rattle.look_answer.specs.Answers.{IsUnfit};
 ghost use Rattle.look_messages.specs.Runs.{TellsRun};
 
-use crate::fitting::{by_turns, put_sent};
+use crate::fitting::put_sent;
 use crate::lines::lines_of;
 use crate::table::table_of;
 use asl_term::sequence::{Seq, Starved};
@@ -35,12 +35,14 @@ fn messages_of(
 ) -> Result<Option<Text>, Starved> {
     let lines = lines_of(alloc, bytes)?;
     let mut rows = Seq::new(alloc);
-    if !put_sent(alloc, &lines, turns, &mut rows)? {
-        return Ok(None);
+    match put_sent(alloc, &lines, turns, &mut rows) {
+        Ok(true) => match table_of(alloc, &lines.names, rows.as_slice(), csv) {
+            Ok(text) => Ok(Some(text)),
+            Err(_) => Err(Starved),
+        },
+        Ok(false) => Ok(None),
+        Err(_) => Err(Starved),
     }
-    let order = by_turns(alloc, rows.as_slice())?;
-    let text = table_of(alloc, &lines.names, rows.as_slice(), order.as_slice(), csv)?;
-    Ok(Some(text))
 }
 
 /// The messages of a report that tells this of its run.

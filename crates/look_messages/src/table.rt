@@ -1,11 +1,11 @@
 //! Messages as a table, for people and for spreadsheets.
 
-use crate::fitting::{Key, Row};
-use crate::lines::Fate;
+use crate::fitting::by_turns;
+use crate::lines::{Fate, Letter};
 use asl_term::names::Names;
 use asl_term::sequence::{Seq, Starved};
 use asl_term::syntax::Text;
-use look_reasons::phrase::{Phrase, put_phrase, sentence};
+use look_reasons::phrase::{Phrase, sentence};
 use std::alloc::Global;
 
 /// What is written so far.
@@ -93,7 +93,7 @@ fn name_of(names: &Names, agent: u64) -> &[u8] {
 }
 
 /// The cells of a message, from the agent of this name. Where it was not taken its columns say why.
-fn cells_of<'a>(from: &'a [u8], row: &Row<'a>) -> Cells<'a> {
+fn cells_of<'a>(from: &'a [u8], row: &Letter<'a>) -> Cells<'a> {
     let nothing = Phrase::Words(b"");
     let (turn, cycle) = match row.fate {
         Fate::Taken { turn, cycle } => (Phrase::Number(turn), Phrase::Number(cycle)),
@@ -102,30 +102,14 @@ fn cells_of<'a>(from: &'a [u8], row: &Row<'a>) -> Cells<'a> {
     };
     [
         Phrase::Number(row.turn),
-        Phrase::Number(row.letter.cycle),
+        Phrase::Number(row.cycle),
         Phrase::Shown(from),
-        Phrase::Shown(row.letter.other),
+        Phrase::Shown(row.other),
         turn,
         cycle,
-        Phrase::Shown(row.letter.verb),
-        Phrase::Shown(row.letter.content),
+        Phrase::Shown(row.verb),
+        Phrase::Shown(row.content),
     ]
-}
-
-/// How many bytes a cell has.
-fn size_of(alloc: Global, cell: Phrase<'_>) -> Result<u64, Starved> {
-    let mut text = Seq::new(alloc);
-    put_phrase(alloc, cell, &mut text)?;
-    Ok(text.len())
-}
-
-/// Makes the columns as wide as the cells of a line, but for the last one.
-fn widen(alloc: Global, cells: &Cells<'_>, widths: &mut [u64; 8]) -> Result<(), Starved> {
-    for column in 0..7 {
-        let size = size_of(alloc, cells[column])?;
-        widths[column] = widths[column].max(size);
-    }
-    Ok(())
 }
 
 /// Whether a cell of a spreadsheet needs no quotes: it has no comma, quote or end of line.
@@ -180,8 +164,8 @@ fn put_line(alloc: Global, csv: bool, widths: &[u64; 8], cells: &Cells<'_>, shee
     sheet.put(b"\n");
 }
 
-/// How many were sent, taken, unread and lost.
-fn sums_of(alloc: Global, rows: &[Row<'_>]) -> Result<Text, Starved> {
+/// Puts how many were sent, taken, unread and lost.
+fn put_sums(alloc: Global, rows: &[Letter<'_>], sheet: &mut Sheet) {
     let mut taken: u64 = 0;
     let mut unread: u64 = 0;
     let mut lost: u64 = 0;
@@ -202,47 +186,65 @@ fn sums_of(alloc: Global, rows: &[Row<'_>]) -> Result<Text, Starved> {
         Phrase::Number(lost),
         Phrase::Words(b" lost\n"),
     ];
-    sentence(alloc, &phrases)
-}
-
-/// How wide the columns are.
-fn widths_of<'a>(alloc: Global, names: &'a Names, rows: &[Row<'a>]) -> Result<[u64; 8], Starved> {
-    let mut widths = [0; 8];
-    widen(alloc, &heads(false), &mut widths)?;
-    for row in rows {
-        let cells = cells_of(name_of(names, row.letter.agent), row);
-        widen(alloc, &cells, &mut widths)?;
+    match sentence(alloc, &phrases) {
+        Ok(line) => sheet.put(line.as_slice()),
+        Err(_) => sheet.starved = true,
     }
-    Ok(widths)
 }
 
-/// Rows in this order as a table, or as a spreadsheet.
+/// Makes columns but for the last one as wide as the cells of a line; whether memory was wanting.
+fn widen(alloc: Global, cells: &Cells<'_>, widths: &mut [u64; 8]) -> bool {
+    let mut starved = false;
+    for column in 0..7 {
+        match sentence(alloc, &[cells[column]]) {
+            Ok(cell) => widths[column] = widths[column].max(cell.len()),
+            Err(_) => starved = true,
+        }
+    }
+    starved
+}
+
+/// Puts the head, and messages in the order of their turns.
+fn put_lines<'a>(
+    alloc: Global,
+    names: &'a Names,
+    rows: &[Letter<'a>],
+    csv: bool,
+    sheet: &mut Sheet,
+) {
+    let mut widths = [0; 8];
+    if !csv {
+        sheet.starved = widen(alloc, &heads(csv), &mut widths);
+        for row in rows {
+            let cells = cells_of(name_of(names, row.agent), row);
+            sheet.starved = sheet.starved || widen(alloc, &cells, &mut widths);
+        }
+    }
+    put_line(alloc, csv, &widths, &heads(csv), sheet);
+    let order = by_turns(alloc, rows);
+    sheet.starved = sheet.starved || order.starved;
+    for key in order.all.as_slice() {
+        if let Some(row) = rows.get(key.place as usize) {
+            let cells = cells_of(name_of(names, row.agent), row);
+            put_line(alloc, csv, &widths, &cells, sheet);
+        }
+    }
+}
+
+/// Messages as a table, or as a spreadsheet.
 pub fn table_of<'a>(
     alloc: Global,
     names: &'a Names,
-    rows: &[Row<'a>],
-    order: &[Key],
+    rows: &[Letter<'a>],
     csv: bool,
 ) -> Result<Text, Starved> {
     let mut sheet = Sheet {
         text: Seq::new(alloc),
         starved: false,
     };
-    let widths = if csv {
-        [0; 8]
-    } else {
-        widths_of(alloc, names, rows)?
-    };
-    put_line(alloc, csv, &widths, &heads(csv), &mut sheet);
-    for key in order {
-        if let Some(row) = rows.get(key.place as usize) {
-            let cells = cells_of(name_of(names, row.letter.agent), row);
-            put_line(alloc, csv, &widths, &cells, &mut sheet);
-        }
-    }
+    put_lines(alloc, names, rows, csv, &mut sheet);
     if !csv {
-        let sums = sums_of(alloc, rows)?;
-        sheet.put(sums.as_slice());
+        put_sums(alloc, rows, &mut sheet);
     }
     sheet.into_text()
 }
