@@ -17,8 +17,9 @@ enum Say {
     Before,
     Ending,
     Number,
-    /// The place of another token.
-    Place,
+    /// The line and the column of another token.
+    Line,
+    Column,
 }
 
 /// What holds of a place at which a piece is refused.
@@ -257,7 +258,12 @@ pub const TWICE: Rule = Rule {
         Say::Token,
         Say::Number,
     ],
-    note: &[Say::Words(b"the first is at "), Say::Place],
+    note: &[
+        Say::Words(b"the first is at "),
+        Say::Line,
+        Say::Words(b":"),
+        Say::Column,
+    ],
 };
 
 pub const MISSING: Rule = Rule {
@@ -412,7 +418,8 @@ fn phrase_at<'a>(f: &Fault<'a>, says: &[Say], at: usize) -> Phrase<'a> {
         Some(Say::Before) => Phrase::Shown(f.before),
         Some(Say::Ending) => Phrase::Words(f.ending),
         Some(Say::Number) => f.number,
-        Some(Say::Place) => Phrase::Place(f.line, f.column),
+        Some(Say::Line) => Phrase::Number(f.line),
+        Some(Say::Column) => Phrase::Number(f.column),
         None => Phrase::Words(b""),
     }
 }
