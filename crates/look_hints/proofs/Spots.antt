@@ -2,8 +2,8 @@
 use Rattle.std.proofs.Common.{◌≡◌, ℕ, suc, ◌+◌, ◌≤◌, Bool, List, [], ◌∷◌, ◌++◌, length, length-append, map, refl, subst, sym, ap, ◌∙◌, append_assoc, arith}
 use Rattle.std.proofs.lemmas.List.{append-nil}
 use Rattle.asl_lexer.specs.declared.token.Place.{Place}
-use Rattle.look_names.specs.declared.clause.ReadClause.{ReadClause}
-use Rattle.look_names.specs.declared.goals.PlacedGoal.{PlacedGoal}
+use Rattle.look_pieces.specs.declared.clause.ReadClause.{ReadClause}
+use Rattle.look_pieces.specs.declared.goals.PlacedGoal.{PlacedGoal}
 use Rattle.look_pieces.specs.declared.findings.Finding.{Finding}
 use Rattle.look_hints.specs.declared.hint.Code.{Code}
 use Rattle.look_hints.specs.declared.hint.Hint.{Hint}

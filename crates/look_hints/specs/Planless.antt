@@ -1,9 +1,9 @@
 -- Where a hint says that there is no plan for a goal.
 use Rattle.std.specs.Prelude.{Bool, ◌≤◌, if◌then◌else◌, List, [], ◌∷◌, ◌++◌, length, map}
 use Rattle.asl_lexer.specs.declared.token.Place.{Place}
-use Rattle.look_names.specs.declared.clause.ReadClause.{ReadClause}
-use Rattle.look_names.specs.declared.goals.PlacedGoal.{PlacedGoal}
-use Rattle.look_names.specs.Goals.{unplanned}
+use Rattle.look_pieces.specs.declared.clause.ReadClause.{ReadClause}
+use Rattle.look_pieces.specs.declared.goals.PlacedGoal.{PlacedGoal}
+use Rattle.look_pieces.specs.Goals.{unplanned}
 use Rattle.look_pieces.specs.declared.findings.Finding.{Finding}
 use Rattle.look_hints.specs.declared.hint.Code.{Code}
 use Rattle.look_hints.specs.declared.hint.Code.TheVariants.{NoPlan}

@@ -8,12 +8,12 @@ use crate::telling::Sheet;
 use crate::uses::literal_of;
 use asl_lint::covers::covers;
 use asl_parser::sentence::Sentence;
-use asl_term::sequence::Starved;
 use asl_term::syntax::{Expr, Formula, Kind, Literal, Plan, Trigger};
 use asl_term_actions::action::{Action, Deed};
 use asl_term_actions::named::named;
-use look_names::clause::{ReadClause, is_plan_for};
-use look_names::name::same_name;
+use look_pieces::clause::{ReadClause, is_plan_for};
+use look_pieces::name::same_name;
+use look_reasons::mark::is_listed;
 
 /// The plan that a clause is for events of this kind about the name of a literal.
 fn plan_for<'a>(c: &'a ReadClause, add: bool, kind: Kind, l: &Literal) -> Option<&'a Plan> {
@@ -24,12 +24,19 @@ fn plan_for<'a>(c: &'a ReadClause, add: bool, kind: Kind, l: &Literal) -> Option
 }
 
 /// Whether an earlier plan takes each event that a plan takes: it has no context and no annotations, and its arguments match all that the plan's do.
-fn takes_all(here: &Here<'_>, earlier: &ReadClause, t: &Trigger) -> Result<bool, Starved> {
-    match plan_for(earlier, t.add, t.kind, &t.lit) {
+fn takes_all(here: &Here<'_>, earlier: &ReadClause, t: &Trigger, sheet: &mut Sheet) -> bool {
+    let takes = match plan_for(earlier, t.add, t.kind, &t.lit) {
         Some(p) if matches!(p.context, Expr::True) && p.trigger.lit.annots.len() == 0 => {
             covers(here.alloc, &p.trigger.lit, &t.lit)
         }
         _ => Ok(false),
+    };
+    match takes {
+        Ok(takes) => takes,
+        Err(_) => {
+            sheet.spent = true;
+            false
+        }
     }
 }
 
@@ -37,14 +44,10 @@ fn takes_all(here: &Here<'_>, earlier: &ReadClause, t: &Trigger) -> Result<bool,
 fn taken_before(here: &Here<'_>, number: usize, t: &Trigger, sheet: &mut Sheet) -> Option<u64> {
     let clauses = here.member.source.clauses.as_slice();
     for c in &clauses[..number.min(clauses.len())] {
-        match (takes_all(here, c, t), c.toks.as_slice()) {
-            (Ok(takes), [first, ..]) => {
-                if takes {
-                    return Some(first.line);
-                }
+        if let [first, ..] = c.toks.as_slice() {
+            if takes_all(here, c, t, sheet) {
+                return Some(first.line);
             }
-            (Ok(_), []) => {}
-            (Err(_), _) => sheet.spend(),
         }
     }
     None
@@ -65,29 +68,23 @@ fn put_trigger<'a>(
     });
 }
 
-/// Puts a hint at a plan for a goal that nothing posts here.
-fn put_received<'a>(here: &Here<'a>, t: &'a Trigger, sheet: &mut Sheet) {
-    let functor = t.lit.functor.as_slice();
-    let received = functor == b"kqml_received".as_slice()
-        || functor == b"kqml_received_error".as_slice();
-    if received && matches!(t.kind, Kind::Achieve) {
-        put_trigger(here, Subject::Received, t, 0, sheet);
-    }
-}
-
-/// Puts a hint at a plan that is never taken, the one of this number of its source, from 0.
+/// Puts a hint at a plan that is never taken, the one of this number of its source, from 0. Of the names of messages only the goals are looked at.
 pub fn put_untaken<'a>(here: &Here<'a>, number: usize, t: &'a Trigger, sheet: &mut Sheet) {
-    if t.lit.functor.as_slice().starts_with(b"kqml_received") {
-        return put_received(here, t, sheet);
-    }
-    let (subject, line) = match taken_before(here, number, t, sheet) {
-        Some(line) => (Subject::Covered, line),
-        None => match (t.kind, t.add) {
-            (Kind::Achieve, _) => (Subject::Goal, 0),
-            (Kind::Test, _) => (Subject::Question, 0),
-            (Kind::Belief, true) => (Subject::Comes, 0),
-            (Kind::Belief, false) => (Subject::Goes, 0),
-        },
+    let functor = t.lit.functor.as_slice();
+    let (subject, line) = if functor.starts_with(b"kqml_received") {
+        let goal = is_listed(b"kqml_received kqml_received_error", functor);
+        if !goal || !matches!(t.kind, Kind::Achieve) {
+            return;
+        }
+        (Subject::Received, 0)
+    } else {
+        match (taken_before(here, number, t, sheet), t.kind, t.add) {
+            (Some(line), _, _) => (Subject::Covered, line),
+            (None, Kind::Achieve, _) => (Subject::Goal, 0),
+            (None, Kind::Test, _) => (Subject::Question, 0),
+            (None, Kind::Belief, true) => (Subject::Comes, 0),
+            (None, Kind::Belief, false) => (Subject::Goes, 0),
+        }
     };
     put_trigger(here, subject, t, line, sheet);
 }

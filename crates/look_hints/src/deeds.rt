@@ -6,9 +6,10 @@ use crate::sends::{Sent, is_one_of, may_be};
 use crate::uses::{Uses, uses_of};
 use asl_parser::sentence::Sentence;
 use asl_term::copying::text_of;
-use asl_term::sequence::{Seq, Starved};
+use asl_term::sequence::Seq;
 use asl_term::syntax::{Kind, Literal, Term};
-use look_names::name::{Name, NameSet, put_name};
+use look_pieces::clause::ReadClause;
+use look_pieces::name::{Name, NameSet, put_name};
 use look_reasons::mark::marks_of;
 use std::alloc::Global;
 
@@ -37,6 +38,18 @@ pub enum Set {
 
 /// How many groups there are.
 const GROUPS: u64 = 12;
+
+/// The groups of the literals of a clause, by what they are for.
+static USED: [(Subject, Set); 8] = [
+    (Subject::Held, Set::Watched),
+    (Subject::Posted, Set::Goals),
+    (Subject::Tested, Set::Watched),
+    (Subject::Tested, Set::Questions),
+    (Subject::Added, Set::Made),
+    (Subject::Deleted, Set::Changed),
+    (Subject::Replaced, Set::Changed),
+    (Subject::Replaced, Set::Made),
+];
 
 /// Names, and whether there may be any others.
 pub struct Group {
@@ -148,7 +161,7 @@ impl Groups {
 
     /// Puts what a message may bring. Of a list each item is told.
     fn put_message(&mut self, s: &Sent<'_>) {
-        if may_be(s.verb, b"tell") || may_be(s.verb, b"untell") {
+        if may_be(s.verb, b"tell untell") {
             match s.content {
                 Term::List(l) if l.tail.is_none() => {
                     for t in l.items.as_slice() {
@@ -158,26 +171,30 @@ impl Groups {
                 t => self.put_term(Set::Told, t),
             }
         }
-        if may_be(s.verb, b"achieve") || may_be(s.verb, b"unachieve") {
+        if may_be(s.verb, b"achieve unachieve") {
             self.put_term(Set::Asked, s.content);
         }
     }
 
-    /// Puts what a clause does with literals.
+    /// Puts what a clause of this text does with literals.
+    fn put_clause(&mut self, text: &[u8], c: &ReadClause) {
+        self.put_sentence(&c.said);
+        match marks_of(self.alloc, text, c.toks.as_slice()) {
+            Ok(marks) => {
+                let uses = uses_of(self.alloc, marks.as_slice(), &c.said);
+                self.put_uses(&uses);
+            }
+            Err(_) => self.spent = true,
+        }
+    }
+
     fn put_uses(&mut self, uses: &Uses<'_>) {
+        self.spent = self.spent || uses.spent;
         for u in uses.literals.as_slice() {
-            let (first, second) = match u.part {
-                Subject::Held => (Set::Watched, None),
-                Subject::Posted => (Set::Goals, None),
-                Subject::Tested => (Set::Watched, Some(Set::Questions)),
-                Subject::Added => (Set::Made, None),
-                Subject::Deleted => (Set::Changed, None),
-                Subject::Replaced => (Set::Changed, Some(Set::Made)),
-                _ => continue,
-            };
-            self.put(first, u.literal);
-            if let Some(set) = second {
-                self.put(set, u.literal);
+            for (part, set) in &USED {
+                if *part as u64 == u.part as u64 {
+                    self.put(*set, u.literal);
+                }
             }
         }
         for c in uses.calls.as_slice() {
@@ -188,14 +205,11 @@ impl Groups {
     }
 }
 
-/// What a source does, where these messages are sent in its project.
-pub fn deeds_of(alloc: Global, s: &ReadSource, sent: &[Sent<'_>]) -> Result<Groups, Starved> {
+/// What a source does, where these messages are sent in its project; where memory is refused, some of it.
+pub fn deeds_of(alloc: Global, s: &ReadSource, sent: &[Sent<'_>]) -> Groups {
     let mut all = new_groups(alloc);
     for c in s.clauses.as_slice() {
-        all.put_sentence(&c.said);
-        let marks = marks_of(alloc, s.text.as_slice(), c.toks.as_slice())?;
-        let uses = uses_of(alloc, marks.as_slice(), &c.said)?;
-        all.put_uses(&uses);
+        all.put_clause(s.text.as_slice(), c);
     }
     for m in sent {
         let reaches = match m.to {
@@ -206,5 +220,5 @@ pub fn deeds_of(alloc: Global, s: &ReadSource, sent: &[Sent<'_>]) -> Result<Grou
             all.put_message(m);
         }
     }
-    if all.spent { Err(Starved) } else { Ok(all) }
+    all
 }

@@ -42,10 +42,10 @@ impl Drop for HintsTold {
 fn put_clause<'a>(here: &Here<'a>, number: usize, sheet: &mut Sheet) {
     let said = &here.clause.said;
     put_once(here.alloc, here.marks, said, sheet);
-    let Ok(uses) = uses_of(here.alloc, here.marks, said) else {
-        sheet.spend();
-        return;
-    };
+    let uses = uses_of(here.alloc, here.marks, said);
+    if uses.spent {
+        sheet.spent = true;
+    }
     for u in uses.literals.as_slice() {
         let last = if u.literal.neg {
             u.at.saturating_add(1)
@@ -73,14 +73,23 @@ fn sorted(hints: Hints) -> Result<Hints, Starved>
     Ok(Seq::from_vec(all))
 }
 
-fn finding_of(alloc: Global, bytes: &[u8], h: &Hint) -> Result<Finding, Starved> {
-    let line = h.place.line;
-    let column = h.place.column;
-    Ok(Finding {
-        line,
-        column,
-        about: about(alloc, bytes, line, column, &h.reason)?,
-    })
+/// The findings of hints in a file of these bytes.
+fn findings_of(alloc: Global, bytes: &[u8], hints: &[Hint]) -> Result<Findings, Starved>
+    ensures { IfOk result (λ fs. length fs ≡ length hints.now) }
+{
+    let mut findings = Seq::new(alloc);
+    let mut rest = hints;
+    'hints: while let Some((h, after)) = rest.split_first() {
+        let line = h.place.line;
+        let column = h.place.column;
+        findings.push(Finding {
+            line,
+            column,
+            about: about(alloc, bytes, line, column, &h.reason)?,
+        })?;
+        rest = after;
+    }
+    Ok(findings)
 }
 
 /// The hints of a file of this name and these bytes, in their order, as they are shown.
@@ -88,14 +97,12 @@ fn told_in(alloc: Global, file: &Text, bytes: &Text, hints: Hints) -> Result<Hin
     ensures { IfOk result (λ t. length t.findings ≡ length hints) }
 {
     let ordered = sorted(hints)?;
-    let shown = shown(alloc, file.as_slice())?;
-    let mut findings = Seq::new(alloc);
-    let mut rest = ordered.as_slice();
-    'hints: while let Some((h, after)) = rest.split_first() {
-        findings.push(finding_of(alloc, bytes.as_slice(), h)?)?;
-        rest = after;
-    }
-    Ok(HintsTold { shown, findings })
+    let findings = findings_of(alloc, bytes.as_slice(), ordered.as_slice());
+    drop(ordered);
+    Ok(HintsTold {
+        findings: findings?,
+        shown: shown(alloc, file.as_slice())?,
+    })
 }
 
 /// The hints at the goals of all clauses for which their source has no plan.
@@ -106,8 +113,7 @@ fn all_goal_hints(alloc: Global, tells_plans: bool, m: &Member) -> Result<Hints,
     let mut all = Seq::new(alloc);
     let mut rest = m.source.clauses.as_slice();
     'clauses: while let Some((c, after)) = rest.split_first() {
-        let marks = marks_of(alloc, m.source.text.as_slice(), c.toks.as_slice())?;
-        all.append_all(planless(alloc, tells_plans, m, c, marks.as_slice())?)?;
+        all.append_all(planless(alloc, tells_plans, m, c)?)?;
         rest = after;
     }
     Ok(all)
@@ -122,7 +128,11 @@ fn other_hints(
 ) -> Result<Hints, Starved> {
     let mut sheet = new_sheet(alloc);
     for (number, clause) in member.source.clauses.as_slice().iter().enumerate() {
-        let marks = marks_of(alloc, member.source.text.as_slice(), clause.toks.as_slice())?;
+        let Ok(marks) = marks_of(alloc, member.source.text.as_slice(), clause.toks.as_slice())
+        else {
+            sheet.spent = true;
+            break;
+        };
         let here = Here {
             alloc,
             project: &*project,
@@ -155,8 +165,10 @@ pub fn member_told(
 pub fn world_told(alloc: Global, w: &ReadWorld) -> Result<HintsTold, Starved> {
     let mut sheet = new_sheet(alloc);
     for piece in w.written.as_slice() {
-        let marks = marks_of(alloc, w.text.as_slice(), piece.as_slice())?;
-        put_singles(alloc, marks.as_slice(), Subject::Once, None, &mut sheet);
+        match marks_of(alloc, w.text.as_slice(), piece.as_slice()) {
+            Ok(marks) => put_singles(alloc, marks.as_slice(), Subject::Once, None, &mut sheet),
+            Err(_) => sheet.spent = true,
+        }
     }
     told_in(alloc, &w.file, &w.bytes, sheet.into_hints()?)
 }

@@ -11,44 +11,20 @@ use crate::uses::{Called, Uses};
 use asl_lexer::token::{Sign, Word};
 use asl_parser_tree::plain::is_plain;
 use asl_term::syntax::{ArgOf, Kind, Literal, Term, Trigger};
-use look_reasons::mark::Mark;
+use look_reasons::mark::{Mark, is_listed};
 
 /// Annotations that a failure has in Jason, and not here.
-static FOREIGN: [&[u8]; 6] = [
-    b"error_msg",
-    b"code",
-    b"code_src",
-    b"code_line",
-    b"reason",
-    b"env_failure_reason",
-];
+const FOREIGN: &[u8] = b"error_msg code code_src code_line reason env_failure_reason";
 
 /// The errors of failures.
-static ERRORS: [&[u8]; 8] = [
-    b"no_relevant",
-    b"no_applicable",
-    b"action_failed",
-    b"ia_failed",
-    b"test_failed",
-    b"arith",
-    b"term_limit",
-    b"not_ground",
-];
+const ERRORS: &[u8] =
+    b"no_relevant no_applicable action_failed ia_failed test_failed arith term_limit not_ground";
 
 /// Errors that have another name here.
-static RENAMED: [&[u8]; 2] = [b"constraint_failed", b"test_goal_failed"];
+const RENAMED: &[u8] = b"constraint_failed test_goal_failed";
 
 /// The internal actions that are about a goal.
-static OF_GOALS: [&[u8]; 3] = [b"succeed_goal", b"fail_goal", b"intend"];
-
-fn is_word(words: &[&[u8]], name: &[u8]) -> bool {
-    for word in words {
-        if *word == name {
-            return true;
-        }
-    }
-    false
-}
+const OF_GOALS: &[u8] = b"succeed_goal fail_goal intend";
 
 /// Puts a hint about a word of a failure's trigger.
 fn put_word<'a>(
@@ -69,7 +45,7 @@ fn put_word<'a>(
 /// Puts hints at an annotation of a failure's trigger.
 fn put_annotation(here: &Here<'_>, l: &Literal, sheet: &mut Sheet) {
     let functor = l.functor.as_slice();
-    if is_word(&FOREIGN, functor) {
+    if is_listed(FOREIGN, functor) {
         put_word(here, Subject::Annotation, functor, b"", sheet);
     }
     let name = match l.args.as_slice() {
@@ -78,12 +54,12 @@ fn put_annotation(here: &Here<'_>, l: &Literal, sheet: &mut Sheet) {
     };
     if let Some(name) = name {
         let name = name.as_slice();
-        let note: &[u8] = if is_word(&RENAMED, name) {
+        let note: &[u8] = if is_listed(RENAMED, name) {
             b"it is test_failed here"
         } else {
             b"there are: no_relevant no_applicable action_failed ia_failed test_failed arith term_limit not_ground"
         };
-        if !is_word(&ERRORS, name) {
+        if !is_listed(ERRORS, name) {
             put_word(here, Subject::Error, name, note, sheet);
         }
     }
@@ -96,7 +72,7 @@ fn put_of_goal<'a>(here: &Here<'a>, goal: &'a Literal, c: &Called<'a>, sheet: &m
         Some(m) => m.text == goal.functor.as_slice(),
         None => false,
     };
-    if same && is_word(&OF_GOALS, name) {
+    if same && is_listed(OF_GOALS, name) {
         sheet.look(&Sight {
             text: name,
             asked: asked_of(here, here.member, goal),

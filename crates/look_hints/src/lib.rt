@@ -11,7 +11,7 @@ pub mod finding;
 pub mod hint;
 pub mod jason;
 pub mod messages;
-pub mod naming;
+pub mod pen;
 pub mod places;
 pub mod planless;
 pub mod printing;

@@ -7,71 +7,25 @@ use crate::sends::{Sent, atom_of, is_among, is_one_of, sent_by};
 use crate::sight::{Sight, asked_of, sight_at};
 use crate::telling::Sheet;
 use crate::uses::Called;
-use asl_term::syntax::Term;
+use asl_term::syntax::{Term, Text};
+use look_reasons::mark::is_listed;
 
-/// A verb, whether a message to all may have it, and what is looked at of its content.
-struct Verb {
-    word: &'static [u8],
-    to_all: bool,
-    content: Option<Subject>,
-}
+/// The verbs of messages to one agent and to all, and those of messages to one agent alone.
+const VERBS: &[u8] = b"tell untell achieve unachieve tellHow untellHow";
 
-static VERBS: [Verb; 9] = [
-    Verb {
-        word: b"tell",
-        to_all: true,
-        content: Some(Subject::Told),
-    },
-    Verb {
-        word: b"untell",
-        to_all: true,
-        content: None,
-    },
-    Verb {
-        word: b"achieve",
-        to_all: true,
-        content: Some(Subject::Achieved),
-    },
-    Verb {
-        word: b"unachieve",
-        to_all: true,
-        content: None,
-    },
-    Verb {
-        word: b"askOne",
-        to_all: false,
-        content: Some(Subject::Asked),
-    },
-    Verb {
-        word: b"askAll",
-        to_all: false,
-        content: Some(Subject::Asked),
-    },
-    Verb {
-        word: b"tellHow",
-        to_all: true,
-        content: None,
-    },
-    Verb {
-        word: b"untellHow",
-        to_all: true,
-        content: None,
-    },
-    Verb {
-        word: b"askHow",
-        to_all: false,
-        content: None,
-    },
-];
+const ASKS: &[u8] = b"askOne askAll askHow";
 
-/// The verb that this is.
-fn verb_of(word: &[u8]) -> Option<&'static Verb> {
-    for verb in &VERBS {
-        if verb.word == word {
-            return Some(verb);
-        }
+/// What is looked at of the content of a message with this verb.
+fn looked_at(verb: &[u8]) -> Option<Subject> {
+    if verb == b"tell".as_slice() {
+        Some(Subject::Told)
+    } else if verb == b"achieve".as_slice() {
+        Some(Subject::Achieved)
+    } else if is_listed(b"askOne askAll", verb) {
+        Some(Subject::Asked)
+    } else {
+        None
     }
-    None
 }
 
 /// A message of a plan, and where its receiver or else its verb, its verb and its content begin.
@@ -89,10 +43,11 @@ fn put_verb(here: &Here<'_>, w: &Written<'_>, sheet: &mut Sheet) -> Option<Subje
     let all = w.sent.to.is_none();
     let mut at = w.verb;
     if let Some(name) = atom_of(w.sent.verb) {
-        match verb_of(name.as_slice()) {
-            Some(verb) if verb.to_all || !all => return verb.content,
-            _ => at = place_of(here.marks, w.verb, Sought::Atom),
+        let verb = name.as_slice();
+        if is_listed(VERBS, verb) || (!all && is_listed(ASKS, verb)) {
+            return looked_at(verb);
         }
+        at = place_of(here.marks, w.verb, Sought::Atom);
     } else if !matches!(w.sent.verb, Term::Num(_) | Term::Str(_) | Term::List(_)) {
         return None;
     }
@@ -129,17 +84,26 @@ fn put_content<'a>(here: &Here<'a>, w: &Written<'a>, subject: Subject, sheet: &m
     }
 }
 
+/// Whether an agent of the project has this name.
+fn is_agent(here: &Here<'_>, name: &Text) -> bool {
+    for m in here.project.members.as_slice() {
+        if is_among(m.source.agents.as_slice(), name) {
+            return true;
+        }
+    }
+    false
+}
+
 /// Puts a hint where a message goes to a list or a string, or to a name that no agent has.
 fn put_receiver<'a>(here: &Here<'a>, w: &Written<'a>, to: &'a Term, sheet: &mut Sheet) {
-    let agents = here.project.agents.as_slice();
     match (to, atom_of(to)) {
         (Term::List(_), _) => sheet.look(&sight_at(here, Subject::ToList, w.name)),
         (Term::Str(_), _) => sheet.look(&sight_at(here, Subject::ToString, w.name)),
-        (_, Some(name)) if !is_among(agents, name) => {
+        (_, Some(name)) if !is_agent(here, name) => {
             let at = place_of(here.marks, w.first, Sought::Atom);
             sheet.look(&Sight {
                 text: name.as_slice(),
-                names: agents,
+                members: here.project.members.as_slice(),
                 ..sight_at(here, Subject::ToNobody, at)
             });
         }

@@ -1,7 +1,7 @@
 //! Where the parts of a clause stand among its tokens. The clause is one that is read.
 
 use asl_lexer::token::{Sign, Word};
-use look_reasons::mark::{Mark, is_relation, is_sign};
+use look_reasons::mark::{Mark, cut_at, is_relation, is_sign};
 
 /// A token that is looked for.
 #[derive(Clone, Copy)]
@@ -19,10 +19,10 @@ fn is_sought(m: &Mark<'_>, sought: Sought<'_>) -> bool {
     match sought {
         Sought::Text(text) => m.text == text,
         Sought::Sign(sign) => is_sign(m.word, sign),
-        Sought::Inner(name) => match m.text {
-            [b'.', rest @ ..] => rest == name,
-            _ => false,
-        },
+        Sought::Inner(name) => {
+            let (front, behind) = cut_at(m.text, b'.');
+            front.is_empty() && behind == name
+        }
         Sought::Atom => matches!(m.word, Word::Atom),
     }
 }

@@ -1,18 +1,18 @@
 //! Goals for which a source has no plan.
 
 ghost use Rattle.std.specs.Prelude.{◌≡◌, map, IfOk};
-ghost use Rattle.look_names.specs.Goals.{unplanned};
+ghost use Rattle.look_pieces.specs.Goals.{unplanned};
 ghost use Rattle.look_hints.specs.Planless as spec;
 
 use crate::hint::{Code, Hint, Hints, Span, span_to};
+use crate::pen::told_by_rule;
 use crate::project::Member;
 use crate::rules::{Subject, planless_rule};
 use crate::sight::{Asked, Sight, sight_of};
-use crate::telling::told_by_rule;
 use asl_term::sequence::{Seq, Starved};
-use look_names::clause::ReadClause;
-use look_names::goals::{PlacedGoal, unplanned};
-use look_reasons::mark::Mark;
+use look_pieces::clause::ReadClause;
+use look_pieces::goals::{PlacedGoal, unplanned};
+use look_reasons::mark::{Mark, marks_of};
 use std::alloc::Global;
 
 /// The bytes of a goal that begins at a place: its `~` and its functor.
@@ -55,20 +55,21 @@ fn planless_hint<'a>(
     Ok(h)
 }
 
-/// The hints at the places of goals.
+/// The hints at the places of goals of a clause.
 #[tactic(auto, using(crate::proofs::Spots::more, crate::proofs::Spots::all))]
 fn hints_at(
     alloc: Global,
     m: &Member,
-    marks: &[Mark<'_>],
+    c: &ReadClause,
     goals: &[PlacedGoal],
 ) -> Result<Hints, Starved>
     ensures { IfOk result (λ hs. map spec.spot hs ≡ map spec.spot_of goals.now) }
 {
+    let marks = marks_of(alloc, m.source.text.as_slice(), c.toks.as_slice())?;
     let mut all = Seq::new(alloc);
     let mut rest = goals;
     'goals: while let Some((p, after)) = rest.split_first() {
-        all.push(planless_hint(alloc, m, marks, p)?)?;
+        all.push(planless_hint(alloc, m, marks.as_slice(), p)?)?;
         rest = after;
     }
     Ok(all)
@@ -80,7 +81,6 @@ pub fn planless(
     tells_plans: bool,
     m: &Member,
     c: &ReadClause,
-    marks: &[Mark<'_>],
 ) -> Result<Hints, Starved>
     ensures { IfOk result (λ hs. map spec.spot hs ≡ spec.planless tells_plans m.now.source.clauses c.now) }
 {
@@ -88,7 +88,7 @@ pub fn planless(
         return Ok(Seq::new(alloc));
     }
     let goals = unplanned(alloc, m.source.clauses.as_slice(), c)?;
-    let hints = hints_at(alloc, m, marks, goals.as_slice());
+    let hints = hints_at(alloc, m, c, goals.as_slice());
     drop(goals);
     hints
 }

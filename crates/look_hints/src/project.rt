@@ -4,10 +4,8 @@ use crate::deeds::{Groups, deeds_of};
 use crate::reading::ReadSource;
 use crate::sends::{all_sent, tells_plans};
 use crate::world::ReadWorld;
-use asl_term::copying::copy_text;
 use asl_term::sequence::{Seq, Starved};
-use asl_term::syntax::Text;
-use look_names::clause::ReadClause;
+use look_pieces::clause::ReadClause;
 use look_reasons::mark::Mark;
 use std::alloc::Global;
 
@@ -27,11 +25,10 @@ impl Drop for Member {
     }
 }
 
-/// The sources, the world, where there is one, the names of all agents, and whether some message may tell a plan.
+/// The sources, the world, where there is one, and whether some message may tell a plan.
 pub struct ReadProject {
     pub members: Seq<Member>,
     pub world: Option<ReadWorld>,
-    pub agents: Seq<Text>,
     pub tells_plans: bool,
 }
 
@@ -41,7 +38,6 @@ impl Drop for ReadProject {
         let ReadProject {
             members: _,
             world: _,
-            agents: _,
             tells_plans: _,
         } = self;
     }
@@ -59,24 +55,36 @@ pub struct Here<'a> {
     pub marks: &'a [Mark<'a>],
 }
 
-fn names_of(alloc: Global, sources: &[ReadSource]) -> Result<Seq<Text>, Starved> {
-    let mut all = Seq::new(alloc);
-    for s in sources {
-        for name in s.agents.as_slice() {
-            all.push(copy_text(alloc, name)?)?;
-        }
-    }
-    Ok(all)
-}
-
 /// What each source does, and whether some message may tell a plan.
 fn all_deeds(alloc: Global, sources: &[ReadSource]) -> Result<(Seq<Groups>, bool), Starved> {
     let sent = all_sent(alloc, sources)?;
     let mut all = Seq::new(alloc);
+    let mut spent = false;
     for s in sources {
-        all.push(deeds_of(alloc, s, sent.as_slice())?)?;
+        let deeds = deeds_of(alloc, s, sent.as_slice());
+        spent = spent || deeds.spent;
+        spent = all.push(deeds).is_err() || spent;
+    }
+    if spent {
+        return Err(Starved);
     }
     Ok((all, tells_plans(sent.as_slice())))
+}
+
+/// These sources, each with what it does.
+fn members_of(sources: Seq<ReadSource>, deeds: Seq<Groups>) -> Result<Seq<Member>, Starved> {
+    let mut members = Seq::new(sources.alloc());
+    let mut sources = sources;
+    let mut deeds = deeds;
+    for _ in 0..sources.len() {
+        if let Some(source) = sources.pop() {
+            if let Some(deeds) = deeds.pop() {
+                members.push(Member { source, deeds })?;
+            }
+        }
+    }
+    members.reverse();
+    Ok(members)
 }
 
 /// The project of these sources and this world.
@@ -85,24 +93,10 @@ pub fn project_of(
     sources: Seq<ReadSource>,
     world: Option<ReadWorld>,
 ) -> Result<ReadProject, Starved> {
-    let agents = names_of(alloc, sources.as_slice())?;
-    let (mut deeds, tells_plans) = all_deeds(alloc, sources.as_slice())?;
-    let mut members = Seq::new(alloc);
-    let mut sources = sources;
-    for _ in 0..sources.len() {
-        let Some(source) = sources.pop() else {
-            break;
-        };
-        let Some(deeds) = deeds.pop() else {
-            break;
-        };
-        members.push(Member { source, deeds })?;
-    }
-    members.reverse();
+    let (deeds, tells_plans) = all_deeds(alloc, sources.as_slice())?;
     Ok(ReadProject {
-        members,
+        members: members_of(sources, deeds)?,
         world,
-        agents,
         tells_plans,
     })
 }

@@ -89,69 +89,27 @@ pub enum Test {
     Item,
 }
 
-/// A part of what is said.
-#[derive(Clone, Copy)]
-pub enum Say {
-    Words(&'static [u8]),
-    /// The name of the literal, and its functor.
-    Name,
-    Functor,
-    /// The agents of the source, and its file.
-    Agents,
-    File,
-    Text,
-    Rest,
-    Names,
-    Term,
-    Item,
-    Line,
-    /// `there is p/1  p/3`, where there is one.
-    Same(Among),
-}
-
-/// A note, where these tests hold, or do not.
-pub struct Note {
-    pub tests: &'static [(Test, bool)],
-    pub words: &'static [Say],
-}
-
-/// What is said of a subject, where these tests hold, or do not.
+/// What is said of a subject where these tests hold, or do not: a line is the reason, and a second one, where there is one, a note. A `$` and the letter
+/// behind it stand for a part: see `put_part` of pen.
 pub struct Rule {
     pub subject: Subject,
     pub tests: &'static [(Test, bool)],
     pub code: Code,
-    pub words: &'static [Say],
-    pub notes: &'static [Note],
+    pub told: &'static [u8],
+}
+
+/// A further note that is said of a subject where these tests hold, or do not.
+pub struct Note {
+    pub subject: Subject,
+    pub tests: &'static [(Test, bool)],
+    pub told: &'static [u8],
 }
 
 static PLANLESS: Rule = Rule {
     subject: Subject::Planless,
     tests: &[],
     code: Code::NoPlan,
-    words: &[
-        Say::Words(b"no plan +!"),
-        Say::Name,
-        Say::Words(b" in "),
-        Say::File,
-    ],
-    notes: &[
-        Note {
-            tests: &[],
-            words: &[Say::Same(Among::Planned)],
-        },
-        Note {
-            tests: &[(Test::Plan(false, Kind::Achieve), true)],
-            words: &[
-                Say::Words(b"its failure plan -!"),
-                Say::Name,
-                Say::Words(b" is taken"),
-            ],
-        },
-        Note {
-            tests: &[(Test::Plan(true, Kind::Belief), true)],
-            words: &[Say::Words(b"there is a plan for the belief +"), Say::Name],
-        },
-    ],
+    told: b"no plan +!$n in $F\n$P",
 };
 
 static LITERALS: [Rule; 9] = [
@@ -159,25 +117,13 @@ static LITERALS: [Rule; 9] = [
         subject: Subject::Held,
         tests: &[(Test::May(Among::Known), false)],
         code: Code::Never,
-        words: &[
-            Say::Words(b"nothing ever makes "),
-            Say::Name,
-            Say::Words(b": this never holds"),
-        ],
-        notes: &[Note {
-            tests: &[],
-            words: &[Say::Same(Among::Known)],
-        }],
+        told: b"nothing ever makes $n: this never holds\n$K",
     },
     Rule {
         subject: Subject::Deleted,
         tests: &[(Test::May(Among::Known), false)],
         code: Code::Never,
-        words: &[Say::Words(b"nothing ever makes "), Say::Name],
-        notes: &[Note {
-            tests: &[],
-            words: &[Say::Same(Among::Known)],
-        }],
+        told: b"nothing ever makes $n\n$K",
     },
     Rule {
         subject: Subject::Tested,
@@ -187,81 +133,19 @@ static LITERALS: [Rule; 9] = [
             (Test::Plan(true, Kind::Test), false),
         ],
         code: Code::NoAnswer,
-        words: &[
-            Say::Words(b"no belief, rule, percept, message or plan +?"),
-            Say::Name,
-            Say::Words(b" answers this"),
-        ],
-        notes: &[Note {
-            tests: &[],
-            words: &[Say::Same(Among::Known)],
-        }],
+        told: b"no belief, rule, percept, message or plan +?$n answers this\n$K",
     },
     Rule {
         subject: Subject::Acted,
         tests: &[(Test::May(Among::Acts), false), (Test::World, true)],
         code: Code::NoAct,
-        words: &[
-            Say::Words(b"no act "),
-            Say::Name,
-            Say::Words(b" in the world"),
-        ],
-        notes: &[
-            Note {
-                tests: &[(Test::Plan(true, Kind::Achieve), true)],
-                words: &[
-                    Say::Words(b"a goal begins with !: there is a plan +!"),
-                    Say::Name,
-                ],
-            },
-            Note {
-                tests: &[(Test::Internal, true)],
-                words: &[
-                    Say::Words(b"an internal action begins with a dot: ."),
-                    Say::Functor,
-                ],
-            },
-            Note {
-                tests: &[
-                    (Test::Plan(true, Kind::Achieve), false),
-                    (Test::Deed, false),
-                ],
-                words: &[Say::Same(Among::Acts)],
-            },
-        ],
+        told: b"no act $n in the world",
     },
     Rule {
         subject: Subject::Acted,
         tests: &[(Test::May(Among::Acts), false), (Test::World, false)],
         code: Code::NoAct,
-        words: &[
-            Say::Words(b"no act "),
-            Say::Name,
-            Say::Words(b": the project has no world"),
-        ],
-        notes: &[
-            Note {
-                tests: &[(Test::Plan(true, Kind::Achieve), true)],
-                words: &[
-                    Say::Words(b"a goal begins with !: there is a plan +!"),
-                    Say::Name,
-                ],
-            },
-            Note {
-                tests: &[(Test::Internal, true)],
-                words: &[
-                    Say::Words(b"an internal action begins with a dot: ."),
-                    Say::Functor,
-                ],
-            },
-            Note {
-                tests: &[
-                    (Test::Plan(true, Kind::Achieve), false),
-                    (Test::Deed, false),
-                ],
-                words: &[Say::Same(Among::Acts)],
-            },
-        ],
+        told: b"no act $n: the project has no world",
     },
     Rule {
         subject: Subject::Achieved,
@@ -270,16 +154,7 @@ static LITERALS: [Rule; 9] = [
             (Test::Plan(true, Kind::Achieve), false),
         ],
         code: Code::NoPlan,
-        words: &[
-            Say::Words(b"no plan +!"),
-            Say::Name,
-            Say::Words(b" at "),
-            Say::Agents,
-        ],
-        notes: &[Note {
-            tests: &[],
-            words: &[Say::Same(Among::Planned)],
-        }],
+        told: b"no plan +!$n at $a\n$P",
     },
     Rule {
         subject: Subject::Told,
@@ -289,43 +164,19 @@ static LITERALS: [Rule; 9] = [
             (Test::May(Among::Changed), false),
         ],
         code: Code::Unused,
-        words: &[
-            Say::Agents,
-            Say::Words(b" neither asks for "),
-            Say::Name,
-            Say::Words(b" nor has a plan for +"),
-            Say::Name,
-        ],
-        notes: &[Note {
-            tests: &[],
-            words: &[Say::Same(Among::Used)],
-        }],
+        told: b"$a neither asks for $n nor has a plan for +$n\n$U",
     },
     Rule {
         subject: Subject::Asked,
         tests: &[(Test::May(Among::Known), false)],
         code: Code::NoAnswer,
-        words: &[
-            Say::Agents,
-            Say::Words(b" has no belief or rule "),
-            Say::Name,
-        ],
-        notes: &[Note {
-            tests: &[],
-            words: &[Say::Same(Among::Known)],
-        }],
+        told: b"$a has no belief or rule $n\n$K",
     },
     Rule {
         subject: Subject::Asked,
         tests: &[(Test::Plan(true, Kind::Test), true)],
         code: Code::Jason,
-        words: &[
-            Say::Words(b"an ask is answered by beliefs and rules alone, not by the plan +?"),
-            Say::Name,
-            Say::Words(b" of "),
-            Say::Agents,
-        ],
-        notes: &[],
+        told: b"an ask is answered by beliefs and rules alone, not by the plan +?$n of $a",
     },
 ];
 
@@ -334,146 +185,73 @@ static PLANS: [Rule; 12] = [
         subject: Subject::Covered,
         tests: &[],
         code: Code::Covered,
-        words: &[
-            Say::Words(b"this plan is never taken: the one of line "),
-            Say::Line,
-            Say::Words(b" takes every such event first"),
-        ],
-        notes: &[],
+        told: b"this plan is never taken: the one of line $l takes every such event first",
     },
     Rule {
         subject: Subject::Goal,
         tests: &[(Test::May(Among::Posted), false)],
         code: Code::NotCalled,
-        words: &[
-            Say::Words(b"nobody ever posts !"),
-            Say::Name,
-            Say::Words(b" to "),
-            Say::Agents,
-        ],
-        notes: &[Note {
-            tests: &[],
-            words: &[Say::Same(Among::Goals)],
-        }],
+        told: b"nobody ever posts !$n to $a\n$G",
     },
     Rule {
         subject: Subject::Question,
         tests: &[(Test::May(Among::Questions), false)],
         code: Code::NotCalled,
-        words: &[Say::Agents, Say::Words(b" never asks ?"), Say::Name],
-        notes: &[],
+        told: b"$a never asks ?$n",
     },
     Rule {
         subject: Subject::Comes,
         tests: &[(Test::May(Among::Changing), false)],
         code: Code::NotCalled,
-        words: &[
-            Say::Words(b"no belief "),
-            Say::Name,
-            Say::Words(b" ever comes"),
-        ],
-        notes: &[
-            Note {
-                tests: &[(Test::Is(Among::Posted), true)],
-                words: &[Say::Words(b"a plan for a goal begins with +!")],
-            },
-            Note {
-                tests: &[(Test::Is(Among::Posted), false)],
-                words: &[Say::Same(Among::Known)],
-            },
-        ],
+        told: b"no belief $n ever comes",
     },
     Rule {
         subject: Subject::Goes,
         tests: &[(Test::May(Among::Changing), false)],
         code: Code::NotCalled,
-        words: &[
-            Say::Words(b"no belief "),
-            Say::Name,
-            Say::Words(b" ever goes"),
-        ],
-        notes: &[Note {
-            tests: &[(Test::Is(Among::Posted), false)],
-            words: &[Say::Same(Among::Known)],
-        }],
+        told: b"no belief $n ever goes",
     },
     Rule {
         subject: Subject::Endless,
         tests: &[],
         code: Code::Endless,
-        words: &[
-            Say::Words(b"every plan for !"),
-            Say::Name,
-            Say::Words(b" posts !"),
-            Say::Name,
-            Say::Words(b" again: it ends at the limit of cycles or by a failure"),
-        ],
-        notes: &[],
+        told: b"every plan for !$n posts !$n again: it ends at the limit of cycles or by a failure",
     },
     Rule {
         subject: Subject::Received,
         tests: &[],
         code: Code::Jason,
-        words: &[
-            Say::Words(b"no rule posts !"),
-            Say::Functor,
-            Say::Words(b" here: this plan is never called"),
-        ],
-        notes: &[Note {
-            tests: &[],
-            words: &[Say::Words(
-                b"a plan for +b[source(A)] or +!g[source(A)], with a context over A",
-            )],
-        }],
+        told: b"no rule posts !$f here: this plan is never called\na plan for +b[source(A)] or +!g[source(A)], with a context over A",
     },
     Rule {
         subject: Subject::ToNobody,
         tests: &[],
         code: Code::NoAgent,
-        words: &[Say::Words(b"no agent has the name "), Say::Text],
-        notes: &[Note {
-            tests: &[],
-            words: &[Say::Words(b"there are:"), Say::Names],
-        }],
+        told: b"no agent has the name $t\nthere are:$N",
     },
     Rule {
         subject: Subject::ToList,
         tests: &[],
         code: Code::Jason,
-        words: &[Say::Words(b"a message goes to one agent: to a list this fails with ia_failed")],
-        notes: &[Note {
-            tests: &[],
-            words: &[Say::Words(b".broadcast, or one .send for each")],
-        }],
+        told: b"a message goes to one agent: to a list this fails with ia_failed\n.broadcast, or one .send for each",
     },
     Rule {
         subject: Subject::ToString,
         tests: &[],
         code: Code::Jason,
-        words: &[Say::Words(b"an agent's name is an atom: to a string this fails with ia_failed")],
-        notes: &[],
+        told: b"an agent's name is an atom: to a string this fails with ia_failed",
     },
     Rule {
         subject: Subject::Verb,
         tests: &[],
         code: Code::NoVerb,
-        words: &[Say::Words(b"no message has the verb "), Say::Term],
-        notes: &[Note {
-            tests: &[],
-            words: &[Say::Words(
-                b"there are: tell untell achieve unachieve askOne askAll tellHow untellHow askHow",
-            )],
-        }],
+        told: b"no message has the verb $T\nthere are: tell untell achieve unachieve askOne askAll tellHow untellHow askHow",
     },
     Rule {
         subject: Subject::VerbToAll,
         tests: &[],
         code: Code::NoVerb,
-        words: &[Say::Words(b"no message has the verb "), Say::Term],
-        notes: &[Note {
-            tests: &[],
-            words: &[Say::Words(b"there are: tell untell achieve unachieve tellHow untellHow")],
-        }],
+        told: b"no message has the verb $T\nthere are: tell untell achieve unachieve tellHow untellHow",
     },
 ];
 
@@ -482,118 +260,105 @@ static FORMS: [Rule; 8] = [
         subject: Subject::Annotation,
         tests: &[],
         code: Code::Jason,
-        words: &[
-            Say::Words(b"a failure has error(E) alone: with "),
-            Say::Text,
-            Say::Words(b" this plan is never relevant"),
-        ],
-        notes: &[],
+        told: b"a failure has error(E) alone: with $t this plan is never relevant",
     },
     Rule {
         subject: Subject::Error,
         tests: &[],
         code: Code::Jason,
-        words: &[
-            Say::Words(b"no error has the name "),
-            Say::Text,
-            Say::Words(b": this plan is never relevant"),
-        ],
-        notes: &[Note {
-            tests: &[],
-            words: &[Say::Rest],
-        }],
+        told: b"no error has the name $t: this plan is never relevant\n$r",
     },
     Rule {
         subject: Subject::FailedGoal,
         tests: &[],
         code: Code::Jason,
-        words: &[
-            Say::Words(b"the failed goal is gone while its failure plan runs: ."),
-            Say::Text,
-            Say::Words(b" does not meet it"),
-        ],
-        notes: &[Note {
-            tests: &[],
-            words: &[
-                Say::Words(b"a goal above it: +!want <- !"),
-                Say::Functor,
-                Say::Words(b"; and ."),
-                Say::Text,
-                Say::Words(b"(want)"),
-            ],
-        }],
+        told: b"the failed goal is gone while its failure plan runs: .$t does not meet it\na goal above it: +!want <- !$f; and .$t(want)",
     },
     Rule {
         subject: Subject::Joined,
         tests: &[],
         code: Code::Jason,
-        words: &[Say::Words(b"+ joins no strings: it fails with arith")],
-        notes: &[Note {
-            tests: &[],
-            words: &[Say::Words(b".concat(\"a\", \"b\", R)")],
-        }],
+        told: b"+ joins no strings: it fails with arith\n.concat(\"a\", \"b\", R)",
     },
     Rule {
         subject: Subject::Compared,
         tests: &[],
         code: Code::Jason,
-        words: &[
-            Say::Text,
-            Say::Words(b" holds of numbers alone: of a string it never does"),
-        ],
-        notes: &[],
+        told: b"$t holds of numbers alone: of a string it never does",
     },
     Rule {
         subject: Subject::Collected,
         tests: &[],
         code: Code::Jason,
-        words: &[Say::Words(b"what .findall collects is not calculated")],
-        notes: &[Note {
-            tests: &[],
-            words: &[
-                Say::Words(b".findall(Y, .. & Y = "),
-                Say::Term,
-                Say::Words(b", L)"),
-            ],
-        }],
+        told: b"what .findall collects is not calculated\n.findall(Y, .. & Y = $T, L)",
     },
     Rule {
         subject: Subject::Once,
         tests: &[],
         code: Code::Once,
-        words: &[
-            Say::Words(b"the variable "),
-            Say::Text,
-            Say::Words(b" occurs once"),
-        ],
-        notes: &[
-            Note {
-                tests: &[(Test::Item, true)],
-                words: &[Say::Words(b"it has no value: "), Say::Item, Say::Rest],
-            },
-            Note {
-                tests: &[(Test::Item, false)],
-                words: &[
-                    Say::Words(b"_"),
-                    Say::Text,
-                    Say::Words(b" or _ where it is meant"),
-                ],
-            },
-        ],
+        told: b"the variable $t occurs once",
     },
     Rule {
         subject: Subject::OpenBelief,
         tests: &[],
         code: Code::OpenBelief,
-        words: &[
-            Say::Words(b"the variable "),
-            Say::Text,
-            Say::Words(b" occurs once, and so this belief is a rule that holds for everything"),
+        told: b"the variable $t occurs once, and so this belief is a rule that holds for everything\na name begins with a small letter",
+    },
+];
+
+static NOTES: [Note; 10] = [
+    Note {
+        subject: Subject::Planless,
+        tests: &[(Test::Plan(false, Kind::Achieve), true)],
+        told: b"its failure plan -!$n is taken",
+    },
+    Note {
+        subject: Subject::Planless,
+        tests: &[(Test::Plan(true, Kind::Belief), true)],
+        told: b"there is a plan for the belief +$n",
+    },
+    Note {
+        subject: Subject::Acted,
+        tests: &[(Test::Plan(true, Kind::Achieve), true)],
+        told: b"a goal begins with !: there is a plan +!$n",
+    },
+    Note {
+        subject: Subject::Acted,
+        tests: &[(Test::Internal, true)],
+        told: b"an internal action begins with a dot: .$f",
+    },
+    Note {
+        subject: Subject::Acted,
+        tests: &[
+            (Test::Plan(true, Kind::Achieve), false),
+            (Test::Deed, false),
         ],
-        notes: &[Note {
-            tests: &[],
-            words: &[Say::Words(b"a name begins with a small letter")],
-        }],
+        told: b"$A",
+    },
+    Note {
+        subject: Subject::Comes,
+        tests: &[(Test::Is(Among::Posted), true)],
+        told: b"a plan for a goal begins with +!",
+    },
+    Note {
+        subject: Subject::Comes,
+        tests: &[(Test::Is(Among::Posted), false)],
+        told: b"$K",
+    },
+    Note {
+        subject: Subject::Goes,
+        tests: &[(Test::Is(Among::Posted), false)],
+        told: b"$K",
+    },
+    Note {
+        subject: Subject::Once,
+        tests: &[(Test::Item, true)],
+        told: b"it has no value: $i$r",
+    },
+    Note {
+        subject: Subject::Once,
+        tests: &[(Test::Item, false)],
+        told: b"_$t or _ where it is meant",
     },
 ];
 
@@ -615,4 +380,9 @@ pub fn form_rules() -> &'static [Rule] {
 /// Of a goal for which its source has no plan.
 pub fn planless_rule() -> &'static Rule {
     &PLANLESS
+}
+
+/// The notes that have tests of their own.
+pub fn note_rows() -> &'static [Note] {
+    &NOTES
 }

@@ -8,6 +8,7 @@ use asl_term::sequence::Starved;
 use asl_term::syntax::{ArgOf, Call, Formula, Term, Text};
 use asl_term_actions::action::{Action, Deed};
 use asl_term_actions::named::known;
+use look_reasons::mark::is_listed;
 use std::alloc::Global;
 
 /// A message as it is written: to whom it goes, which is to all where there is none, its verb, what it says.
@@ -20,28 +21,27 @@ pub struct Sent<'a> {
 
 /// The message that a call sends.
 pub fn sent_by(c: &Call) -> Option<Sent<'_>> {
-    match known(&c.name, c.args.len()) {
-        Some(Action::Does(Deed::Send)) => match c.args.as_slice() {
-            [
-                ArgOf::Plain(to),
-                ArgOf::Plain(verb),
-                ArgOf::Plain(content),
-                ..
-            ] => Some(Sent {
-                to: Some(to),
-                verb,
-                content,
-            }),
-            _ => None,
-        },
-        Some(Action::Does(Deed::Broadcast)) => match c.args.as_slice() {
-            [ArgOf::Plain(verb), ArgOf::Plain(content)] => Some(Sent {
-                to: None,
-                verb,
-                content,
-            }),
-            _ => None,
-        },
+    let all = match known(&c.name, c.args.len()) {
+        Some(Action::Does(Deed::Send)) => false,
+        Some(Action::Does(Deed::Broadcast)) => true,
+        _ => return None,
+    };
+    match c.args.as_slice() {
+        [ArgOf::Plain(verb), ArgOf::Plain(content)] if all => Some(Sent {
+            to: None,
+            verb,
+            content,
+        }),
+        [
+            ArgOf::Plain(to),
+            ArgOf::Plain(verb),
+            ArgOf::Plain(content),
+            ..
+        ] if !all => Some(Sent {
+            to: Some(to),
+            verb,
+            content,
+        }),
         _ => None,
     }
 }
@@ -54,10 +54,10 @@ pub fn atom_of(t: &Term) -> Option<&Text> {
     }
 }
 
-/// Whether a verb is this word, or may be, since it is no atom.
-pub fn may_be(verb: &Term, word: &[u8]) -> bool {
+/// Whether a verb is one of these words, or may be, since it is no atom.
+pub fn may_be(verb: &Term, words: &[u8]) -> bool {
     match atom_of(verb) {
-        Some(v) => v.as_slice() == word,
+        Some(v) => is_listed(words, v.as_slice()),
         None => true,
     }
 }
@@ -83,25 +83,27 @@ pub fn is_one_of(to: &Term, agents: &[Text]) -> bool {
 /// The messages of all plans.
 pub fn all_sent<'a>(alloc: Global, sources: &'a [ReadSource]) -> Result<Vec<Sent<'a>>, Starved> {
     let mut all = Vec::new(alloc);
+    let mut spent = false;
     for s in sources {
         for c in s.clauses.as_slice() {
-            if let Sentence::Plan(p) = &c.said {
-                put_sent(p.body.as_slice(), &mut all)?;
+            for f in body_of(&c.said) {
+                if let Formula::Inner(call) = f {
+                    if let Some(sent) = sent_by(call) {
+                        spent = all.push(sent).is_err() || spent;
+                    }
+                }
             }
         }
     }
-    Ok(all)
+    if spent { Err(Starved) } else { Ok(all) }
 }
 
-fn put_sent<'a>(body: &'a [Formula], all: &mut Vec<Sent<'a>>) -> Result<(), Starved> {
-    for f in body {
-        if let Formula::Inner(c) = f {
-            if let Some(sent) = sent_by(c) {
-                all.push(sent)?;
-            }
-        }
+/// The items of a plan.
+fn body_of(said: &Sentence) -> &[Formula] {
+    match said {
+        Sentence::Plan(p) => p.body.as_slice(),
+        _ => &[],
     }
-    Ok(())
 }
 
 /// Whether some message may tell a plan.

@@ -4,11 +4,11 @@ use crate::deeds::{Group, Groups, Set};
 use crate::hint::{Span, span_to};
 use crate::project::{Here, Member};
 use crate::rules::{Among, Subject, Test};
-use asl_term::syntax::{Formula, Literal, Term, Text};
+use asl_term::syntax::{Formula, Literal, Term};
 use asl_term_actions::action::stands_in_formula;
 use asl_term_actions::named::named;
-use look_names::clause::has_plan;
-use look_names::name::has_name;
+use look_pieces::clause::has_plan;
+use look_pieces::name::has_name;
 
 /// A literal, the source of whose agents something is asked about its name, and the names of the world.
 #[derive(Clone, Copy)]
@@ -29,7 +29,8 @@ pub struct Sight<'a> {
     /// A name or a token, and what follows from it.
     pub text: &'a [u8],
     pub rest: &'a [u8],
-    pub names: &'a [Text],
+    /// The sources whose agents are named.
+    pub members: &'a [Member],
     pub term: Option<&'a Term>,
     pub item: Option<&'a Formula>,
     pub line: u64,
@@ -42,7 +43,7 @@ pub fn sight_of(subject: Subject, span: Span) -> Sight<'static> {
         asked: None,
         text: b"",
         rest: b"",
-        names: &[],
+        members: &[],
         term: None,
         item: None,
         line: 0,
@@ -129,12 +130,13 @@ fn holds_of(a: &Asked<'_>, test: Test) -> bool {
     }
 }
 
-/// Whether each of these tests holds, or does not, as is wanted.
+/// Whether each of these tests holds, or does not, as is wanted. One of a literal does not hold where there is none.
 pub fn hold(s: &Sight<'_>, tests: &[(Test, bool)]) -> bool {
     for (test, wanted) in tests {
-        let holds = match &s.asked {
-            Some(a) => holds_of(a, *test),
-            None => s.item.is_some(),
+        let holds = match (*test, &s.asked) {
+            (Test::Item, _) => s.item.is_some(),
+            (test, Some(a)) => holds_of(a, test),
+            (_, None) => false,
         };
         if holds != *wanted {
             return false;

@@ -168,7 +168,7 @@ fn first_failing<'a>(alloc: Global, p: &'a Plan, x: &Var, sheet: &mut Sheet) -> 
         }
     }
     if parts.spent {
-        sheet.spend();
+        sheet.spent = true;
     }
     failing
 }
@@ -188,7 +188,7 @@ fn failing_item<'a>(
                 drop(x);
                 return failing;
             }
-            Err(_) => sheet.spend(),
+            Err(_) => sheet.spent = true,
         }
     }
     Failing {

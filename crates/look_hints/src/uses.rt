@@ -7,7 +7,6 @@ use crate::places::{
 use crate::rules::Subject;
 use asl_lexer::token::Sign;
 use asl_parser::sentence::Sentence;
-use asl_term::sequence::Starved;
 use asl_term::syntax::{ArgOf, Call, Expr, Formula, Literal, Plan};
 use look_reasons::mark::{Mark, is_sign};
 use std::alloc::Global;
@@ -39,7 +38,7 @@ pub struct Uses<'a> {
     pub literals: Vec<Use<'a>>,
     pub calls: Vec<Called<'a>>,
     steps: Vec<Step<'a>>,
-    spent: bool,
+    pub spent: bool,
 }
 
 /// By hand, so that who lets one go proves nothing of its parts.
@@ -172,12 +171,8 @@ pub fn literal_of(f: &Formula) -> Option<(Subject, &Literal)> {
     }
 }
 
-/// The uses of a clause with these tokens.
-pub fn uses_of<'a>(
-    alloc: Global,
-    marks: &[Mark<'_>],
-    said: &'a Sentence,
-) -> Result<Uses<'a>, Starved> {
+/// The uses of a clause with these tokens; where memory is refused, some of them.
+pub fn uses_of<'a>(alloc: Global, marks: &[Mark<'_>], said: &'a Sentence) -> Uses<'a> {
     let mut uses = Uses {
         literals: Vec::new(alloc),
         calls: Vec::new(alloc),
@@ -196,5 +191,5 @@ pub fn uses_of<'a>(
         Sentence::Belief(_) => {}
         Sentence::Goal(_) => {}
     }
-    if uses.spent { Err(Starved) } else { Ok(uses) }
+    uses
 }

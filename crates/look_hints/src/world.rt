@@ -1,11 +1,12 @@
 //! A world, as far as it is read: what agents may see of it, and its acts.
 
 use crate::deeds::{Groups, Set, new_groups};
-use crate::reading::clean_pieces;
+use crate::reading::pieces_of;
 use asl_lexer::token::{Tok, Toks};
 use asl_parser_tree::bounded::Bounded;
 use asl_parser_tree::lexeme::lexemes;
 use asl_parser_tree::limits::too_deep;
+use asl_term::copying::copy_text;
 use asl_term::names::{Names, find};
 use asl_term::sequence::{Seq, Starved};
 use asl_term::syntax::{Literal, Term, Text};
@@ -13,15 +14,13 @@ use env_file::clauses::statement;
 use env_file::fault::WorldFault;
 use env_file::statement::Statement;
 use env_file::taking::make;
-use look_names::clause::copy_toks;
-use look_reasons::bytes::mended_of;
+use look_pieces::clause::copy_toks;
+use look_reasons::bytes::{Mended, mended_of};
 use mas_world::acts::WorldText;
 use std::alloc::Global;
 
-/// What is known of a world: what its pieces make, the names of the facts that agents may see and of its acts, and its bytes with the tokens of
-/// its acts.
+/// What is known of a world: the names of the facts that agents may see and of its acts, and its bytes with the tokens of its acts.
 pub struct ReadWorld {
-    made: WorldText,
     pub names: Groups,
     pub file: Text,
     pub bytes: Text,
@@ -33,7 +32,6 @@ pub struct ReadWorld {
 impl Drop for ReadWorld {
     fn drop(self) {
         let ReadWorld {
-            made: _,
             names: _,
             file: _,
             bytes: _,
@@ -52,21 +50,31 @@ static ACTS: [(&[u8], &[u8], u64); 5] = [
     (b"belt", b"belt_take", 1),
 ];
 
-/// A world of this file with these bytes, of which nothing is read.
-fn unread(alloc: Global, file: Text, bytes: Text) -> Result<ReadWorld, Starved> {
-    Ok(ReadWorld {
-        made: WorldText {
-            facts: Seq::new(alloc),
-            hidden: Names::new(alloc)?,
-            uses: Names::new(alloc)?,
-            acts: Seq::new(alloc),
-        },
-        names: new_groups(alloc),
-        file,
-        bytes,
-        text: Seq::new(alloc),
-        written: Seq::new(alloc),
+/// A world of which nothing is read.
+fn unread(alloc: Global) -> Result<WorldText, Starved> {
+    let hidden = Names::new(alloc)?;
+    let uses = Names::new(alloc)?;
+    Ok(WorldText {
+        facts: Seq::new(alloc),
+        hidden,
+        uses,
+        acts: Seq::new(alloc),
     })
+}
+
+/// Makes of the world what a statement says. Whether it is an act that is made.
+fn make_of(
+    alloc: Global,
+    known: &Names,
+    made: &mut WorldText,
+    first: &Tok,
+    s: &Statement,
+) -> Result<bool, Starved> {
+    match make(alloc, known, made, 1, first, s) {
+        Ok(()) => Ok(matches!(s, Statement::Act(_))),
+        Err(WorldFault::Memory) => Err(Starved),
+        Err(_) => Ok(false),
+    }
 }
 
 /// Makes of the world what a piece says, where it is read. Whether the piece is an act.
@@ -75,23 +83,42 @@ fn take(alloc: Global, known: &Names, made: &mut WorldText, toks: &[Tok]) -> Res
         return Ok(false);
     };
     let all = lexemes(alloc, toks)?;
-    if too_deep(&all) {
-        return Ok(false);
-    }
-    match statement(alloc, &all, 250)? {
-        Some(Bounded::Within(s)) => {
-            let act = matches!(&s, Statement::Act(_));
-            let answer = make(alloc, known, made, 1, first, &s);
+    let said = if too_deep(&all) {
+        Ok(None)
+    } else {
+        statement(alloc, &all, 250)
+    };
+    drop(all);
+    match said {
+        Ok(Some(Bounded::Within(s))) => {
+            let act = make_of(alloc, known, made, first, &s);
             drop(s);
-            match answer {
-                Ok(()) => Ok(act),
-                Err(WorldFault::Memory) => Err(Starved),
-                Err(_) => Ok(false),
-            }
+            act
         }
-        Some(Bounded::Past(())) => Ok(false),
-        None => Ok(false),
+        Ok(Some(Bounded::Past(()))) => Ok(false),
+        Ok(None) => Ok(false),
+        Err(e) => Err(e),
     }
+}
+
+/// The tokens of the acts of mended bytes. The world gets what the pieces make.
+fn written_in(
+    alloc: Global,
+    known: &Names,
+    m: &Mended,
+    made: &mut WorldText,
+) -> Result<Seq<Toks>, Starved> {
+    let mut written = Seq::new(alloc);
+    let mut pieces = pieces_of(m);
+    for _ in 0..u64::MAX {
+        let Some(piece) = pieces.next_clean() else {
+            break;
+        };
+        if take(alloc, known, made, piece)? {
+            written.push(copy_toks(alloc, piece)?)?;
+        }
+    }
+    Ok(written)
 }
 
 /// Puts the name of a fact, unless no agent sees facts of its functor.
@@ -130,39 +157,55 @@ fn put_artifact(names: &mut Groups, hidden: &Names, artifact: &Text) {
     }
 }
 
-/// Puts the names of what agents may see of a world, and of its acts.
-fn put_names(names: &mut Groups, made: &WorldText) {
+/// The names of what agents may see of a world, and of its acts.
+fn names_of(alloc: Global, made: &WorldText) -> Groups {
+    let mut names = new_groups(alloc);
     for l in made.facts.as_slice() {
-        put_fact(names, &made.hidden, l);
+        put_fact(&mut names, &made.hidden, l);
     }
     for act in made.acts.as_slice() {
         names.put(Set::Acts, &act.head);
         for l in act.adds.as_slice() {
-            put_fact(names, &made.hidden, l);
+            put_fact(&mut names, &made.hidden, l);
         }
     }
     for k in 0..made.uses.len() {
         if let Some(name) = made.uses.at(k.saturating_add(1)) {
-            put_artifact(names, &made.hidden, name);
+            put_artifact(&mut names, &made.hidden, name);
         }
+    }
+    names
+}
+
+/// The names and the tokens of the acts of a world with these bytes.
+fn known_of(alloc: Global, known: &Names, m: &Mended) -> Result<(Groups, Seq<Toks>), Starved> {
+    let mut made = unread(alloc)?;
+    let written = written_in(alloc, known, m, &mut made);
+    let names = names_of(alloc, &made);
+    drop(made);
+    let written = written?;
+    if names.spent {
+        Err(Starved)
+    } else {
+        Ok((names, written))
     }
 }
 
-/// The world of a file with these bytes, where there are artifacts of these names.
+/// The world of a file of this name with these bytes, where there are artifacts of these names.
 pub fn world_of(
     alloc: Global,
     known: &Names,
-    file: Text,
+    name: &Text,
     bytes: Text,
 ) -> Result<ReadWorld, Starved> {
+    let file = copy_text(alloc, name)?;
     let m = mended_of(alloc, bytes.as_slice())?;
-    let mut w = unread(alloc, file, bytes)?;
-    for piece in clean_pieces(alloc, &m)?.as_slice() {
-        if take(alloc, known, &mut w.made, *piece)? {
-            w.written.push(copy_toks(alloc, *piece)?)?;
-        }
-    }
-    w.text = m.into_text();
-    put_names(&mut w.names, &w.made);
-    if w.names.spent { Err(Starved) } else { Ok(w) }
+    let (names, written) = known_of(alloc, known, &m)?;
+    Ok(ReadWorld {
+        names,
+        file,
+        bytes,
+        text: m.into_text(),
+        written,
+    })
 }

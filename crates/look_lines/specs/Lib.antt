@@ -1,2 +1,6 @@
 pub mod Lines
 pub mod Outs
+pub mod Pieces
+pub mod Falls
+pub mod Differences
+pub mod Changes

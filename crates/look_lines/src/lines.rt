@@ -5,9 +5,9 @@
 ghost use Rattle.std.specs.Prelude.{◌≡◌, ◌-◌, ◌++◌, min, true, OnOk};
 ghost use Rattle.look_lines.specs.Lines as spec;
 
+use crate::pieces::{Piece, put_pieces};
 use asl_term::names::Names;
 use asl_term::printing::write_number;
-use asl_term::printing_expr::print_literal;
 use asl_term::sequence::Starved;
 use asl_term::syntax::{Literal, Text};
 use std::alloc::Global;
@@ -38,9 +38,10 @@ pub fn name_of(names: &Names, a: u32) -> &[u8]
 pub fn put_literal(out: &mut Text, l: &Literal) -> Result<(), Starved>
     ensures { OnOk result (out.new ≡ out.old ++ spec.literal_line l.now) }
 {
-    out.append(b"  ")?;
-    print_literal(l, out)?;
-    out.append(b"\n")
+    put_pieces(
+        out,
+        &[Piece::Bytes(b"  "), Piece::Literal(l), Piece::Bytes(b"\n")],
+    )
 }
 
 /// Appends a part of literals.

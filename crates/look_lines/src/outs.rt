@@ -9,9 +9,8 @@ ghost use Rattle.look_lines.specs.Lines.{line};
 ghost use Rattle.look_lines.specs.Outs as spec;
 
 use crate::lines::{name_of, put_head};
+use crate::pieces::{Piece, put_pieces};
 use asl_term::names::Names;
-use asl_term::printing::print;
-use asl_term::printing_expr::print_literal;
 use asl_term::sequence::Starved;
 use asl_term::syntax::{Literal, Text};
 use mas_mind::mind::{Message, Outs, Thought, verb_text};
@@ -19,13 +18,12 @@ use std::alloc::Global;
 
 /// Appends from whom a message is, or to whom.
 #[tactic(auto, unfolding(crate::specs::Outs::route_text))]
-fn put_route(out: &mut Text, names: &Names, way: &[u8], a: u32) -> Result<(), Starved>
+fn put_route<'a>(out: &mut Text, names: &'a Names, way: &'a [u8], a: u32) -> Result<(), Starved>
     ensures { OnOk result (out.new ≡ out.old ++ spec.route_text names.now way.now a) }
 {
-    out.append(way)?;
-    out.append(b" ")?;
-    out.append(name_of(names, a))?;
-    out.append(b" ")
+    let blank = Piece::Bytes(b" ");
+    let name = Piece::Bytes(name_of(names, a));
+    put_pieces(out, &[Piece::Bytes(way), blank, name, blank])
 }
 
 /// Appends what a message says.
@@ -33,9 +31,12 @@ fn put_route(out: &mut Text, names: &Names, way: &[u8], a: u32) -> Result<(), St
 fn put_content(out: &mut Text, m: &Message) -> Result<(), Starved>
     ensures { OnOk result (out.new ≡ out.old ++ spec.content_text m.now) }
 {
-    out.append(verb_text(m.verb).as_bytes())?;
-    out.append(b" ")?;
-    print(&m.content, out)
+    let pieces = [
+        Piece::Bytes(verb_text(m.verb).as_bytes()),
+        Piece::Bytes(b" "),
+        Piece::Term(&m.content),
+    ];
+    put_pieces(out, &pieces)
 }
 
 /// Appends the line of a message.
@@ -72,9 +73,12 @@ fn put_action(out: &mut Text, action: &Option<Literal>) -> Result<(), Starved>
     match action {
         None => Ok(()),
         Some(action) => {
-            out.append(b"  action ")?;
-            print_literal(action, out)?;
-            out.append(b"\n")
+            let pieces = [
+                Piece::Bytes(b"  action "),
+                Piece::Literal(action),
+                Piece::Bytes(b"\n"),
+            ];
+            put_pieces(out, &pieces)
         }
     }
 }
@@ -83,9 +87,8 @@ fn put_action(out: &mut Text, action: &Option<Literal>) -> Result<(), Starved>
 fn put_word(out: &mut Text, word: &[u8]) -> Result<(), Starved>
     ensures { OnOk result (out.new ≡ out.old ++ line word.now) }
 {
-    out.append(b"  ")?;
-    out.append(word)?;
-    out.append(b"\n")
+    let pieces = [Piece::Bytes(b"  "), Piece::Bytes(word), Piece::Bytes(b"\n")];
+    put_pieces(out, &pieces)
 }
 
 fn put_stop(out: &mut Text, stop: bool) -> Result<(), Starved>

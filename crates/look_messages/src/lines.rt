@@ -83,6 +83,10 @@ fn first_word(text: &[u8]) -> (&[u8], &[u8]) {
     )
 }
 
+fn is_word(word: &[u8], other: &[u8]) -> bool {
+    word == other
+}
+
 /// Four words, and what is behind them.
 fn words_of(line: &[u8]) -> [&[u8]; 5] {
     let (first, rest) = first_word(line);
@@ -122,15 +126,15 @@ fn put_trace<'a>(m: &mut MailLines<'a>, line: &'a [u8]) {
         turn: second.max(1),
         fate: Fate::Unread,
     };
-    let put = if word == b"sends".as_slice() {
+    let put = if is_word(word, b"sends") {
         m.sent.push(letter)
-    } else if word == b"took".as_slice() {
+    } else if is_word(word, b"took") {
         m.came.push(Letter {
             turn: second.saturating_sub(1),
             fate: Fate::Taken { turn: 0, cycle },
             ..letter
         })
-    } else if word == b"spent".as_slice() {
+    } else if is_word(word, b"spent") {
         m.spent.push(letter)
     } else {
         Ok(())
@@ -150,7 +154,7 @@ pub fn agent_of(alloc: Global, names: &Names, name: &[u8]) -> Result<u64, Starve
 /// Puts what a line says of a message that waits.
 fn put_waiting<'a>(alloc: Global, m: &mut MailLines<'a>, line: &'a [u8]) {
     let [first, to, third, from, _] = words_of(line);
-    if first != b"for".as_slice() || third != b"from".as_slice() {
+    if !is_word(first, b"for") || !is_word(third, b"from") {
         return;
     }
     let put = match agent_of(alloc, &m.names, to) {
@@ -171,7 +175,7 @@ fn put_waiting<'a>(alloc: Global, m: &mut MailLines<'a>, line: &'a [u8]) {
 /// Puts the name of an agent, where a line has one; whether it has.
 fn put_name(alloc: Global, m: &mut MailLines<'_>, line: &[u8]) -> bool {
     let (word, name) = first_word(line);
-    if word != b"agent".as_slice() || m.names.len() >= MOST_NAMES {
+    if !is_word(word, b"agent") || m.names.len() >= MOST_NAMES {
         return false;
     }
     let put = match text_of(alloc, name) {
@@ -190,7 +194,7 @@ fn put_line<'a>(alloc: Global, m: &mut MailLines<'a>, at: Section, line: &'a [u8
             put_trace(m, line);
             at
         }
-        Section::Ended if line == b"world".as_slice() => Section::World,
+        Section::Ended if is_word(line, b"world") => Section::World,
         Section::Front | Section::Ended => {
             if put_name(alloc, m, line) {
                 Section::Agent
@@ -198,7 +202,7 @@ fn put_line<'a>(alloc: Global, m: &mut MailLines<'a>, at: Section, line: &'a [u8
                 Section::Front
             }
         }
-        Section::World if line == b"mail".as_slice() => Section::Mail,
+        Section::World if is_word(line, b"mail") => Section::Mail,
         Section::World => at,
         Section::Mail => {
             put_waiting(alloc, m, line);

@@ -1,10 +1,10 @@
 -- Failures that are counted, and entries by agent.
-use Rattle.std.proofs.Common.{ℕ, ◌≡◌, ◌≤◌, ◌<◌, ◌+◌, ◌-◌, ◌^◌, min, Bool, List, [], ◌∷◌, ◌++◌, length, drop, get_or}
+use Rattle.std.proofs.Common.{ℕ, ◌≡◌, ◌≤◌, ◌<◌, ◌+◌, ◌^◌, Bool, List, ◌++◌, length, drop, get_or}
 use Rattle.std.proofs.Common.{sym, ap, refl, ◌∙◌, arith, append_assoc, append-nil}
 use Rattle.std.specs.Prelude.{codes, nat_lt, true, false, ◌||◌}
 use Rattle.std.proofs.lemmas.Bool.{le-ltb, lt-ltb, ltb-false, ltb-true}
 use Rattle.std.proofs.lemmas.List.{at_drop_all, at_drop_more}
-use Rattle.look_falls.specs.declared.falls.FallLine.{FallLine}
+use Rattle.look_lines.specs.declared.falls.FallLine.{FallLine}
 use Rattle.look_mind.specs.declared.fallen.RunFalls.{RunFalls}
 use Rattle.look_mind.specs.Entries.{agent_text, agents_text, count, count_all, is_counted, is_some_told, one_if, some_number, text_at, written}
 use Rattle.look_mind.specs.Marks.{turns_at}

@@ -12,7 +12,7 @@ use Rattle.mas_report.proofs.Shown.{one_shown}
 use Rattle.mas_top_files.specs.declared.sources.Source.{Source}
 use Rattle.mas_top_opening.specs.Opening.{setup, opening}
 use Rattle.mas_top_check.specs.Checking.{IsAllowed, TellsRun, TellsNoRun}
-use Rattle.look_falls.specs.declared.falls.FallLine.{FallLine}
+use Rattle.look_lines.specs.declared.falls.FallLine.{FallLine}
 use Rattle.look_run.specs.Falling.{HaveFallen}
 use Rattle.look_mind.specs.declared.fallen.RunFalls.{RunFalls}
 use Rattle.look_mind.specs.Fallen.{AreFalls, IsFallen, IsFallenBy, loud}

@@ -1,12 +1,12 @@
 -- The turns of agents, and those that are marked.
-use Rattle.std.proofs.Common.{ℕ, suc, ◌≡◌, ◌≤◌, ◌<◌, ◌+◌, ◌-◌, ◌&&◌, Bool, true, false, List, [], ◌∷◌, ◌++◌}
+use Rattle.std.proofs.Common.{ℕ, ◌≡◌, ◌≤◌, ◌<◌, ◌+◌, ◌-◌, ◌&&◌, Bool, true, false, List, [], ◌∷◌, ◌++◌}
 use Rattle.std.proofs.Common.{length, drop, get_or, replicate, refl, sym, ap, subst, ◌∙◌}
 use Rattle.std.proofs.Common.{arith, append_assoc, append-nil, below_more, if◌then◌else◌}
 use Rattle.std.specs.Prelude.{nat_eq, nat_le, slice_set, All}
 use Rattle.std.proofs.lemmas.Bool.{and_from, and_parts, eqb-true, eqb-false, le-leb, leb-true}
 use Rattle.std.proofs.lemmas.List.{at_drop_all, at_drop_more, get_or-replicate, get_or_default, get_or-set_other}
 use Rattle.std.proofs.lemmas.List.{get_or-set_same, length-replicate, length-set, replicate_more}
-use Rattle.look_falls.specs.declared.falls.FallLine.{FallLine}
+use Rattle.look_lines.specs.declared.falls.FallLine.{FallLine}
 use Rattle.look_mind.specs.Marks.{AreMarked, AreOwn, Grows, IsMarked, Marks, MarksAll, own_from, own_turns, turn_of, turns_at, with_turn}
 
 pub empties_step : (n : ℕ) (all new : List (List ℕ)) → all ≡ replicate n [] → new ≡ all ++ [] ∷ [] → new ≡ replicate (n + 1) []

@@ -1,5 +1,5 @@
 -- What is told of a run, and whether bytes are its report.
-use Rattle.std.proofs.Common.{ℕ, ◌≡◌, List, length, take, min, Option, Some, None, refl, subst}
+use Rattle.std.proofs.Common.{ℕ, ◌≡◌, List, length, take, min, Option, refl, subst}
 use Rattle.asl_term.specs.declared.syntax.Filed.{Filed}
 use Rattle.asl_cycle.specs.Agent.{agent_kind}
 use Rattle.mas_world.specs.Worlds.{Used}
@@ -12,7 +12,7 @@ use Rattle.mas_top_files.specs.Known.{known}
 use Rattle.mas_top_files.specs.Sources.{HasSource}
 use Rattle.mas_top_opening.specs.Opening.{setup, opening}
 use Rattle.mas_top_check.specs.Checking.{TellsRun}
-use Rattle.look_change.specs.declared.change.ChangedLine.{ChangedLine}
+use Rattle.look_lines.specs.declared.change.ChangedLine.{ChangedLine}
 use Rattle.look_mind.specs.Along.{AreChanges}
 use Rattle.look_mind.specs.Own.{AreOwnChanges, IsTold, IsToldIn, most_turns}
 use Rattle.look_mind.specs.Parts.{agent_texts}

@@ -1,12 +1,11 @@
 -- The page of a report.
-use Rattle.std.proofs.Common.{◌≡◌, ◌∙◌, ◌+◌, ◌-◌, ◌<◌, ℕ, Bool, true, List, [], ◌∷◌, None, map, length, get_or, cond, refl, ap, subst, sym}
+use Rattle.std.proofs.Common.{◌≡◌, ◌∙◌, ◌+◌, ◌-◌, ◌<◌, ℕ, Bool, true, List, [], ◌∷◌, None, map, get_or, cond, refl, ap, subst, sym}
 use Rattle.std.specs.Prelude.{codes, slice_index}
-use Rattle.std.specs.List.{All, Contains}
+use Rattle.std.specs.List.{Contains}
 use Rattle.std.proofs.lemmas.List.{get_or-map, length-map}
 use Rattle.chart_page.specs.Texts.{Holds, HoldsAll}
 use Rattle.chart_page.specs.Minds.{texts_of}
 use Rattle.chart_page.specs.declared.minds.MindLine.{MindLine}
-use Rattle.look_change.specs.declared.change.ChangedLine.{ChangedLine}
 use Rattle.look_mind.specs.Rows.{Row, row_in, rows_of, change_at, TellsRows}
 use Rattle.look_mind.specs.declared.changes.MindChanges.{MindChanges}
 use Rattle.chart_page.specs.Refused.{Ends, IsMade, IsPage, ShowsText}

@@ -7,7 +7,7 @@ use Rattle.std.proofs.lemmas.List.{append_assoc, get_or-map, get_or_default, len
 use Rattle.std.proofs.lemmas.List.Elements.{All-more, All-weaker, Contains-append_left, Contains-append_right, Contains-push}
 use Rattle.std.proofs.lemmas.Option.{unwrap_or-slice_get}
 use Rattle.chart_page.specs.declared.minds.MindLine.{MindLine}
-use Rattle.look_change.specs.declared.change.ChangedLine.{ChangedLine}
+use Rattle.look_lines.specs.declared.change.ChangedLine.{ChangedLine}
 use Rattle.look_mind.specs.Rows.{Row, row_in, row_of, rows_of, with_turn, AddsRows, HasRows, HasTurns, change_at, TellsAgent, TellsRows}
 use Rattle.look_mind.specs.declared.changes.MindChanges.{MindChanges}
 

@@ -7,8 +7,7 @@ use Rattle.mas_core.specs.Platform.{Platform, turn, run, and_run}
 use Rattle.mas_core.specs.Fits.{Played}
 use Rattle.mas_core.proofs.Turns.{one-turn, run-append, run-on}
 use Rattle.look_run.specs.Steps.{HasGone}
-use Rattle.look_change.specs.Changes.{change}
-use Rattle.look_change.specs.declared.change.ChangedLine.{ChangedLine}
+use Rattle.look_lines.specs.declared.change.ChangedLine.{ChangedLine}
 use Rattle.look_mind.specs.Along.{AreChanges, HasStepped, IsChangeAt}
 
 -- the first i numbers had their turn, and these are their changes

@@ -4,8 +4,8 @@ use Rattle.mas_mind.specs.Minds.{Kind}
 use Rattle.mas_core.specs.Platform.{Platform, run, turn}
 use Rattle.mas_core.specs.Fits.{Played}
 use Rattle.look_run.specs.Before.{texts_at}
-use Rattle.look_change.specs.Changes.{change}
-use Rattle.look_change.specs.declared.change.ChangedLine.{ChangedLine}
+use Rattle.look_lines.specs.Changes.{change}
+use Rattle.look_lines.specs.declared.change.ChangedLine.{ChangedLine}
 
 -- these lines are the change from the mind of the agent whose turn comes next, where the platform was stepped along the first t of the turns,
 -- to its mind a turn later

@@ -4,8 +4,8 @@ use Rattle.std.specs.Prelude.{List, [], ◌∷◌, ◌++◌, slice_get, unwrap_o
 use Rattle.std.specs.List.{flat_map}
 use Rattle.std.specs.Str.{bytes_eq}
 use Rattle.mas_report.specs.declared.options.Options.{Options}
-use Rattle.look_falls.specs.declared.falls.FallLine.{FallLine}
-use Rattle.look_falls.specs.Falls.{begins, words}
+use Rattle.look_lines.specs.declared.falls.FallLine.{FallLine}
+use Rattle.look_lines.specs.Falls.{begins, words}
 use Rattle.look_mind.specs.declared.fallen.RunFalls.{RunFalls}
 use Rattle.look_mind.specs.declared.reasons.StackPlace.{StackPlace}
 use Rattle.look_mind.specs.declared.reasons.StackPlace.TheVariants.{Event, Running, Acting, Ask, Nowhere}

@@ -1,4 +1,5 @@
 pub mod Parts
+pub mod PartTexts
 pub mod Looks
 pub mod Along
 pub mod Own

@@ -1,7 +1,7 @@
 -- The turns with which the cycles of failures began.
 use Rattle.std.specs.Prelude.{ℕ, ◌≡◌, ◌≤◌, ◌<◌, ◌+◌, ◌-◌, ◌*◌, ◌^◌, nat_eq, nat_le, nat_lt, ◌&&◌, Bool, true, false, if◌then◌else◌}
 use Rattle.std.specs.Prelude.{Option, None, Some, List, [], ◌∷◌, ◌++◌, All, length, get_or, slice_get, slice_set, unwrap_or}
-use Rattle.look_falls.specs.declared.falls.FallLine.{FallLine}
+use Rattle.look_lines.specs.declared.falls.FallLine.{FallLine}
 
 abbrev pub is_digit : ℕ → Bool
 is_digit b = nat_le 48 b && nat_le b 57

@@ -1,7 +1,7 @@
 -- What is said of a failure in words, by the row that made its line, and where the stack of that row stood.
 use Rattle.std.specs.Prelude.{ℕ, Bool, List, codes, if◌then◌else◌, ◌||◌}
 use Rattle.std.specs.Str.{bytes_eq}
-use Rattle.look_falls.specs.Falls.{begins}
+use Rattle.look_lines.specs.Falls.{begins}
 use Rattle.look_mind.specs.declared.reasons.StackPlace.{StackPlace}
 use Rattle.look_mind.specs.declared.reasons.StackPlace.TheVariants.{Event, Running, Acting, Ask, Nowhere}
 

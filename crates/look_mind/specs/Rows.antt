@@ -3,7 +3,7 @@ use Rattle.std.specs.Prelude.{ℕ, ◌+◌, ◌-◌, ◌<◌, ◌≡◌, Bool, i
 use Rattle.std.specs.List.{All, Contains}
 use Rattle.chart_page.specs.declared.minds.ChangeSign.{ChangeSign}
 use Rattle.chart_page.specs.declared.minds.MindLine.{MindLine}
-use Rattle.look_change.specs.declared.change.ChangedLine.{ChangedLine}
+use Rattle.look_lines.specs.declared.change.ChangedLine.{ChangedLine}
 use Rattle.look_mind.specs.declared.changes.MindChanges.{MindChanges}
 
 -- whose line it is, of which turn, and what stands there

@@ -5,13 +5,14 @@ ghost use Rattle.mas_core.specs.Fits.{Start};
 ghost use Rattle.mas_core.specs.Platform.{opening_platform, run, turn};
 ghost use Rattle.mas_report.specs.Report.{IsAnyReport};
 ghost use Rattle.mas_report_schedule.specs.Schedule.{IsVersion, printed};
+ghost use Rattle.look_run.specs.Before.{texts_at};
 ghost use Rattle.look_run.specs.Steps.{HasGone};
-ghost use Rattle.look_change.specs.Changes.{change};
+ghost use Rattle.look_lines.specs.Changes.{change};
 ghost use Rattle.look_mind.specs.Along as spec;
 
 use asl_term::sequence::{Seq, Starved};
 use asl_term::syntax::{Numbers, Text};
-use look_change::change::{ChangedLine, change};
+use look_lines::change::{ChangedLine, change};
 use look_run::before::texts_at;
 use look_run::steps::leads_to_report;
 use look_run::texts::MindTexts;
@@ -37,8 +38,21 @@ struct Stepped<M: Mind, A: Artifact> {
     change: Option<Change>,
 }
 
+/// What changed in the mind of the agent of this number, of which these were the texts.
+fn change_from<M: Mind, A: Artifact, W: MindTexts<M>>(
+    alloc: Global,
+    writer: &W,
+    befores: &[Text],
+    play: &Play<M, A>,
+    a: u64,
+) -> Result<Change, Starved>
+    ensures { IfOk result (λ c. c ≡ change befores.now (texts_at W.texts play.now.platform a)) }
+{
+    let afters = texts_at(alloc, writer, play, a)?;
+    change(alloc, befores, afters.as_slice())
+}
+
 /// A turn of the agent of this number, and what it changes in the agent's mind.
-#[tactic(auto, using(look_run::proofs::Walking::not_made, look_run::proofs::Walking::was_made))]
 fn step<M: Mind, A: Artifact, W: MindTexts<M>>(
     alloc: Global,
     writer: &W,
@@ -53,8 +67,7 @@ fn step<M: Mind, A: Artifact, W: MindTexts<M>>(
     if !turned.made {
         return Ok(Stepped { play, change: None });
     }
-    let afters = texts_at(alloc, writer, &play, a)?;
-    let lines = change(alloc, befores.as_slice(), afters.as_slice())?;
+    let lines = change_from(alloc, writer, befores.as_slice(), &play, a)?;
     Ok(Stepped {
         play,
         change: Some(lines),

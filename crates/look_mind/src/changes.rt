@@ -43,7 +43,6 @@ impl Drop for MindChanges {
 }
 
 /// What the first `t` turns change of the run of a source that bytes tell; none where they are not its report.
-#[tactic(auto, using(mas_top_opening::proofs::Starts::starts))]
 fn changes_of<A: Artifact>(
     alloc: Global,
     told: &Told,

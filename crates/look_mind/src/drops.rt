@@ -78,7 +78,7 @@ fn entries_in<S: Shelf, A: Artifact>(
 
 /// The entries of the run of the project of this word, where the bytes are its report; none where they are not. The artifacts are given twice, since the
 /// run is made twice.
-#[tactic(auto, using(crate::proofs::Told::none_fallen, crate::proofs::Told::fallen_so, crate::proofs::Told::later, crate::proofs::Told::refused))]
+#[tactic(auto, using(crate::proofs::Told::fallen_so, crate::proofs::Told::later, crate::proofs::Told::refused))]
 pub fn drops<S: Shelf, A: Artifact>(
     alloc: Global,
     artifacts: Vec<A>,

@@ -7,42 +7,35 @@ ghost use Rattle.look_mind.specs.Entries as spec;
 
 use crate::marks::{cycle_of, turn_of};
 use crate::reasons::{StackPlace, place_of, why};
-use asl_term::printing::write_number;
 use asl_term::sequence::Starved;
 use asl_term::syntax::Text;
-use look_falls::falls::FallLine;
-use look_falls::words::words;
+use look_lines::falls::FallLine;
+use look_lines::pieces::{Piece, put_pieces};
+use look_lines::words::words;
 use look_run::before::TextsBefore;
 use mas_report::options::Options;
-use std::alloc::Global;
-
-/// Appends the turn, and what is told.
-#[tactic(auto, unfolding(crate::specs::Entries::turn_text))]
-fn put_turn(alloc: Global, out: &mut Text, turn: u64, fall: &FallLine) -> Result<(), Starved>
-    ensures { OnOk result (out.new ≡ out.old ++ spec.turn_text turn fall.now) }
-{
-    out.append(b" turn ")?;
-    write_number(alloc, turn, out)?;
-    out.append(b": ")?;
-    out.append(words(fall.line.as_slice()))?;
-    out.append(b"\n")
-}
 
 /// Appends the line that says who, when and what.
-#[tactic(auto, unfolding(crate::specs::Entries::heading))]
-fn put_heading(
-    alloc: Global,
+#[tactic(auto, unfolding(crate::specs::Entries::heading, crate::specs::Entries::turn_text))]
+fn put_heading<'a>(
     out: &mut Text,
-    name: &[u8],
+    name: &'a [u8],
     turn: u64,
-    fall: &FallLine,
+    fall: &'a FallLine,
 ) -> Result<(), Starved>
     ensures { OnOk result (out.new ≡ out.old ++ spec.heading name.now turn fall.now) }
 {
-    out.append(name)?;
-    out.append(b" cycle ")?;
-    write_number(alloc, cycle_of(fall), out)?;
-    put_turn(alloc, out, turn, fall)
+    let pieces = [
+        Piece::Bytes(name),
+        Piece::Bytes(b" cycle "),
+        Piece::Number(cycle_of(fall)),
+        Piece::Bytes(b" turn "),
+        Piece::Number(turn),
+        Piece::Bytes(b": "),
+        Piece::Bytes(words(fall.line.as_slice())),
+        Piece::Bytes(b"\n"),
+    ];
+    put_pieces(out, &pieces)
 }
 
 /// Appends the row, and why it failed.
@@ -50,22 +43,29 @@ fn put_heading(
 fn put_row(out: &mut Text, fall: &FallLine) -> Result<(), Starved>
     ensures { OnOk result (out.new ≡ out.old ++ spec.row_text fall.now) }
 {
-    out.append(b"  ")?;
-    out.append(fall.row.as_slice())?;
-    out.append(b"\n  why  ")?;
-    out.append(why(fall.row.as_slice(), words(fall.line.as_slice())))?;
-    out.append(b"\n")
+    let row = fall.row.as_slice();
+    let pieces = [
+        Piece::Bytes(b"  "),
+        Piece::Bytes(row),
+        Piece::Bytes(b"\n  why  "),
+        Piece::Bytes(why(row, words(fall.line.as_slice()))),
+        Piece::Bytes(b"\n"),
+    ];
+    put_pieces(out, &pieces)
 }
 
 /// Appends an option with its number.
 #[tactic(auto, unfolding(crate::specs::Entries::past_text))]
-fn put_past(alloc: Global, out: &mut Text, option: &[u8], number: u64) -> Result<(), Starved>
+fn put_past(out: &mut Text, option: &[u8], number: u64) -> Result<(), Starved>
     ensures { OnOk result (out.new ≡ out.old ++ spec.past_text option.now number) }
 {
-    out.append(b"  past ")?;
-    out.append(option)?;
-    write_number(alloc, number, out)?;
-    out.append(b"\n")
+    let pieces = [
+        Piece::Bytes(b"  past "),
+        Piece::Bytes(option),
+        Piece::Number(number),
+        Piece::Bytes(b"\n"),
+    ];
+    put_pieces(out, &pieces)
 }
 
 /// What became of the stack of an action that failed.
@@ -79,28 +79,20 @@ fn then_line(taken_up: bool) -> &'static [u8]
     }
 }
 
-/// Appends that, where the words are those of an action.
-fn put_action(out: &mut Text, words: &[u8], taken_up: bool) -> Result<(), Starved>
-    ensures { OnOk result (out.new ≡ out.old ++ spec.action_text words.now taken_up) }
-{
-    if words.starts_with(b"failed ") {
-        return out.append(then_line(taken_up));
-    }
-    Ok(())
-}
-
 /// Appends what became of an action's stack, or the option that a search used up.
-fn put_outcome(alloc: Global, out: &mut Text, o: &Options, fall: &FallLine) -> Result<(), Starved>
+fn put_outcome(out: &mut Text, o: &Options, fall: &FallLine) -> Result<(), Starved>
     ensures { OnOk result (out.new ≡ out.old ++ spec.outcome_text o.now fall.now) }
 {
     let said = words(fall.line.as_slice());
     if said == b"spent depth".as_slice() {
-        return put_past(alloc, out, b"--depth ", o.depth);
+        put_past(out, b"--depth ", o.depth)
+    } else if said == b"spent tries".as_slice() {
+        put_past(out, b"--tries ", o.tries)
+    } else if said.starts_with(b"failed ") {
+        out.append(then_line(fall.taken_up))
+    } else {
+        Ok(())
     }
-    if said == b"spent tries".as_slice() {
-        return put_past(alloc, out, b"--tries ", o.tries);
-    }
-    put_action(out, said, fall.taken_up)
 }
 
 /// A text at a place; empty where there is none.
@@ -136,53 +128,71 @@ fn is_nothing(text: &[u8]) -> bool
     }
 }
 
-/// Appends a text below its name, where there is one.
-fn put_named(out: &mut Text, name: &[u8], text: &[u8]) -> Result<(), Starved>
-    ensures { OnOk result (out.new ≡ out.old ++ spec.named name.now text.now) }
+/// A stack as it is told: its name, and what is told of it.
+#[derive(Clone, Copy)]
+struct ToldStack<'a> {
+    name: &'a [u8],
+    text: &'a [u8],
+}
+
+/// A text below its name, where there is one.
+fn named<'a>(name: &'a [u8], text: &'a [u8]) -> ToldStack<'a>
+    ensures { result.name.now ++ result.text.now ≡ spec.named name.now text.now }
 {
     if is_nothing(text) {
-        return Ok(());
+        ToldStack { name: b"", text }
+    } else {
+        ToldStack { name, text }
     }
-    out.append(name)?;
-    out.append(text)
 }
 
-/// Appends the stacks that wait for an answer.
-fn put_asks(out: &mut Text, texts: &[Text]) -> Result<(), Starved>
-    ensures { OnOk result (out.new ≡ out.old ++ spec.asks_text texts.now) }
+/// The stacks that wait for an answer.
+fn asks(texts: &[Text]) -> ToldStack<'_>
+    ensures { result.name.now ++ result.text.now ≡ spec.asks_text texts.now }
 {
-    out.append(below_head(text_at(texts, 3)))
+    ToldStack {
+        name: b"",
+        text: below_head(text_at(texts, 3)),
+    }
 }
 
-/// Appends the stack that was to run in a cycle: the first that ran, else the one that waited for its action, else that of the oldest event.
-fn put_running(out: &mut Text, texts: &[Text]) -> Result<(), Starved>
-    ensures { OnOk result (out.new ≡ out.old ++ spec.running_text texts.now) }
+/// The stack that was to run in a cycle: the first that ran, else the one that waited for its action, else that of the oldest event.
+fn running(texts: &[Text]) -> ToldStack<'_>
+    ensures { result.name.now ++ result.text.now ≡ spec.running_text texts.now }
 {
-    if !is_nothing(text_at(texts, 1)) {
-        out.append(b"  stack\n")?;
-        return out.append(text_at(texts, 1));
+    let next = text_at(texts, 1);
+    let acting = text_at(texts, 2);
+    let event = text_at(texts, 0);
+    if !is_nothing(next) {
+        ToldStack {
+            name: b"  stack\n",
+            text: next,
+        }
+    } else if !is_nothing(acting) {
+        ToldStack {
+            name: b"  acting\n",
+            text: acting,
+        }
+    } else if !is_nothing(event) {
+        ToldStack {
+            name: b"  event\n",
+            text: event,
+        }
+    } else {
+        asks(texts)
     }
-    if !is_nothing(text_at(texts, 2)) {
-        out.append(b"  acting\n")?;
-        return out.append(text_at(texts, 2));
-    }
-    if !is_nothing(text_at(texts, 0)) {
-        out.append(b"  event\n")?;
-        return out.append(text_at(texts, 0));
-    }
-    put_asks(out, texts)
 }
 
-/// Appends what the agent had in mind before the cycle, of the stack at this place.
-fn put_placed(out: &mut Text, place: StackPlace, texts: &[Text]) -> Result<(), Starved>
-    ensures { OnOk result (out.new ≡ out.old ++ spec.placed_text place texts.now) }
+/// What the agent had in mind before the cycle, of the stack at this place.
+fn placed(place: StackPlace, texts: &[Text]) -> ToldStack<'_>
+    ensures { result.name.now ++ result.text.now ≡ spec.placed_text place texts.now }
 {
     match place {
-        StackPlace::Nowhere => Ok(()),
-        StackPlace::Running => put_running(out, texts),
-        StackPlace::Ask => put_asks(out, texts),
-        StackPlace::Event => put_named(out, b"  event\n", text_at(texts, 0)),
-        StackPlace::Acting => put_named(out, b"  acting\n", text_at(texts, 2)),
+        StackPlace::Nowhere => named(b"", b""),
+        StackPlace::Running => running(texts),
+        StackPlace::Ask => asks(texts),
+        StackPlace::Event => named(b"  event\n", text_at(texts, 0)),
+        StackPlace::Acting => named(b"  acting\n", text_at(texts, 2)),
     }
 }
 
@@ -191,7 +201,11 @@ fn put_mind(out: &mut Text, before: &TextsBefore, turn: u64, row: &[u8]) -> Resu
     ensures { OnOk result (out.new ≡ out.old ++ spec.mind_text before.now turn row.now) }
 {
     match before.at(turn.saturating_sub(1)) {
-        Some(texts) => put_placed(out, place_of(row), texts.as_slice()),
+        Some(texts) => {
+            let told = placed(place_of(row), texts.as_slice());
+            out.append(told.name)?;
+            out.append(told.text)
+        }
         None => Ok(()),
     }
 }
@@ -199,7 +213,6 @@ fn put_mind(out: &mut Text, before: &TextsBefore, turn: u64, row: &[u8]) -> Resu
 /// Appends an entry.
 #[tactic(auto, unfolding(crate::specs::Entries::entry_text))]
 fn put_entry(
-    alloc: Global,
     out: &mut Text,
     o: &Options,
     before: &TextsBefore,
@@ -209,9 +222,9 @@ fn put_entry(
 ) -> Result<(), Starved>
     ensures { OnOk result (out.new ≡ out.old ++ spec.entry_text o.now before.now name.now turn fall.now) }
 {
-    put_heading(alloc, out, name, turn, fall)?;
+    put_heading(out, name, turn, fall)?;
     put_row(out, fall)?;
-    put_outcome(alloc, out, o, fall)?;
+    put_outcome(out, o, fall)?;
     put_mind(out, before, turn, fall.row.as_slice())?;
     out.append(b"\n")
 }
@@ -225,7 +238,6 @@ pub fn is_told(unhandled: bool, fall: &FallLine) -> bool
 
 /// Appends an entry, where the failure is told.
 fn put_told(
-    alloc: Global,
     out: &mut Text,
     unhandled: bool,
     o: &Options,
@@ -237,14 +249,14 @@ fn put_told(
     ensures { OnOk result (out.new ≡ out.old ++ spec.told_text unhandled o.now before.now name.now own.now fall.now) }
 {
     if is_told(unhandled, fall) {
-        return put_entry(alloc, out, o, before, name, turn_of(own, fall), fall);
+        put_entry(out, o, before, name, turn_of(own, fall), fall)
+    } else {
+        Ok(())
     }
-    Ok(())
 }
 
 /// Appends the entries of an agent, of which these are the turns.
 pub fn put_agent(
-    alloc: Global,
     out: &mut Text,
     unhandled: bool,
     o: &Options,
@@ -256,7 +268,7 @@ pub fn put_agent(
     ensures { OnOk result (out.new ≡ out.old ++ spec.agent_text unhandled o.now before.now name.now own.now falls.now) }
 {
     'falls: for fall in falls {
-        put_told(alloc, out, unhandled, o, before, name, own, fall)?;
+        put_told(out, unhandled, o, before, name, own, fall)?;
     }
     Ok(())
 }

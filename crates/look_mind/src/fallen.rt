@@ -13,7 +13,7 @@ ghost use Rattle.look_mind.specs.Fallen as spec;
 use asl_exec_circumstance::shared::SharedNames;
 use asl_term::sequence::{Seq, Starved};
 use asl_term::syntax::{Numbers, Text};
-use look_falls::falls::FallLines;
+use look_lines::falls::FallLines;
 use look_run::falling::falls_after;
 use mas_mind::mind::Level;
 use mas_report::options::Options;

@@ -26,7 +26,7 @@ use std::alloc::Global;
 
 /// The look at an agent of the project of this word, where there are these artifacts and the bytes are the report of its run; or why a
 /// file of the project is refused.
-#[tactic(auto, using(mas_top_opening::proofs::Able::can_run, crate::proofs::Verdicts::looked))]
+#[tactic(auto, using(crate::proofs::Verdicts::looked))]
 pub fn look_in<S: Shelf, A: Artifact>(
     alloc: Global,
     artifacts: Vec<A>,
@@ -56,7 +56,7 @@ pub fn look_in<S: Shelf, A: Artifact>(
 
 /// What changes along the run of the project of this word, where there are these artifacts and the bytes are the report of its run; or why a
 /// file of the project is refused.
-#[tactic(auto, using(mas_top_opening::proofs::Able::can_run, crate::proofs::Owned::told_in))]
+#[tactic(auto, using(crate::proofs::Owned::told_in))]
 pub fn changes_in<S: Shelf, A: Artifact>(
     alloc: Global,
     artifacts: Vec<A>,
@@ -83,7 +83,7 @@ pub fn changes_in<S: Shelf, A: Artifact>(
 }
 
 /// The failures along the turns that bytes tell, of the project of this word, where there are these artifacts; or why a file of the project is refused.
-#[tactic(auto, using(mas_top_opening::proofs::Able::can_run, crate::proofs::Stacked::fallen_in))]
+#[tactic(auto, using(crate::proofs::Stacked::fallen_in))]
 pub fn fallen_in<S: Shelf, A: Artifact>(
     alloc: Global,
     artifacts: Vec<A>,
@@ -111,7 +111,7 @@ pub fn fallen_in<S: Shelf, A: Artifact>(
 
 /// The texts of the agents before the marked turns of the run of the project of this word, where there are these artifacts and the bytes are its report; or
 /// why a file of the project is refused.
-#[tactic(auto, using(mas_top_opening::proofs::Able::can_run, crate::proofs::Stacked::told_in))]
+#[tactic(auto, using(crate::proofs::Stacked::told_in))]
 pub fn stacks_in<S: Shelf, A: Artifact>(
     alloc: Global,
     artifacts: Vec<A>,

@@ -19,6 +19,5 @@ pub mod lines;
 pub mod look;
 pub mod marks;
 pub mod reasons;
-pub mod stack_texts;
 pub mod stacks;
 pub mod telling;

@@ -6,7 +6,7 @@ ghost use Rattle.look_mind.specs.Rows as spec;
 
 use crate::changes::MindChanges;
 use chart_page::minds::MindLine;
-use look_change::change::ChangedLine;
+use look_lines::change::ChangedLine;
 use std::alloc::{AllocError, Global};
 
 /// Puts the number of a turn, where it is the agent's own.
@@ -137,7 +137,8 @@ fn last_name(turns: &[u64]) -> u64
     last
 }
 
-/// All lines, by agent, and those of each by turn. (0 is no agent's number, and its turns change nothing.)
+/// Each line of the change of each turn, as one of that turn and of its agent. They are put in by agent, and those of each by turn; the contract says that they
+/// are there, and not in which order. (0 is no agent's number, and its turns change nothing.)
 pub fn mind_lines<'a>(alloc: Global, told: &'a MindChanges) -> Result<Vec<MindLine<'a>>, AllocError>
     ensures { IfOk result (λ lines. spec.TellsRows told.now (spec.rows_of lines.items)) }
 {

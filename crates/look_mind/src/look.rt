@@ -36,7 +36,6 @@ pub enum Look {
 }
 
 /// The text of an agent after the first `t` turns of the run of a source that bytes tell; none where they are not its report.
-#[tactic(auto, using(mas_top_opening::proofs::Starts::starts))]
 fn text_of<A: Artifact>(
     alloc: Global,
     told: &Told,

@@ -1,28 +1,22 @@
 //! The turns with which the cycles of failures began.
 
-ghost use Rattle.std.specs.Prelude.{◌≡◌, ◌<◌, ◌^◌, IfOk, IfSome, OnOk, [], length, replicate, slice_get, unwrap_or};
+ghost use Rattle.std.specs.Prelude.{◌≡◌, ◌<◌, ◌^◌, IfOk, IfSome, OnOk, [], length, replicate};
 ghost use Rattle.look_mind.specs.Marks as spec;
 
 use asl_term::sequence::{Seq, Starved};
 use asl_term::syntax::Numbers;
-use look_falls::falls::{FallLine, FallLines};
+use look_lines::falls::{FallLine, FallLines};
 use std::alloc::{AllocError, Global};
 
 /// Numbers of cycles are below this.
 const NUMBERS: u64 = 9_223_372_036_854_775_808;
-
-fn is_digit(byte: u8) -> bool
-    ensures { result ≡ spec.is_digit byte }
-{
-    byte >= b'0' && byte <= b'9'
-}
 
 /// A number with one more digit.
 fn with_digit(number: u64, byte: u8) -> Option<u64>
     ensures value { result ≡ spec.with_digit number byte }
     ensures small { IfSome result (λ n. n < 2 ^ 63) }
 {
-    if !is_digit(byte) {
+    if byte < b'0' || byte > b'9' {
         return None;
     }
     let more = number.checked_mul(10)?.checked_add((byte - b'0') as u64)?;
@@ -54,21 +48,15 @@ pub fn cycle_of(fall: &FallLine) -> u64
     number_of(fall.line.as_slice())
 }
 
-/// A number of a list; 0 where there is none at this place.
-fn number_at(own: &[u64], at: u64) -> u64
-    ensures { result ≡ unwrap_or (slice_get own.now at) 0 }
-{
-    match own.get(at as usize) {
-        Some(number) => *number,
-        None => 0,
-    }
-}
-
 /// The turn with which the cycle of a failure began, of the turns of its agent: each cycle has two. 0 where there is none.
 pub fn turn_of(own: &[u64], fall: &FallLine) -> u64
     ensures { result ≡ spec.turn_of own.now fall.now }
 {
-    number_at(own, cycle_of(fall).saturating_sub(1) * 2)
+    let at = cycle_of(fall).saturating_sub(1) * 2;
+    match own.get(at as usize) {
+        Some(turn) => *turn,
+        None => 0,
+    }
 }
 
 /// The numbers at a place; none where there are none.

@@ -11,7 +11,7 @@ ghost use Rattle.look_run.specs.Before.{AreBefore};
 ghost use Rattle.look_mind.specs.Stacks as spec;
 ghost use Rattle.look_mind.specs.Texts.{agent_texts};
 
-use crate::stack_texts::AgentTexts;
+use crate::agent::AgentTexts;
 use asl_term::sequence::Starved;
 use asl_term::syntax::Text;
 use look_run::before::{TextsBefore, texts_along};
@@ -23,7 +23,6 @@ use mas_world::artifact::Artifact;
 use std::alloc::Global;
 
 /// The texts before the marked ones of the first `t` turns of the run of a source that bytes tell; none where they are not its report.
-#[tactic(auto, using(mas_top_opening::proofs::Starts::starts))]
 fn texts_of<A: Artifact>(
     alloc: Global,
     told: &Told,

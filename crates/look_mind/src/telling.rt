@@ -2,34 +2,27 @@
 //!
 //! After `Starved` a part of the text may stand in `out`.
 
-ghost use Rattle.std.specs.Prelude.{◌≡◌, ◌+◌, ◌++◌, IfOk, OnOk, codes};
+ghost use Rattle.std.specs.Prelude.{◌≡◌, ◌+◌, ◌++◌, IfOk, OnOk};
 ghost use Rattle.look_mind.specs.Entries as spec;
 
 use crate::entries::{is_told, put_agent};
 use crate::fallen::RunFalls;
 use crate::marks::numbers_at;
 use asl_term::names::Names;
-use asl_term::printing::write_number;
 use asl_term::sequence::{Seq, Starved};
 use asl_term::syntax::{Numbers, Text};
 use look_answer::answer::Output;
-use look_falls::falls::{FallLine, FallLines};
-use look_falls::words::words;
+use look_lines::falls::{FallLine, FallLines};
+use look_lines::pieces::{Piece, put_pieces};
+use look_lines::words::words;
 use look_run::before::TextsBefore;
 use std::alloc::Global;
-
-/// Whether a failure is told, by a line with this word.
-fn is_counted(unhandled: bool, word: &[u8], fall: &FallLine) -> bool
-    ensures { result ≡ spec.is_counted unhandled word.now fall.now }
-{
-    is_told(unhandled, fall) && words(fall.line.as_slice()).starts_with(word)
-}
 
 /// So many, and one more where the failure is told by a line with this word.
 fn count_on(unhandled: bool, word: &[u8], fall: &FallLine, before: u64) -> u64
     ensures { result ≡ spec.written (before + spec.one_if (spec.is_counted unhandled word.now fall.now)) }
 {
-    if is_counted(unhandled, word, fall) {
+    if is_told(unhandled, fall) && words(fall.line.as_slice()).starts_with(word) {
         before.saturating_add(1)
     } else {
         before
@@ -60,39 +53,19 @@ fn count_all(unhandled: bool, word: &[u8], all: &[FallLines]) -> u64
     number
 }
 
-/// How many lines of each kind are told.
-#[derive(Clone, Copy)]
-struct Counts {
-    dropped: u64,
-    failed: u64,
-    spent: u64,
-}
-
-fn counts_of(unhandled: bool, all: &[FallLines]) -> Counts
-    ensures dropped { result.dropped ≡ spec.written (spec.count_all unhandled (codes "drops ") all.now) }
-    ensures failed { result.failed ≡ spec.written (spec.count_all unhandled (codes "failed ") all.now) }
-    ensures spent { result.spent ≡ spec.written (spec.count_all unhandled (codes "spent ") all.now) }
+/// Appends how many lines of each kind are told.
+fn put_counts(out: &mut Text, dropped: u64, failed: u64, spent: u64) -> Result<(), Starved>
+    ensures { OnOk result (out.new ≡ out.old ++ spec.numbers_text dropped failed spent) }
 {
-    let dropped = count_all(unhandled, b"drops ", all);
-    let failed = count_all(unhandled, b"failed ", all);
-    let spent = count_all(unhandled, b"spent ", all);
-    Counts {
-        dropped,
-        failed,
-        spent,
-    }
-}
-
-/// Appends them.
-fn put_counts(alloc: Global, out: &mut Text, counts: Counts) -> Result<(), Starved>
-    ensures { OnOk result (out.new ≡ out.old ++ spec.numbers_text counts.dropped counts.failed counts.spent) }
-{
-    write_number(alloc, counts.dropped, out)?;
-    out.append(b" dropped, ")?;
-    write_number(alloc, counts.failed, out)?;
-    out.append(b" failed, ")?;
-    write_number(alloc, counts.spent, out)?;
-    out.append(b" spent\n")
+    let pieces = [
+        Piece::Number(dropped),
+        Piece::Bytes(b" dropped, "),
+        Piece::Number(failed),
+        Piece::Bytes(b" failed, "),
+        Piece::Number(spent),
+        Piece::Bytes(b" spent\n"),
+    ];
+    put_pieces(out, &pieces)
 }
 
 /// The name of the agent at a place, counted from 0; empty where there is none.
@@ -111,7 +84,6 @@ fn name_at(names: &Names, k: u64) -> &[u8]
 /// Appends the entries of all agents, of which these are the turns.
 #[tactic(auto, using(crate::proofs::Counted::agents_step, crate::proofs::Counted::agents_end))]
 fn put_agents(
-    alloc: Global,
     out: &mut Text,
     unhandled: bool,
     fallen: &RunFalls,
@@ -126,24 +98,15 @@ fn put_agents(
     'agents: for k in 0..all.len() {
         let name = name_at(names, k as u64);
         let turns = numbers_at(own, k as u64);
-        put_agent(
-            alloc,
-            out,
-            unhandled,
-            o,
-            before,
-            name,
-            turns,
-            all[k].as_slice(),
-        )?;
+        put_agent(out, unhandled, o, before, name, turns, all[k].as_slice())?;
     }
     Ok(())
 }
 
-fn is_some(counts: Counts) -> bool
-    ensures { result ≡ spec.some_number counts.dropped counts.failed counts.spent }
+fn is_some(dropped: u64, failed: u64, spent: u64) -> bool
+    ensures { result ≡ spec.some_number dropped failed spent }
 {
-    counts.dropped > 0 || counts.failed > 0 || counts.spent > 0
+    dropped > 0 || failed > 0 || spent > 0
 }
 
 /// All entries, and whether there is one.
@@ -158,10 +121,13 @@ pub fn entries(
     ensures found { IfOk result (λ o. o.found ≡ spec.is_some_told unhandled fallen.now.falls) }
     ensures text { IfOk result (λ o. o.text ≡ spec.entries_text unhandled fallen.now before.now own.now) }
 {
-    let counts = counts_of(unhandled, fallen.falls.as_slice());
-    let found = is_some(counts);
+    let all = fallen.falls.as_slice();
+    let dropped = count_all(unhandled, b"drops ", all);
+    let failed = count_all(unhandled, b"failed ", all);
+    let spent = count_all(unhandled, b"spent ", all);
+    let found = is_some(dropped, failed, spent);
     let mut text = Seq::new(alloc);
-    put_agents(alloc, &mut text, unhandled, fallen, before, own)?;
-    put_counts(alloc, &mut text, counts)?;
+    put_agents(&mut text, unhandled, fallen, before, own)?;
+    put_counts(&mut text, dropped, failed, spent)?;
     Ok(Output { text, found })
 }

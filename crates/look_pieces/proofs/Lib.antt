@@ -1,3 +1,5 @@
 pub mod Each
 pub mod Told
 pub mod Bytes
+pub mod Lists
+pub mod Planless

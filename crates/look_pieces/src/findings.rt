@@ -9,6 +9,7 @@ use asl_term::copying::text_of;
 use asl_term::sequence::{Seq, Starved};
 use asl_term::syntax::Text;
 use look_reasons::excerpt::{Marked, put_excerpt};
+use look_reasons::phrase::{Phrase, put_phrases, sentence};
 use look_reasons::reason::Reason;
 use std::alloc::Global;
 
@@ -40,22 +41,31 @@ pub fn about(
     column: u64,
     r: &Reason,
 ) -> Result<Text, Starved> {
-    let mut out = Seq::new(alloc);
-    out.append(r.text.as_slice())?;
-    out.append(b" [")?;
-    out.append(r.code)?;
-    out.append(b"]\n")?;
+    let reason = [
+        Phrase::Words(r.text.as_slice()),
+        Phrase::Words(b" ["),
+        Phrase::Words(r.code),
+        Phrase::Words(b"]\n"),
+    ];
+    let mut out = sentence(alloc, &reason)?;
     let marked = Marked {
         line,
         column,
         at: r.at,
         end: r.end,
     };
-    put_excerpt(alloc, bytes, marked, &mut out)?;
+    let mut spent = put_excerpt(alloc, bytes, marked, &mut out).is_err();
     for note in r.notes.as_slice() {
-        out.append(b"      = ")?;
-        out.append(note.as_slice())?;
-        out.push(b'\n')?;
+        let line = [
+            Phrase::Words(b"      = "),
+            Phrase::Words(note.as_slice()),
+            Phrase::Words(b"\n"),
+        ];
+        spent = spent || put_phrases(alloc, &line, &mut out).is_err();
+    }
+    if spent {
+        drop(out);
+        return Err(Starved);
     }
     Ok(out)
 }

@@ -99,16 +99,21 @@ fn others_of(
     faults: &[Spoilt],
     found: Findings,
 ) -> Result<Vec<Finding>, Starved> {
-    let mut all = Vec::new(alloc);
+    let mut all = Seq::new(alloc);
+    let mut spent = false;
     for (k, x) in faults.iter().enumerate() {
         if k > 0 {
-            all.push(byte_found(alloc, bytes, x, x.at as u64)?)?;
+            match byte_found(alloc, bytes, x, x.at as u64) {
+                Ok(f) => spent = all.push(f).is_err() || spent,
+                Err(_) => spent = true,
+            }
         }
     }
-    for f in found.into_vec() {
-        all.push(f)?;
+    if spent || all.append_all(found).is_err() {
+        drop(all);
+        return Err(Starved);
     }
-    Ok(all)
+    Ok(all.into_vec())
 }
 
 /// The first of the faults, at its place.

@@ -4,7 +4,7 @@ use crate::mark::between;
 use asl_lexer::lexing::tokens;
 use asl_lexer::token::{LexFault, Toks};
 use asl_term::copying::text_of;
-use asl_term::sequence::{Seq, Starved};
+use asl_term::sequence::Starved;
 use asl_term::syntax::Text;
 use std::alloc::Global;
 
@@ -61,7 +61,7 @@ impl Mended {
 /// How many faults are looked for.
 const MOST_FAULTS: usize = 200;
 
-const MARK: &[u8] = b"\xef\xbb\xbf";
+pub const MARK: &[u8] = b"\xef\xbb\xbf";
 
 const OPEN_QUOTE: &[u8] = b"\xe2\x80\x9c";
 
@@ -174,17 +174,15 @@ enum Fill {
 
 /// What bytes outside strings are taken for, and whether that is meant.
 fn meant(raw: &[u8], behind: u8) -> (Fill, bool) {
-    let first = byte_at(raw, 0);
-    if raw.len() == 1 && first == b'/' {
-        return (Fill::Byte(b'*'), true);
+    if raw == b"/".as_slice() {
+        (Fill::Byte(b'*'), true)
+    } else if raw == b"\\".as_slice() && behind == b'=' {
+        (Fill::Byte(b'='), true)
+    } else if is_quoted(raw) {
+        (Fill::String, true)
+    } else {
+        (Fill::Byte(b' '), byte_at(raw, 0) == b'%' || raw == MARK)
     }
-    if raw.len() == 1 && first == b'\\' && behind == b'=' {
-        return (Fill::Byte(b'='), true);
-    }
-    if is_quoted(raw) {
-        return (Fill::String, true);
-    }
-    (Fill::Byte(b' '), first == b'%' || raw == MARK)
 }
 
 /// A fault, and what stands in its place.
@@ -237,45 +235,47 @@ fn patch_for(alloc: Global, bytes: &[u8], why: LexFault) -> Result<Patch, Starve
     Ok((fault, fill))
 }
 
-fn patched(alloc: Global, bytes: &[u8], fault: Spoilt, fill: Fill) -> Result<Text, Starved> {
-    let mut text = Seq::new(alloc);
+/// Puts in the place of a fault what stands for it.
+fn patch(text: &mut Text, fault: Spoilt, fill: Fill) {
     let last = fault.end.saturating_sub(1);
-    for (at, b) in bytes.iter().enumerate() {
-        let edge = at == fault.at || at == last;
-        let filled = match fill {
-            Fill::Byte(b) => b,
-            Fill::String => if edge { b'"' } else { b'x' },
-            Fill::Blank => if *b == b'\n' { b'\n' } else { b' ' },
-        };
-        let within = fault.at <= at && at <= last;
-        text.push(if within { filled } else { *b })?;
+    for at in fault.at..fault.end {
+        if (at as u64) < text.len() {
+            let byte = text.at_mut(at as u64);
+            let edge = at == fault.at || at == last;
+            *byte = match fill {
+                Fill::Byte(b) => b,
+                Fill::String => if edge { b'"' } else { b'x' },
+                Fill::Blank => if *byte == b'\n' { b'\n' } else { b' ' },
+            };
+        }
     }
-    Ok(text)
+}
+
+/// Takes the first fault that is left for what stands in its place, where there is one. Else the bytes are tokens.
+fn mend_first(alloc: Global, m: &mut Mended) -> Result<(), Starved> {
+    match tokens(alloc, m.text.as_slice()) {
+        Ok(toks) => m.toks = Some(toks),
+        Err(why) => {
+            let (fault, fill) = patch_for(alloc, m.text.as_slice(), why)?;
+            m.faults.push(fault)?;
+            patch(&mut m.text, fault, fill);
+        }
+    }
+    Ok(())
 }
 
 /// The faults of bytes, in order.
 pub fn mended_of(alloc: Global, bytes: &[u8]) -> Result<Mended, Starved> {
-    let mut faults = Vec::new(alloc);
-    let mut text = text_of(alloc, bytes)?;
+    let mut m = Mended {
+        faults: Vec::new(alloc),
+        text: text_of(alloc, bytes)?,
+        toks: None,
+    };
     for _ in 0..MOST_FAULTS {
-        match tokens(alloc, text.as_slice()) {
-            Ok(toks) => {
-                return Ok(Mended {
-                    faults,
-                    text,
-                    toks: Some(toks),
-                });
-            }
-            Err(why) => {
-                let (fault, fill) = patch_for(alloc, text.as_slice(), why)?;
-                faults.push(fault)?;
-                text = patched(alloc, text.as_slice(), fault, fill)?;
-            }
+        mend_first(alloc, &mut m)?;
+        if m.toks.is_some() {
+            return Ok(m);
         }
     }
-    Ok(Mended {
-        faults,
-        text,
-        toks: None,
-    })
+    Ok(m)
 }

@@ -212,10 +212,14 @@ const OTHERWISE: Rule = Rule {
     told: b"byte\nthe byte $n stands in no token",
 };
 
+fn byte_rules() -> &'static [Rule] {
+    &RULES
+}
+
 /// The first rule that fits.
 fn rule_for(bytes: &[u8], x: &Spoilt, raw: &[u8]) -> &'static Rule {
     let first = byte_at(raw, 0);
-    for rule in &RULES {
+    for rule in byte_rules() {
         let also = match rule.also {
             Also::Nothing => true,
             Also::Front => x.at == 0,
@@ -290,19 +294,20 @@ fn too_deep<'a>(marks: &[Mark<'a>]) -> Option<Mark<'a>> {
 
 /// Which limit a piece passes.
 pub fn limit_reason(alloc: Global, p: &Piece<'_>) -> Result<Reason, Starved> {
-    let (span, words, note): (_, &[u8], &[u8]) = match (too_deep(p.marks), p.marks.first()) {
-        (Some(m), _) => ((m.at, m.end), b"more than 250 brackets are open here", b""),
-        (None, Some(m)) => ((m.at, m.end), TOO_LARGE, BREAK_UP),
-        (None, None) => ((0, 1), TOO_LARGE, BREAK_UP),
+    let deep = too_deep(p.marks);
+    let (words, note) = match &deep {
+        Some(_) => (TOO_DEEP, b"".as_slice()),
+        None => (TOO_LARGE, BREAK_UP),
     };
-    reason_of(
-        alloc,
-        span,
-        b"limit",
-        &[Phrase::Words(words)],
-        &[Phrase::Words(note)],
-    )
+    let span = match deep.or(p.marks.first().copied()) {
+        Some(m) => (m.at, m.end),
+        None => (0, 1),
+    };
+    let words = [Phrase::Words(words)];
+    reason_of(alloc, span, b"limit", &words, &[Phrase::Words(note)])
 }
+
+const TOO_DEEP: &[u8] = b"more than 250 brackets are open here";
 
 const TOO_LARGE: &[u8] =
     b"a term or formula of this clause has more than 10,000 nodes or 250 levels";
@@ -342,6 +347,17 @@ pub fn artifact_reason(
 const UNBOUND: &[u8] =
     b"a variable of an effect stands in the act, behind by, or in a literal of the guard without not";
 
+/// The first variable of this name in the effects of an act. One without a name stands as `_`, and its name goes on with a blank.
+fn unbound_in<'a>(effects: &[Mark<'a>], name: &[u8]) -> Option<Mark<'a>> {
+    let spelled: &[u8] = if name.starts_with(b"_ ") { b"_" } else { name };
+    for m in effects {
+        if matches!(m.word, Word::Var) && m.text == spelled {
+            return Some(*m);
+        }
+    }
+    None
+}
+
 /// Why a piece is refused of which an effect has a variable of this name that nothing binds.
 pub fn unbound_reason(
     alloc: Global,
@@ -350,16 +366,17 @@ pub fn unbound_reason(
 ) -> Result<Option<Reason>, Starved> {
     let world = Piece { world: true, ..*p };
     let r = read(alloc, &world);
-    if r.spent {
+    let spent = r.spent;
+    let from = r.arrow.min(p.marks.len());
+    drop(r);
+    if spent {
         return Err(Starved);
     }
-    let from = r.arrow.min(p.marks.len());
-    for m in &p.marks[from..] {
-        let unnamed = m.text == b"_".as_slice() && name.starts_with(b"_ ");
-        if matches!(m.word, Word::Var) && (unnamed || m.text == name) {
+    match unbound_in(&p.marks[from..], name) {
+        Some(m) => {
             let note = [Phrase::Words(UNBOUND)];
-            return reason_naming(alloc, m, b"unbound", b"nothing binds ", &note);
+            reason_naming(alloc, &m, b"unbound", b"nothing binds ", &note)
         }
+        None => Ok(None),
     }
-    Ok(None)
 }

@@ -152,10 +152,8 @@ pub enum Also {
     Formula,
     /// The internal action may not stand in a formula.
     Impure,
-    /// The token is spelled so; so, and an atom is behind it, or `~`.
-    Text(Spelling),
-    BeforeAtom(Spelling),
-    BeforeTilde(Spelling),
+    /// The token is spelled so, and the one behind it is this.
+    Text(Spelling, Class),
     /// The name is used already.
     Used,
 }

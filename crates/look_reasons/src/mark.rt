@@ -34,21 +34,27 @@ pub fn marks_of<'a>(
     toks: &[Tok],
 ) -> Result<Vec<Mark<'a>>, Starved> {
     let mut all = Vec::new(alloc);
+    let mut spent = false;
     for t in toks {
         let at = (t.at as usize).min(bytes.len());
-        let len = match token_at(&bytes[at..]) {
+        let len = match token_at(between(bytes, at, bytes.len())) {
             Some((_, len)) => len,
             None => 0,
         };
         let end = at.saturating_add(len).min(bytes.len());
-        all.push(Mark {
+        let m = Mark {
             word: word(t),
             text: between(bytes, at, end),
             at,
             end,
             line: t.line,
             column: t.column,
-        })?;
+        };
+        spent = spent || all.push(m).is_err();
+    }
+    if spent {
+        drop(all);
+        return Err(Starved);
     }
     Ok(all)
 }
@@ -83,6 +89,25 @@ pub fn mark_at<'a>(marks: &[Mark<'a>], place: usize) -> Mark<'a> {
     }
 }
 
+/// Puts a token of this text that stands before another.
+fn put_text<'a>(
+    alloc: Global,
+    text: &'static [u8],
+    like: Mark<'a>,
+    all: &mut Vec<Mark<'a>>,
+) -> Result<(), Starved> {
+    let m = Mark {
+        word: word_of(alloc, text)?,
+        text,
+        end: like.at,
+        ..like
+    };
+    match all.push(m) {
+        Ok(()) => Ok(()),
+        Err(_) => Err(Starved),
+    }
+}
+
 /// A piece in which `removed` tokens from a place on give way to tokens of these texts, but for empty ones.
 pub fn spliced<'a>(
     alloc: Global,
@@ -94,22 +119,16 @@ pub fn spliced<'a>(
     let mut all = Vec::new(alloc);
     let from = at.min(marks.len());
     let to = from.saturating_add(removed).min(marks.len());
-    for m in &marks[..from] {
-        all.push(*m)?;
-    }
     let like = mark_at(marks, at.min(marks.len().saturating_sub(1)));
+    let mut spent = all.extend_from_slice(&marks[..from]).is_err();
     for text in put {
         if !text.is_empty() {
-            all.push(Mark {
-                word: word_of(alloc, *text)?,
-                text: *text,
-                end: like.at,
-                ..like
-            })?;
+            spent = spent || put_text(alloc, *text, like, &mut all).is_err();
         }
     }
-    for m in &marks[to..] {
-        all.push(*m)?;
+    if spent || all.extend_from_slice(&marks[to..]).is_err() {
+        drop(all);
+        return Err(Starved);
     }
     Ok(all)
 }

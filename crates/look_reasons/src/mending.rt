@@ -4,8 +4,7 @@ use crate::bytes::byte_at;
 use crate::mark::{Mark, cut_at, is_any_sign, mark_at, spliced};
 use crate::reading::read;
 use asl_lexer::token::Word;
-use asl_term::copying::text_of;
-use asl_term::sequence::Starved;
+use asl_term::sequence::{Seq, Starved};
 use asl_term::syntax::Text;
 use std::alloc::Global;
 
@@ -48,7 +47,7 @@ pub struct Fix {
 /// Changes in the order in which they are tried, one in each line: a letter for what is done, what is put, and in place of which pair of signs.
 const CHANGES: &[u8] =
     b"l .\nm ;\nb )\nb ]\nm &\nm ,\nm <-\nm :\nm <=\ne .\ni ;\ni )\ni ]\ni &\ni ,\ni <-\ni :\ni <=\ni .print\ni .\n\
-    r <= =<\nr >= =>\nr \\== !=\nr & &&\nr | ||\nx";
+    p <= =<\nr <= =<\np >= =>\nr >= =>\np \\== !=\nr \\== !=\np & &&\nr & &&\np | ||\nr | ||\nx";
 
 /// A piece of which changes are tried, and whether memory was refused.
 #[derive(Clone, Copy)]
@@ -103,15 +102,37 @@ impl<'a> Trial<'a> {
         }
     }
 
-    /// Whether the piece is read where this stands in place of this pair of signs, at the place or directly before it.
-    fn is_read_for_pair(&mut self, put: &'static [u8], pair: &[u8]) -> bool {
+    /// How many tokens a change takes away, and from which on, where it may be tried.
+    fn place_of(&self, letter: u8, put: &[u8], pair: &[u8]) -> Option<(usize, usize)> {
+        let marks = self.piece.marks;
         let at = self.at;
-        for from in at.saturating_sub(1)..at.saturating_add(1) {
-            if is_pair(self.piece.marks, from, pair) && self.is_read(from, 2, put) {
-                return true;
+        let before = at.saturating_sub(1);
+        let m = mark_at(marks, at);
+        let end = matches!(m.word, Word::End);
+        let within = at > 0 && at < marks.len();
+        let left = within && !end && m.column <= mark_at(marks, 0).column;
+        let sign = is_any_sign(m.word) || matches!(m.word, Word::Inner);
+        let (is, from, removed) = match letter {
+            b'l' => (left || at >= marks.len(), at, marks.len()),
+            b'e' => (within && !end, at, marks.len()),
+            b'b' | b'm' => (within, at, 0),
+            b'i' => (sign && is_other(put, m.text), at, 1),
+            b'p' => (sign && is_pair(marks, before, pair), before, 2),
+            b'r' => (sign && is_pair(marks, at, pair), at, 2),
+            b'x' => (!end && at.saturating_add(1) < marks.len(), at, 1),
+            _ => (false, at, 0),
+        };
+        if is { Some((from, removed)) } else { None }
+    }
+
+    /// Whether the piece is read with a change. Where a dot is put, what stands before it has to be read, and what is behind it in some cases.
+    fn is_mended(&mut self, letter: u8, put: &'static [u8], pair: &[u8]) -> bool {
+        match self.place_of(letter, put, pair) {
+            Some((from, removed)) => {
+                self.is_read(from, removed, put) && (letter != b'e' || self.is_read(0, from, b""))
             }
+            None => false,
         }
-        false
     }
 }
 
@@ -141,37 +162,21 @@ fn kind_of(letter: u8) -> FixKind {
         b'b' => FixKind::Bracket,
         b'm' => FixKind::Missing,
         b'i' => FixKind::Instead,
-        b'r' => FixKind::Relation,
+        // In place of a pair that begins before the token, or with it.
+        b'p' | b'r' => FixKind::Relation,
         _ => FixKind::Extra,
     }
 }
 
 /// The first change at the place with which the whole piece is read.
 fn first_fix(t: &mut Trial<'_>) -> Fix {
-    let at = t.at;
-    let count = t.piece.marks.len();
-    let m = mark_at(t.piece.marks, at);
-    let end = matches!(m.word, Word::End);
-    let within = at > 0 && at < count;
-    let ends = (at >= count || (at > 0 && !end)) && t.is_read(at, count, b".");
-    let left = at >= count || m.column <= mark_at(t.piece.marks, 0).column;
-    let sign = is_any_sign(m.word) || matches!(m.word, Word::Inner);
     let mut rest = CHANGES;
     for _ in CHANGES {
         let (line, behind) = cut_at(rest, b'\n');
         let (way, words) = cut_at(line, b' ');
         let (put, pair) = cut_at(words, b' ');
         let letter = byte_at(way, 0);
-        let mends = match letter {
-            b'l' => ends && left,
-            b'e' => ends && within && t.is_read(0, at, b""),
-            b'b' | b'm' => within && t.is_read(at, 0, put),
-            b'i' => sign && is_other(put, m.text) && t.is_read(at, 1, put),
-            b'r' => sign && t.is_read_for_pair(put, pair),
-            b'x' => !end && at.saturating_add(1) < count && t.is_read(at, 1, b""),
-            _ => false,
-        };
-        if mends {
+        if t.is_mended(letter, put, pair) {
             return t.fix(kind_of(letter), put, pair);
         }
         rest = behind;
@@ -226,25 +231,27 @@ const MOST_KINDS: usize = 9;
 pub fn expected(alloc: Global, p: &Piece<'_>, at: usize) -> Result<Text, Starved> {
     let mut t = trial_at(alloc, p, at);
     let at = t.at;
-    let mut words = text_of(alloc, b"here may stand:")?;
+    let mut words = Seq::new(alloc);
+    let mut blanks: &[u8] = b"here may stand: ";
     let mut count: usize = 0;
     let mut last: &[u8] = b"";
     let mut rest = KINDS;
     for _ in KINDS {
         let (line, behind) = cut_at(rest, b'\n');
         let (name, put) = cut_at(line, b'\t');
-        rest = behind;
         if !put.is_empty() && name != last && t.try_with(at, p.marks.len(), put).1 > at {
-            words.append(if count == 0 { b" " } else { b"  " })?;
-            words.append(name)?;
+            t.spent = t.spent || words.append(blanks).is_err() || words.append(name).is_err();
+            blanks = b"  ";
             count = count.saturating_add(1);
             last = name;
         }
+        rest = behind;
     }
     if t.spent {
+        drop(words);
         return Err(Starved);
     }
-    if count == 0 || count > MOST_KINDS {
+    if count > MOST_KINDS {
         words.truncate(0);
     }
     Ok(words)

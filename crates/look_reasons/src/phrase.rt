@@ -18,16 +18,22 @@ pub enum Phrase<'a> {
 pub fn put_phrase(alloc: Global, phrase: Phrase<'_>, out: &mut Text) -> Result<(), Starved> {
     match phrase {
         Phrase::Words(words) => out.append(words),
-        Phrase::Shown(bytes) => put_shown(alloc, bytes, out),
+        Phrase::Shown(bytes) => put_shown(bytes, out),
         Phrase::Number(n) => write_number(alloc, n, out),
     }
+}
+
+/// Puts these parts.
+pub fn put_phrases(alloc: Global, phrases: &[Phrase<'_>], out: &mut Text) -> Result<(), Starved> {
+    for phrase in phrases {
+        put_phrase(alloc, *phrase, out)?;
+    }
+    Ok(())
 }
 
 /// A sentence of these parts.
 pub fn sentence(alloc: Global, phrases: &[Phrase<'_>]) -> Result<Text, Starved> {
     let mut out = Seq::new(alloc);
-    for phrase in phrases {
-        put_phrase(alloc, *phrase, &mut out)?;
-    }
+    put_phrases(alloc, phrases, &mut out)?;
     Ok(out)
 }

@@ -260,7 +260,7 @@ fn is_term(left: Left) -> bool {
 fn holds(r: &Reading<'_>, also: Also) -> bool {
     let text = mark_at(r.piece.marks, r.at).text;
     let next = mark_at(r.piece.marks, r.at.saturating_add(1)).word;
-    let call = r.now.call;
+    let Call { arity, count, .. } = r.now.call;
     let unfit = matches!(r.left, Left::Term | Left::True | Left::False);
     match also {
         Also::Nothing => true,
@@ -273,13 +273,11 @@ fn holds(r: &Reading<'_>, also: Also) -> bool {
         Also::Free => !r.plain,
         Also::Variables => !r.ground,
         Also::Agent => !r.piece.world,
-        Also::Full => call.arity.high == Some(call.count),
-        Also::Few => call.count < call.arity.low,
-        Also::Formula => call.arity.formula == Some(call.count),
-        Also::Impure => !call.arity.pure,
-        Also::Text(spelling) => text == spelled(spelling),
-        Also::BeforeAtom(spelling) => text == spelled(spelling) && is_atom(next),
-        Also::BeforeTilde(spelling) => text == spelled(spelling) && is_sign(next, Sign::Tilde),
+        Also::Full => arity.high == count,
+        Also::Few => count < arity.low,
+        Also::Formula => arity.formula == count,
+        Also::Impure => !arity.pure,
+        Also::Text(spelling, class) => text == spelled(spelling) && is_of(next, class),
         Also::Used => is_used(r.piece.used, text),
     }
 }

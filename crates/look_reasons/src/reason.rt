@@ -10,7 +10,7 @@ use crate::rules::{
     Rule, Span, Test, action_rules, brace_rules, item_rules, last_rule, sign_rules, term_rules,
     world_rules,
 };
-use crate::table::Arity;
+use crate::table::{ANY, Arity};
 use asl_lexer::token::Word;
 use asl_term::sequence::{Seq, Starved};
 use asl_term::syntax::Text;
@@ -58,35 +58,22 @@ pub fn reason_of(
     words: &[Phrase<'_>],
     note: &[Phrase<'_>],
 ) -> Result<Reason, Starved> {
-    let text = sentence(alloc, words)?;
-    let note = sentence(alloc, note)?;
     let mut notes = Seq::new(alloc);
-    if note.len() > 0 {
-        notes.push(note)?;
+    let mut spent = false;
+    put_note(sentence(alloc, note), &mut notes, &mut spent);
+    match sentence(alloc, words) {
+        Ok(text) if !spent => Ok(Reason {
+            at: span.0,
+            end: span.1,
+            code,
+            text,
+            notes,
+        }),
+        _ => {
+            drop(notes);
+            Err(Starved)
+        }
     }
-    Ok(Reason {
-        at: span.0,
-        end: span.1,
-        code,
-        text,
-        notes,
-    })
-}
-
-/// The same where the parts are words alone.
-pub fn reason_at(
-    alloc: Global,
-    span: (usize, usize),
-    code: &'static [u8],
-    parts: &[&[u8]],
-    note: &[u8],
-) -> Result<Reason, Starved> {
-    let mut words = Seq::new(alloc);
-    for part in parts {
-        words.append(*part)?;
-    }
-    let phrases = [Phrase::Words(words.as_slice())];
-    reason_of(alloc, span, code, &phrases, &[Phrase::Words(note)])
 }
 
 /// The place where a reading stopped, the tokens around it, and a change with which the piece is read.
@@ -184,9 +171,13 @@ const ELSEWHERE: [(&[u8], &[u8]); 8] = [
     ),
 ];
 
+fn words_elsewhere() -> &'static [(&'static [u8], &'static [u8])] {
+    &ELSEWHERE
+}
+
 /// What stands in place of a word of control, or of an internal action that is not there; no bytes where nothing does.
 fn instead_of(word: &[u8]) -> &'static [u8] {
-    for (words, note) in &ELSEWHERE {
+    for (words, note) in words_elsewhere() {
         if is_listed(words, word) {
             return note;
         }
@@ -251,24 +242,16 @@ fn phrase_of<'a>(a: &Around<'a>, letter: u8) -> Phrase<'a> {
 
 /// A part of how many arguments an internal action takes: the least number, what stands before the most, that, and the word.
 fn arguments_phrase(arity: Arity, letter: u8) -> Phrase<'static> {
-    let none = arity.high == Some(0);
-    let one = arity.high == Some(1);
-    let same = arity.high == Some(arity.low);
+    let Arity { low, high, .. } = arity;
     match letter {
-        b'l' => if none {
-            Phrase::Words(b"no")
-        } else {
-            Phrase::Number(arity.low as u64)
-        },
-        b'A' => Phrase::Words(if one { b" argument" } else { b" arguments" }),
-        b'q' => match arity.high {
-            None => Phrase::Words(b" or more"),
-            Some(_) => Phrase::Words(if same { b"" } else { b" or " }),
-        },
-        _ => match arity.high {
-            Some(high) if !same => Phrase::Number(high as u64),
-            _ => Phrase::Words(b""),
-        },
+        b'l' if high == 0 => Phrase::Words(b"no"),
+        b'l' => Phrase::Number(low as u64),
+        b'A' if high == 1 => Phrase::Words(b" argument"),
+        b'A' => Phrase::Words(b" arguments"),
+        b'q' if high == ANY => Phrase::Words(b" or more"),
+        b'q' if high > low => Phrase::Words(b" or "),
+        b'h' if high > low && high < ANY => Phrase::Number(high as u64),
+        _ => Phrase::Words(b""),
     }
 }
 
@@ -449,14 +432,20 @@ fn reason_for(
     let (at, end) = bytes_at(&a, rule.span);
     let (code, told) = cut_at(rule.told, b'\n');
     let (words, note) = cut_at(told, b'\n');
-    let text = said_at(alloc, &a, words)?;
-    Ok(Reason {
-        at,
-        end,
-        code,
-        text,
-        notes: notes_of(alloc, &a, at, code, note)?,
-    })
+    let notes = notes_of(alloc, &a, at, code, note)?;
+    match said_at(alloc, &a, words) {
+        Ok(text) => Ok(Reason {
+            at,
+            end,
+            code,
+            text,
+            notes,
+        }),
+        Err(_) => {
+            drop(notes);
+            Err(Starved)
+        }
+    }
 }
 
 /// At most so many reasons are told of a piece.
@@ -470,6 +459,26 @@ fn is_further(r: &Reading<'_>, all: &Seq<Reason>) -> bool {
             None => false,
         },
         [] => true,
+    }
+}
+
+/// Puts why a reading stopped, where it did and behind the place of the reason before, and gives the word for it.
+fn put_reason(
+    alloc: Global,
+    p: &Piece<'_>,
+    r: &Reading<'_>,
+    all: &mut Seq<Reason>,
+) -> Result<Option<&'static [u8]>, Starved> {
+    match r.halt {
+        Some(halt) if is_further(r, &*all) => {
+            let told = reason_for(alloc, p, r, halt)?;
+            let code = told.code;
+            match all.push(told) {
+                Ok(()) => Ok(Some(code)),
+                Err(_) => Err(Starved),
+            }
+        }
+        _ => Ok(None),
     }
 }
 
@@ -489,16 +498,11 @@ fn put_first<'a>(
     if r.spent {
         return Err(Starved);
     }
-    let Some(halt) = r.halt else {
-        return Ok(None);
-    };
-    if !is_further(&r, all) {
-        return Ok(None);
+    match put_reason(alloc, &p, &r, all) {
+        Ok(Some(code)) => repaired(alloc, marks, &r, code),
+        Ok(None) => Ok(None),
+        Err(_) => Err(Starved),
     }
-    let told = reason_for(alloc, &p, &r, halt)?;
-    let code = told.code;
-    all.push(told)?;
-    repaired(alloc, marks, &r, code)
 }
 
 /// The reason at the first place where no reading of the piece goes on, and those behind it, as far as what is meant is known. None
@@ -507,10 +511,14 @@ pub fn reasons(alloc: Global, piece: &Piece<'_>) -> Result<Seq<Reason>, Starved>
     let mut all = Seq::new(alloc);
     let mut marks = spliced(alloc, piece.marks, 0, 0, &[])?;
     for _ in 0..MOST_REASONS {
-        let Some(next) = put_first(alloc, piece, marks.as_slice(), &mut all)? else {
-            return Ok(all);
-        };
-        marks = next;
+        match put_first(alloc, piece, marks.as_slice(), &mut all) {
+            Ok(Some(next)) => marks = next,
+            Ok(None) => return Ok(all),
+            Err(_) => {
+                drop(all);
+                return Err(Starved);
+            }
+        }
     }
     Ok(all)
 }

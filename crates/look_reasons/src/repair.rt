@@ -100,12 +100,12 @@ fn action(marks: &[Mark<'_>], item: Option<usize>, removed: usize, here: Repair)
     })
 }
 
-/// What is done for a fault of this code.
+/// What is done for a fault.
 #[derive(Clone, Copy)]
 enum Way {
     None,
     /// Another token in its place.
-    Put(&'static [u8]),
+    Put,
     Label,
     Control,
     Own,
@@ -113,47 +113,58 @@ enum Way {
     Relation,
 }
 
-fn way_for(code: &[u8], halt: Option<Halt>) -> Way {
-    if code == b"arrow".as_slice() {
-        return Way::Put(b"<-");
-    }
-    if code == b"comma".as_slice() {
-        return Way::Put(if halt == Some(Halt::ItemEnd) {
-            b";"
-        } else {
-            b"&"
-        });
-    }
-    if code == b"variable".as_slice() && halt == Some(Halt::Literal) {
-        return Way::Put(b"p");
-    }
-    for (name, way) in &WAYS {
-        if *name == code {
-            return *way;
-        }
-    }
-    Way::None
+/// At what a reading stopped: at anything, or at this.
+#[derive(Clone, Copy)]
+enum At {
+    Any,
+    Halt(Halt),
 }
 
-const WAYS: [(&[u8], Way); 5] = [
-    (b"label", Way::Label),
-    (b"control", Way::Control),
-    (b"own-inner", Way::Own),
-    (b"no-inner", Way::Inner),
-    (b"relation", Way::Relation),
+/// The word for a fault, at what the reading stopped, what is done, and what is put.
+type WayRow = (&'static [u8], At, Way, &'static [u8]);
+
+/// The first that fits counts.
+const WAYS: [WayRow; 9] = [
+    (b"arrow", At::Any, Way::Put, b"<-"),
+    (b"comma", At::Halt(Halt::ItemEnd), Way::Put, b";"),
+    (b"comma", At::Any, Way::Put, b"&"),
+    (b"variable", At::Halt(Halt::Literal), Way::Put, b"p"),
+    (b"label", At::Any, Way::Label, b""),
+    (b"control", At::Any, Way::Control, b""),
+    (b"own-inner", At::Any, Way::Own, b""),
+    (b"no-inner", At::Any, Way::Inner, b""),
+    (b"relation", At::Any, Way::Relation, b""),
 ];
+
+fn way_rows() -> &'static [WayRow] {
+    &WAYS
+}
+
+fn way_for(code: &[u8], halt: Option<Halt>) -> (Way, &'static [u8]) {
+    for (name, at, way, put) in way_rows() {
+        let fits = match *at {
+            At::Any => true,
+            At::Halt(at) => halt == Some(at),
+        };
+        if fits && *name == code {
+            return (*way, *put);
+        }
+    }
+    (Way::None, b"")
+}
 
 /// What the fault of this code is taken for.
 fn repair_of(marks: &[Mark<'_>], r: &Reading<'_>, code: &[u8]) -> Option<Repair> {
+    let (way, put) = way_for(code, r.halt);
     let here = Repair {
         at: r.at,
         removed: 1,
-        put: b"",
+        put,
         behind: b"",
     };
-    match way_for(code, r.halt) {
+    match way {
         Way::None => None,
-        Way::Put(put) => Some(Repair { put, ..here }),
+        Way::Put => Some(here),
         Way::Label => without_annotations(marks, here),
         Way::Control => without_control(marks, r.item?),
         Way::Own => match mark_at(marks, r.at.saturating_add(1)).word {
@@ -176,7 +187,10 @@ pub fn repaired<'a>(
         return Ok(None);
     }
     match repair_of(marks, r, code) {
-        Some(x) => Ok(Some(spliced(alloc, marks, x.at, x.removed, &[x.put, x.behind])?)),
+        Some(x) => match spliced(alloc, marks, x.at, x.removed, &[x.put, x.behind]) {
+            Ok(marks) => Ok(Some(marks)),
+            Err(_) => Err(Starved),
+        },
         None => Ok(None),
     }
 }

@@ -10,18 +10,21 @@ use std::alloc::Global;
 pub struct Arity {
     pub pure: bool,
     pub low: usize,
-    /// None where there may be any more.
-    pub high: Option<usize>,
-    /// The place from 0 of the argument that is a formula.
-    pub formula: Option<usize>,
+    /// `ANY` where there may be any more.
+    pub high: usize,
+    /// The place from 0 of the argument that is a formula; `ANY` where none is.
+    pub formula: usize,
 }
+
+/// More than any number of arguments.
+pub const ANY: usize = usize::MAX;
 
 /// Those of an action that takes none.
 pub const NO_ARGUMENTS: Arity = Arity {
     pure: true,
     low: 0,
-    high: Some(0),
-    formula: None,
+    high: 0,
+    formula: ANY,
 };
 
 /// More arguments than any action takes that does not take any number of them.
@@ -29,28 +32,26 @@ const MANY: u64 = 5;
 
 /// What the internal action of this spelling takes, where there is one.
 pub fn arity_of(alloc: Global, spelled: &[u8]) -> Result<Option<Arity>, Starved> {
-    let name = match spelled {
-        [b'.', name @ ..] => text_of(alloc, name)?,
-        _ => text_of(alloc, spelled)?,
+    let name = text_of(alloc, spelled.strip_prefix(b".").unwrap_or(spelled))?;
+    let mut arity = Arity {
+        pure: false,
+        low: ANY,
+        ..NO_ARGUMENTS
     };
-    let mut arity = NO_ARGUMENTS;
-    let mut known = false;
-    arity.pure = false;
     for count in 0..MANY {
         let pure = is_pure(&name, count);
         if pure || is_deed(&name, count) {
-            arity.low = if known { arity.low } else { count as usize };
-            arity.high = Some(count as usize);
+            arity.low = arity.low.min(count as usize);
+            arity.high = count as usize;
             arity.pure = arity.pure || pure;
-            known = true;
         }
         if wants_formula(&name, count) {
-            arity.formula = Some(count as usize);
+            arity.formula = count as usize;
         }
     }
     if is_pure(&name, MANY) || is_deed(&name, MANY) {
-        arity.high = None;
+        arity.high = ANY;
     }
     drop(name);
-    Ok(if known { Some(arity) } else { None })
+    Ok(if arity.low < ANY { Some(arity) } else { None })
 }

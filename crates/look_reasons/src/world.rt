@@ -9,7 +9,7 @@ const CLAUSES: [Row; 7] = [
         State::World,
         Class::Any,
         Place::Any,
-        Also::BeforeAtom(Spelling::Hide),
+        Also::Text(Spelling::Hide, Class::Atom),
         &[
             Act::Sort(Sort::Hide),
             Act::Go,
@@ -21,14 +21,14 @@ const CLAUSES: [Row; 7] = [
         State::World,
         Class::Any,
         Place::Any,
-        Also::BeforeAtom(Spelling::Use),
+        Also::Text(Spelling::Use, Class::Atom),
         &[Act::Sort(Sort::Use), Act::Go, Act::Want(State::Use)],
     ),
     (
         State::World,
         Class::Any,
         Place::Any,
-        Also::BeforeAtom(Spelling::Act),
+        Also::Text(Spelling::Act, Class::Atom),
         &[
             Act::Sort(Sort::Act),
             Act::Go,
@@ -41,7 +41,7 @@ const CLAUSES: [Row; 7] = [
         State::World,
         Class::Any,
         Place::Any,
-        Also::BeforeTilde(Spelling::Act),
+        Also::Text(Spelling::Act, Class::Sign(Sign::Tilde)),
         &[Act::Sort(Sort::Act), Act::Go, Act::Stop(Halt::NegativeAct)],
     ),
     (
@@ -79,7 +79,7 @@ const ACTS: [Row; 7] = [
         State::ActBy,
         Class::Any,
         Place::Any,
-        Also::Text(Spelling::By),
+        Also::Text(Spelling::By, Class::Any),
         &[Act::Go, Act::Want(State::Who)],
     ),
     (
@@ -150,7 +150,7 @@ const EFFECTS: [Row; 8] = [
         State::Effect,
         Class::Any,
         Place::Any,
-        Also::Text(Spelling::Drop),
+        Also::Text(Spelling::Drop, Class::Any),
         &[
             Act::Go,
             Act::Want(State::MoreEffects),

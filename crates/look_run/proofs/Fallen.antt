@@ -1,11 +1,11 @@
 -- The failures of a run that was made to its last turn.
-use Rattle.std.proofs.Common.{ℕ, ◌≡◌, List, map, Option, None, Some, sym, subst, ap, ◌∙◌}
+use Rattle.std.proofs.Common.{ℕ, ◌≡◌, List, map, None, sym, ap, ◌∙◌}
 use Rattle.mas_mind.specs.Minds.{Kind}
 use Rattle.mas_core.specs.Platform.{Platform, run}
 use Rattle.mas_core.specs.Fits.{Played}
 use Rattle.look_run.specs.Steps.{HasGone}
-use Rattle.look_falls.specs.declared.falls.FallLine.{FallLine}
-use Rattle.look_falls.specs.Falls.{falls}
+use Rattle.look_lines.specs.declared.falls.FallLine.{FallLine}
+use Rattle.look_lines.specs.Falls.{falls}
 use Rattle.look_run.specs.Falling.{HaveFallen}
 
 pub not_gone : {V : Type 0} (k : Kind V) (p : Platform V) (first : Played V) (turns : List ℕ) → first.platform ≡ p → run k first.platform turns ≡ None →

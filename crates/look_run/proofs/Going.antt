@@ -102,3 +102,9 @@ module _ {V : Type 0} (k : Kind V) (version : ℕ) (o : Options) (bytes : List �
 
     pub leads_elsewhere : (after : Played V) → HasGone k play names after → (IsReported k version o bytes after → ⊥) → LeadsToReport k version o bytes play names → ⊥
     leads_elsewhere after g n h = n (let P = IsReported k version o bytes in subst P (one_play h.after after h.gone g) h.reported)
+
+    pub led : {E : Type 0} (after : Played V) (r : Result Bool E) → HasGone k play names after → IfOk r (Decided (IsReported k version o bytes after)) →
+        IfOk r (Decided (LeadsToReport k version o bytes play names))
+    led after (Ok true) g h = leads after g h
+    led after (Ok false) g h = leads_elsewhere after g h
+    led after (Err why) g h = tt

@@ -1,5 +1,5 @@
 -- A run in two parts, of which the second leads to a report.
-use Rattle.std.proofs.Common.{Bool, ℕ, ◌≡◌, List, [], ◌++◌, length, take, drop, take-append-drop, sym, ap, subst, ◌∙◌}
+use Rattle.std.proofs.Common.{Bool, ℕ, ◌≡◌, List, [], ◌++◌, take, drop, take-append-drop, sym, ap, subst, ◌∙◌}
 use Rattle.mas_mind.specs.Minds.{Kind}
 use Rattle.mas_core.specs.Platform.{Platform}
 use Rattle.mas_core.specs.Fits.{Played}

@@ -1,13 +1,13 @@
 -- A run along numbers, and the texts before those that are marked.
 use Rattle.std.proofs.Common.{ℕ, ◌≡◌, ◌≤◌, ◌+◌, ◌<◌, arith, Bool, true, false, not, List, [], ◌∷◌, ◌++◌, length, take, drop, get_or, take-append-drop}
-use Rattle.std.proofs.Common.{if◌then◌else◌, Option, None, Some, refl, ap, sym, subst, ◌∙◌, append_assoc, append-nil, below_more}
+use Rattle.std.proofs.Common.{Option, None, Some, refl, ap, sym, subst, ◌∙◌, append_assoc, append-nil, below_more}
 use Rattle.std.proofs.lemmas.List.{drop_more, get_or_append_left, get_or_push, length_push, take_all, take_more}
 use Rattle.mas_mind.specs.Minds.{Kind}
 use Rattle.mas_core.specs.Platform.{Platform, turn, run, and_run}
 use Rattle.mas_core.specs.Fits.{Played, TurnMade}
 use Rattle.mas_core.proofs.Turns.{one-turn, run-append, run-on}
 use Rattle.look_run.specs.Steps.{HasGone}
-use Rattle.look_run.specs.Before.{AreBefore, HasStepped, IsBefore, is_marked, texts_if}
+use Rattle.look_run.specs.Before.{AreBefore, HasStepped, IsBefore, is_marked}
 
 -- ---- a turn
 

@@ -1,5 +1,5 @@
 -- Texts of minds before some of the turns of a run.
-use Rattle.std.specs.Prelude.{ℕ, ◌+◌, ◌-◌, ◌<◌, ◌≡◌, Bool, false, if◌then◌else◌, List, [], ◌∷◌}
+use Rattle.std.specs.Prelude.{ℕ, ◌-◌, ◌<◌, ◌≡◌, Bool, false, if◌then◌else◌, List, [], ◌∷◌}
 use Rattle.std.specs.Prelude.{◌++◌, length, take, slice_get, slice_index, slice_index_or, unwrap_or, Option, Some, None}
 use Rattle.mas_mind.specs.Minds.{Kind}
 use Rattle.mas_core.specs.Platform.{Platform, is_agent, run, turn}

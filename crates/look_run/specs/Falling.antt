@@ -2,8 +2,8 @@
 use Rattle.std.specs.Prelude.{ℕ, ◌≡◌, List, map, Some}
 use Rattle.mas_mind.specs.Minds.{Kind}
 use Rattle.mas_core.specs.Platform.{Platform, run}
-use Rattle.look_falls.specs.declared.falls.FallLine.{FallLine}
-use Rattle.look_falls.specs.Falls.{falls}
+use Rattle.look_lines.specs.declared.falls.FallLine.{FallLine}
+use Rattle.look_lines.specs.Falls.{falls}
 
 -- after these turns the lines of the agents tell of these, by agent
 pub record HaveFallen {V : Type 0} (k : Kind V) (p : Platform V) (turns : List ℕ) (found : List (List FallLine)) : Type 0 where

@@ -80,7 +80,6 @@ fn texts_if<M: Mind, A: Artifact, W: MindTexts<M>>(
 }
 
 /// A turn of the agent of this number, and its texts before.
-#[tactic(auto, using(crate::proofs::Walking::not_made, crate::proofs::Walking::was_made))]
 fn step<M: Mind, A: Artifact, W: MindTexts<M>>(
     alloc: Global,
     writer: &W,

@@ -3,13 +3,13 @@
 ghost use Rattle.std.specs.Prelude.{◌≡◌, None, map, IfOk, MatchOption};
 ghost use Rattle.mas_core.specs.Fits.{Start};
 ghost use Rattle.mas_core.specs.Platform.{opening_platform, run};
-ghost use Rattle.look_falls.specs.Falls.{falls};
+ghost use Rattle.look_lines.specs.Falls.{falls};
 ghost use Rattle.look_run.specs.Falling as spec;
 
 use crate::steps::follow;
 use asl_term::sequence::{Seq, Starved};
 use asl_term::syntax::Numbers;
-use look_falls::falls::{FallLines, falls};
+use look_lines::falls::{FallLines, falls};
 use mas_board::board::Board;
 use mas_core::play::Play;
 use mas_mind::thinking::Mind;

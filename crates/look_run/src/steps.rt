@@ -18,7 +18,6 @@ use mas_world::artifact::Artifact;
 use std::alloc::Global;
 
 /// The play after a turn for each number; none where one of these has no turn.
-#[tactic(auto, using(crate::proofs::Going::gone))]
 pub fn follow<M: Mind, A: Artifact>(
     alloc: Global,
     play: Play<M, A>,
@@ -66,7 +65,6 @@ fn is_report<M: Mind, A: Artifact>(
 }
 
 /// Whether every agent has left, and the report of it, of this version, is these bytes.
-#[tactic(auto, using(crate::proofs::Going::not_ended))]
 fn is_reported<M: Mind, A: Artifact>(
     alloc: Global,
     version: u32,
@@ -85,7 +83,6 @@ fn is_reported<M: Mind, A: Artifact>(
 }
 
 /// Whether the numbers lead to a run that is done and has these bytes as its report, of this version.
-#[tactic(auto, using(crate::proofs::Going::leads, crate::proofs::Going::leads_nowhere, crate::proofs::Going::leads_elsewhere))]
 pub fn leads_to_report<M: Mind, A: Artifact>(
     alloc: Global,
     version: u32,

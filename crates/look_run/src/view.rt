@@ -7,17 +7,16 @@ ghost use Rattle.std.specs.List.{flat_map};
 ghost use Rattle.mas_mind.specs.Minds.{IsAgent};
 ghost use Rattle.mas_world.specs.Seen.{seen};
 ghost use Rattle.mas_board.specs.Boards.{box_of, seat_at};
-ghost use Rattle.mas_report.specs.Report as word;
 ghost use Rattle.look_lines.specs.Lines.{literal_line, part};
 ghost use Rattle.look_lines.specs.Outs.{unread_line};
 ghost use Rattle.look_run.specs.Views as spec;
 
 use crate::mind::MindText;
-use asl_term::printing::write_number;
 use asl_term::sequence::{Seq, Starved};
 use asl_term::syntax::Text;
 use look_lines::lines::{put_head, put_last, put_literals};
 use look_lines::outs::{put_thought, put_unread};
+use look_lines::pieces::{Piece, put_pieces};
 use mas_board::board::Board;
 use mas_board::seats::Phase;
 use mas_core::play::Play;
@@ -26,66 +25,55 @@ use mas_mind::thinking::Mind;
 use mas_world::artifact::Artifact;
 use std::alloc::Global;
 
-fn end_word(end: End) -> &'static [u8]
-    ensures { result.now ≡ word.end_word end }
-{
-    match end {
-        End::Quiet => b"quiet",
-        End::Stopped => b"stopped",
-        End::Cycles => b"cycles",
-        End::Budget => b"budget",
-    }
-}
-
-fn put_phase(out: &mut Text, phase: Phase) -> Result<(), Starved>
-    ensures { OnOk result (out.new ≡ out.old ++ spec.phase_text phase) }
+/// The phase of an agent, in words.
+fn phase_words(phase: Phase) -> &'static [u8]
+    ensures { result.now ≡ spec.phase_text phase }
 {
     match phase {
-        Phase::Idle => out.append(b"idle"),
-        Phase::Busy => out.append(b"busy"),
-        Phase::Left(end) => {
-            out.append(b"left ")?;
-            out.append(end_word(end))
-        }
+        Phase::Idle => b"idle",
+        Phase::Busy => b"busy",
+        Phase::Left(End::Quiet) => b"left quiet",
+        Phase::Left(End::Stopped) => b"left stopped",
+        Phase::Left(End::Cycles) => b"left cycles",
+        Phase::Left(End::Budget) => b"left budget",
     }
-}
-
-#[tactic(auto, unfolding(crate::specs::Views::turn_text))]
-fn put_turn(alloc: Global, out: &mut Text, t: u64, n: u64) -> Result<(), Starved>
-    ensures { OnOk result (out.new ≡ out.old ++ spec.turn_text t n) }
-{
-    out.append(b" turn ")?;
-    write_number(alloc, t, out)?;
-    out.append(b" of ")?;
-    write_number(alloc, n, out)?;
-    out.append(b"\n")
 }
 
 /// Appends the line that says who is looked at, and when.
-#[tactic(auto, unfolding(crate::specs::Views::who_text))]
-fn put_who(alloc: Global, out: &mut Text, name: &Text, t: u64, n: u64) -> Result<(), Starved>
+#[tactic(auto, unfolding(crate::specs::Views::who_text, crate::specs::Views::turn_text))]
+fn put_who(out: &mut Text, name: &Text, t: u64, n: u64) -> Result<(), Starved>
     ensures { OnOk result (out.new ≡ out.old ++ spec.who_text name.now t n) }
 {
-    out.append(b"mind ")?;
-    out.append(name.as_slice())?;
-    put_turn(alloc, out, t, n)
+    let pieces = [
+        Piece::Bytes(b"mind "),
+        Piece::Bytes(name.as_slice()),
+        Piece::Bytes(b" turn "),
+        Piece::Number(t),
+        Piece::Bytes(b" of "),
+        Piece::Number(n),
+        Piece::Bytes(b"\n"),
+    ];
+    put_pieces(out, &pieces)
 }
 
 /// Appends the lines of the cycle and the phase.
 #[tactic(auto, unfolding(crate::specs::Views::seat_text))]
-fn put_seat<A: Artifact>(alloc: Global, out: &mut Text, b: &Board<A>, a: u32) -> Result<(), Starved>
+fn put_seat<A: Artifact>(out: &mut Text, b: &Board<A>, a: u32) -> Result<(), Starved>
     requires { IsAgent (length b.now.state.seats) a }
     ensures { OnOk result (out.new ≡ out.old ++ spec.seat_text (seat_at b.now.state a)) }
 {
-    out.append(b"cycle ")?;
-    write_number(alloc, b.cycle(a), out)?;
-    out.append(b"\nphase ")?;
-    put_phase(out, b.phase(a))?;
-    out.append(b"\n")
+    let pieces = [
+        Piece::Bytes(b"cycle "),
+        Piece::Number(b.cycle(a)),
+        Piece::Bytes(b"\nphase "),
+        Piece::Bytes(phase_words(b.phase(a))),
+        Piece::Bytes(b"\n"),
+    ];
+    put_pieces(out, &pieces)
 }
 
 /// Appends the unread messages of an agent.
-#[tactic(auto, using(mas_report::proofs::Sections::letters_next, mas_report::proofs::Sections::letters_end, mas_report::proofs::Sections::letters_past))]
+#[tactic(auto, using(mas_report::proofs::Sections::letters_end))]
 fn put_box<A: Artifact>(out: &mut Text, b: &Board<A>, a: u32) -> Result<(), Starved>
     requires { IsAgent (length b.now.state.seats) a }
     ensures { let s = b.now.state in OnOk result (out.new ≡ out.old ++ flat_map (unread_line s.names) (box_of s.boxes a)) }
@@ -160,8 +148,8 @@ fn put_view<M: Mind, A: Artifact, W: MindText<M>>(
     requires { IsAgent (length play.now.platform.board.seats) a }
     ensures { OnOk result (out.new ≡ out.old ++ spec.view_text M.kind W.parts play.now.platform (spec.asked name.now a t n) m.now) }
 {
-    put_who(alloc, out, name, t, n)?;
-    put_seat(alloc, out, play.board(), a)?;
+    put_who(out, name, t, n)?;
+    put_seat(out, play.board(), a)?;
     writer.put_parts(alloc, out, m, play.board().names())?;
     put_around(alloc, out, play, name, a)?;
     put_last(alloc, out, m.lines().as_slice())

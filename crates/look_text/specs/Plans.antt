@@ -40,3 +40,11 @@ owned_plan names e = if is_own e.owners then own_plan names e else told_plan nam
 
 abbrev pub plan_line : List (List ℕ) → OwnedPlan → List ℕ
 plan_line names e = line (owned_plan names e)
+
+-- ---- the same in parts: with what the line begins, and what is shown of the plan
+
+abbrev pub lead : Bool → List ℕ
+lead own = if own then codes "  from" else codes "  told  from"
+
+abbrev pub shown_plan : Bool → Plan → List ℕ
+shown_plan own p = if own then plan_head p else print.plan_line p

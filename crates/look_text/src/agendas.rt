@@ -10,29 +10,16 @@ ghost use Rattle.look_lines.specs.Lines.{head, part};
 
 use crate::stacks::put_stack;
 use asl_fail::failure::error_name;
-use asl_intend::agenda::{Acting, Agenda, Ask, Error, Event, Events, Running};
+use asl_intend::agenda::{Acting, Agenda, Ask, Event, Events, Running};
 use asl_intend::event_trigger::EventTrigger;
 use asl_intend::stack::Stack;
 use asl_print::printing::write_trigger;
-use asl_term::printing::{print, write_number};
-use asl_term::printing_expr::print_literal;
 use asl_term::sequence::Starved;
 use asl_term::syntax::Text;
 use look_lines::lines::put_head;
+use look_lines::pieces::{Piece, put_pieces};
 use mas_mind::mind::Feedback;
 use std::alloc::Global;
-
-fn put_error(out: &mut Text, error: Option<Error>) -> Result<(), Starved>
-    ensures { OnOk result (out.new ≡ out.old ++ spec.error_text error) }
-{
-    match error {
-        None => Ok(()),
-        Some(e) => {
-            out.append(b"  error ")?;
-            out.append(error_name(e))
-        }
-    }
-}
 
 fn stand_text(stack: &Stack) -> &'static [u8]
     ensures { result.now ≡ spec.stand_text stack.now }
@@ -41,6 +28,21 @@ fn stand_text(stack: &Stack) -> &'static [u8]
         b"  external"
     } else {
         b"  on a stack"
+    }
+}
+
+/// Appends what stands behind the trigger in the line of an event.
+fn put_standing(out: &mut Text, e: &Event) -> Result<(), Starved>
+    ensures { OnOk result (out.new ≡ out.old ++ (spec.error_text e.now.error ++ (spec.stand_text e.now.stack ++ codes "\n"))) }
+{
+    let stand = Piece::Bytes(stand_text(&e.stack));
+    let end = Piece::Bytes(b"\n");
+    match e.error {
+        None => put_pieces(out, &[stand, end]),
+        Some(error) => {
+            let name = Piece::Bytes(error_name(error));
+            put_pieces(out, &[Piece::Bytes(b"  error "), name, stand, end])
+        }
     }
 }
 
@@ -66,9 +68,7 @@ fn put_event(alloc: Global, out: &mut Text, e: &Event) -> Result<(), Starved>
 {
     out.append(b"  ")?;
     put_trigger(alloc, out, &e.trigger)?;
-    put_error(out, e.error)?;
-    out.append(stand_text(&e.stack))?;
-    out.append(b"\n")?;
+    put_standing(out, e)?;
     put_stack(alloc, out, &e.stack)
 }
 
@@ -101,9 +101,12 @@ pub fn put_events(alloc: Global, out: &mut Text, events: &Events) -> Result<(), 
 fn put_numbered(alloc: Global, out: &mut Text, k: u64, stack: &Stack) -> Result<(), Starved>
     ensures { OnOk result (out.new ≡ out.old ++ spec.running_text k stack.now) }
 {
-    out.append(b"  stack ")?;
-    write_number(alloc, k, out)?;
-    out.append(b"\n")?;
+    let pieces = [
+        Piece::Bytes(b"  stack "),
+        Piece::Number(k),
+        Piece::Bytes(b"\n"),
+    ];
+    put_pieces(out, &pieces)?;
     put_stack(alloc, out, stack)
 }
 
@@ -154,10 +157,13 @@ fn put_held(
 ) -> Result<(), Starved>
     ensures { OnOk result (out.new ≡ out.old ++ spec.held_text kept a.now) }
 {
-    out.append(b"  action ")?;
-    print_literal(&a.action, out)?;
-    out.append(kept_text(kept))?;
-    out.append(b"\n")?;
+    let pieces = [
+        Piece::Bytes(b"  action "),
+        Piece::Literal(&a.action),
+        Piece::Bytes(kept_text(kept)),
+        Piece::Bytes(b"\n"),
+    ];
+    put_pieces(out, &pieces)?;
     put_stack(alloc, out, &a.stack)
 }
 
@@ -184,11 +190,14 @@ pub fn put_acting(
 fn put_ask(alloc: Global, out: &mut Text, q: &Ask) -> Result<(), Starved>
     ensures { OnOk result (out.new ≡ out.old ++ spec.ask_text q.now) }
 {
-    out.append(b"  ask ")?;
-    write_number(alloc, q.number, out)?;
-    out.append(b" into ")?;
-    print(&q.answer, out)?;
-    out.append(b"\n")?;
+    let pieces = [
+        Piece::Bytes(b"  ask "),
+        Piece::Number(q.number),
+        Piece::Bytes(b" into "),
+        Piece::Term(&q.answer),
+        Piece::Bytes(b"\n"),
+    ];
+    put_pieces(out, &pieces)?;
     put_stack(alloc, out, &q.stack)
 }
 

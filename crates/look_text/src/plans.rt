@@ -9,10 +9,11 @@ ghost use Rattle.look_text.specs.Plans as spec;
 use asl_plans::entry::OwnedPlan;
 use asl_print::printing::{plan_line, write_context, write_label, write_trigger};
 use asl_term::names::Names;
-use asl_term::printing_expr::{print_expr, print_literal};
+use asl_term::printing_expr::print_expr;
 use asl_term::sequence::Starved;
 use asl_term::syntax::{Clause, Plan, Text};
 use look_lines::lines::{name_of, put_head};
+use look_lines::pieces::{Piece, put_pieces};
 use std::alloc::Global;
 
 /// Appends the line of a rule.
@@ -20,9 +21,12 @@ use std::alloc::Global;
 fn put_rule(out: &mut Text, r: &Clause) -> Result<(), Starved>
     ensures { OnOk result (out.new ≡ out.old ++ spec.rule_line r.now) }
 {
-    out.append(b"  ")?;
-    print_literal(&r.head, out)?;
-    out.append(b" :- ")?;
+    let head = [
+        Piece::Bytes(b"  "),
+        Piece::Literal(&r.head),
+        Piece::Bytes(b" :- "),
+    ];
+    put_pieces(out, &head)?;
     print_expr(&r.body, out)?;
     out.append(b"\n")
 }
@@ -51,8 +55,8 @@ fn put_owners(out: &mut Text, names: &Names, owners: &[u32]) -> Result<(), Starv
     ensures { OnOk result (out.new ≡ out.old ++ spec.owners_text names.now owners.now) }
 {
     'owners: for o in owners {
-        out.append(b" ")?;
-        out.append(owner_name(names, *o))?;
+        let name = Piece::Bytes(owner_name(names, *o));
+        put_pieces(out, &[Piece::Bytes(b" "), name])?;
     }
     Ok(())
 }
@@ -71,49 +75,40 @@ fn put_plan_head(out: &mut Text, p: &Plan) -> Result<(), Starved>
 fn is_own(owners: &[u32]) -> bool
     ensures { result ≡ spec.is_own owners.now }
 {
-    owners.iter().any(|o| *o == 0)
+    owners.contains(&0)
 }
 
-#[tactic(auto, unfolding(crate::specs::Plans::own_plan))]
-fn put_own(out: &mut Text, names: &Names, e: &OwnedPlan) -> Result<(), Starved>
-    ensures { OnOk result (out.new ≡ out.old ++ spec.own_plan names.now e.now) }
+/// With what the line of a plan begins: one that others alone told is told so.
+fn lead(own: bool) -> &'static [u8]
+    ensures { result.now ≡ spec.lead own }
 {
-    out.append(b"from")?;
-    put_owners(out, names, e.owners.as_slice())?;
-    out.append(b"  ")?;
-    put_plan_head(out, &e.plan)
+    if own { b"  from" } else { b"  told  from" }
 }
 
-#[tactic(auto, unfolding(crate::specs::Plans::told_plan))]
-fn put_told(alloc: Global, out: &mut Text, names: &Names, e: &OwnedPlan) -> Result<(), Starved>
-    ensures { OnOk result (out.new ≡ out.old ++ spec.told_plan names.now e.now) }
+/// Appends what is shown of a plan: of one of the agent's own source its head.
+fn put_shown(alloc: Global, out: &mut Text, own: bool, p: &Plan) -> Result<(), Starved>
+    ensures { OnOk result (out.new ≡ out.old ++ spec.shown_plan own p.now) }
 {
-    out.append(b"told  from")?;
-    put_owners(out, names, e.owners.as_slice())?;
-    out.append(b"  ")?;
-    let text = plan_line(alloc, &e.plan)?;
-    out.append(text.as_slice())
-}
-
-/// Appends a plan, without the line around it.
-#[tactic(auto, unfolding(crate::specs::Plans::owned_plan))]
-fn put_owned(alloc: Global, out: &mut Text, names: &Names, e: &OwnedPlan) -> Result<(), Starved>
-    ensures { OnOk result (out.new ≡ out.old ++ spec.owned_plan names.now e.now) }
-{
-    if is_own(e.owners.as_slice()) {
-        put_own(out, names, e)
-    } else {
-        put_told(alloc, out, names, e)
+    if own {
+        return put_plan_head(out, p);
     }
+    let text = plan_line(alloc, p)?;
+    let put = out.append(text.as_slice());
+    drop(text);
+    put
 }
 
 /// Appends the line of a plan.
-#[tactic(auto, unfolding(look_lines::specs::Lines::line))]
+#[tactic(auto, using(crate::proofs::Owned::plan_put))]
 fn put_plan(alloc: Global, out: &mut Text, names: &Names, e: &OwnedPlan) -> Result<(), Starved>
     ensures { OnOk result (out.new ≡ out.old ++ spec.plan_line names.now e.now) }
 {
+    let owners = e.owners.as_slice();
+    let own = is_own(owners);
+    out.append(lead(own))?;
+    put_owners(out, names, owners)?;
     out.append(b"  ")?;
-    put_owned(alloc, out, names, e)?;
+    put_shown(alloc, out, own, &e.plan)?;
     out.append(b"\n")
 }
 

@@ -1,55 +1,34 @@
 -- What clap makes of the words.
-use Rattle.std.proofs.Common.{◌≡◌, ◌⊎◌, ◌&&◌, Bool, List, [], ◌∷◌, Option, None, Some, cond, true, false, refl, sym, ap, subst, inl, inr, arith, ◌∙◌}
-use Rattle.std.specs.Prelude.{Result, Ok, Err, IfOk, option_map}
+use Rattle.std.proofs.Common.{◌≡◌, ◌&&◌, Bool, List, [], ◌∷◌, None, Some, cond, true, false, refl, sym, ap, subst, inl, inr, arith, ◌∙◌}
+use Rattle.std.specs.Prelude.{Result, Ok, Err, IfOk}
 use Rattle.clap.specs.Faults.{fault_of, is_simple_and_free, is_free_app}
 use Rattle.clap.specs.Kinds.{FailsBy, HasKind, IsAmong, Kinds}
 use Rattle.clap.specs.Matches.{found_of}
 use Rattle.clap.specs.Simple.{App, HasMatchesOf, built, is_simple, matches_of}
 use Rattle.clap.specs.Values.{kind_of}
-use Rattle.clap.specs.Walk.{Row, Text, is_empty, rows_of}
+use Rattle.clap.specs.Walk.{Text, is_empty, rows_of}
 use Rattle.clap.specs.declared.error.Error.{Error}
 use Rattle.clap.specs.declared.error.kind.ErrorKind.{ErrorKind}
 use Rattle.clap.specs.declared.error.kind.ErrorKind.TheVariants.{OutOfMemory}
 use Rattle.clap.specs.declared.parser.matches.ArgMatches.{ArgMatches}
-use Rattle.look_top.specs.Apps.{project_app, messages_app, mind_app, page_app, drops_app}
+use Rattle.look_top.specs.Apps.{app_for}
 use Rattle.look_top.specs.Asked.{rows_by}
+use Rattle.look_top.specs.declared.words.LookVerb.{LookVerb}
+use Rattle.look_top.specs.declared.words.LookVerb.TheVariants as verb
 
 -- ---- the commands are simple
 
-project_is : is_simple_and_free project_app ≡ true
-unfolding project_app
-project_is = refl
+command_is : (v : LookVerb) → is_simple_and_free (app_for v) ≡ true
+unfolding app_for
+command_is verb.Where = refl
+command_is verb.Hints = refl
+command_is verb.Messages = refl
+command_is verb.Mind = refl
+command_is verb.Page = refl
+command_is verb.Drops = refl
 
-messages_is : is_simple_and_free messages_app ≡ true
-unfolding messages_app
-messages_is = refl
-
-mind_is : is_simple_and_free mind_app ≡ true
-unfolding mind_app
-mind_is = refl
-
-page_is : is_simple_and_free page_app ≡ true
-unfolding page_app
-page_is = refl
-
-drops_is : is_simple_and_free drops_app ≡ true
-unfolding drops_app
-drops_is = refl
-
-pub project_free : (a : App) → a ≡ project_app → is_simple_and_free a ≡ true
-project_free a e = ap is_simple_and_free e ∙ project_is
-
-pub messages_free : (a : App) → a ≡ messages_app → is_simple_and_free a ≡ true
-messages_free a e = ap is_simple_and_free e ∙ messages_is
-
-pub mind_free : (a : App) → a ≡ mind_app → is_simple_and_free a ≡ true
-mind_free a e = ap is_simple_and_free e ∙ mind_is
-
-pub page_free : (a : App) → a ≡ page_app → is_simple_and_free a ≡ true
-page_free a e = ap is_simple_and_free e ∙ page_is
-
-pub drops_free : (a : App) → a ≡ drops_app → is_simple_and_free a ≡ true
-drops_free a e = ap is_simple_and_free e ∙ drops_is
+pub command_free : (v : LookVerb) (a : App) → a ≡ app_for v → is_simple_and_free a ≡ true
+command_free v a e = ap is_simple_and_free e ∙ command_is v
 
 -- ---- where it takes the words
 

@@ -1,5 +1,5 @@
 -- What the text of a turn says.
-use Rattle.std.proofs.Common.{◌≡◌, ◌^◌, ◌&&◌, ℕ, Bool, List, [], ◌∷◌, length, Option, None, Some, true, false, cond, nat_lt, refl, sym, subst}
+use Rattle.std.proofs.Common.{◌≡◌, ◌^◌, ◌&&◌, ℕ, Bool, List, [], ◌∷◌, length, None, Some, true, false, nat_lt, refl, subst}
 use Rattle.std.specs.Prelude.{Result, Ok, Err}
 use Rattle.std.specs.Char.{digit_value}
 use Rattle.std.specs.List.{list_all}

@@ -1,5 +1,5 @@
 -- The outputs of the commands.
-use Rattle.std.proofs.Common.{◌≡◌, ◌≤◌, ℕ, Bool, true, false, List, Option, None, Some, inr, refl, subst, sym, arith}
+use Rattle.std.proofs.Common.{◌≡◌, ◌≤◌, ℕ, Bool, false, List, Option, None, Some, inr, refl, subst, sym, arith}
 use Rattle.std.specs.Prelude.{Result, Ok, Err, MatchResult}
 use Rattle.asl_term.specs.declared.syntax.Filed.{Filed}
 use Rattle.mas_report.specs.Limits.{defaults}
@@ -17,15 +17,14 @@ use Rattle.look_messages.specs.Runs.{TellsRun}
 use Rattle.look_mind.specs.Drops.{IsDroppedIn, AreRefusedIn}
 use Rattle.look_mind.specs.Looks.{IsLookIn}
 use Rattle.look_mind.specs.declared.look.Look.{Look}
-use Rattle.look_mind.specs.declared.look.Look.TheVariants.{Shown}
 use Rattle.look_mind.specs.Own.{IsToldIn}
 use Rattle.look_mind.specs.declared.changes.MindChanges.{MindChanges}
 use Rattle.look_top.specs.Asked.{Asked, Dropping, Minding, help, version, places, hints, messages, mind, page, drops}
 use Rattle.look_where.specs.Showing.{IsWhere, IsUnread}
 use Rattle.look_top.specs.declared.ends.TheConstants.{USAGE, VERSION}
 use Rattle.look_top.specs.Reports.{input_for, LackBytes, HasReport, LacksReport}
-use Rattle.look_top.specs.Outputs.{Within, AreUnread, no_report, no_project, IsTold, LacksMessages, IsSeen, IsUnseen}
-use Rattle.look_top.specs.Outputs.{TellsLook, LacksPlaces, IsChanged, TellsChanges, IsPaged, IsUnpaged, IsDrops, TellsDrops, IsOutput, Lacks, Answers}
+use Rattle.look_top.specs.Outputs.{AreUnread, no_report, no_project, IsTold, LacksMessages, IsSeen}
+use Rattle.look_top.specs.Outputs.{TellsLook, LacksPlaces, TellsChanges, IsDrops, TellsDrops, IsOutput, Lacks, Answers}
 
 -- ---- want of memory
 

@@ -7,11 +7,13 @@ use Rattle.clap.specs.Faults.{fault_of}
 use Rattle.clap.specs.Simple.{App, matches_of}
 use Rattle.clap.specs.ValueTests.{is_numeral}
 use Rattle.clap.specs.Walk.{Row, first_of, is_empty}
+use Rattle.look_top.specs.declared.words.LookVerb.{LookVerb}
+use Rattle.look_top.specs.declared.words.LookVerb.TheVariants as verb
 use Rattle.look_top.specs.declared.words.LookAsked as code
 use Rattle.look_top.specs.declared.words.LookAsked.TheVariants as code_variant
 use Rattle.look_top.specs.declared.words.MindWords as code_mind
 use Rattle.look_top.specs.declared.words.DropsWords as code_drops
-use Rattle.look_top.specs.Apps.{project_app, messages_app, mind_app, page_app, drops_app}
+use Rattle.look_top.specs.Apps.{app_for}
 
 -- what the agent of this name has in mind after so many turns of the run of a project and its report; without a number after all turns
 pub record Minding : Type 0 where
@@ -51,18 +53,18 @@ turn_in text = if bytes_eq text (codes "end") then Some None else option_map Som
 
 -- ---- what clap's matches ask for
 
-abbrev pub minding_with : Option (List ℕ) → Option (List ℕ) → Option (List ℕ) → Option (Option ℕ) → Option Minding
-minding_with (Some project) (Some report) (Some agent) (Some turn) =
-    Some (record { project = project; report = report; agent = agent; turn = turn })
-minding_with _ _ _ _ = None
+abbrev pub mind_with : Option (List ℕ) → Option (List ℕ) → Option (List ℕ) → Option (Option ℕ) → Option Asked
+mind_with (Some project) (Some report) (Some agent) (Some turn) =
+    Some (mind (record { project = project; report = report; agent = agent; turn = turn }))
+mind_with _ _ _ _ = None
 
 abbrev pub page_with : Option (List ℕ) → Option (List ℕ) → Option Asked
 page_with (Some project) (Some report) = Some (page project report)
 page_with _ _ = None
 
-abbrev pub dropping_with : Option (List ℕ) → Option (List ℕ) → Bool → Option Dropping
-dropping_with (Some project) (Some report) unhandled = Some (record { project = project; report = report; unhandled = unhandled })
-dropping_with _ _ _ = None
+abbrev pub drops_with : Option (List ℕ) → Option (List ℕ) → Bool → Option Asked
+drops_with (Some project) (Some report) unhandled = Some (drops (record { project = project; report = report; unhandled = unhandled }))
+drops_with _ _ _ = None
 
 abbrev pub is_set : Option (List ℕ) → Bool
 is_set None = false
@@ -71,8 +73,8 @@ is_set (Some text) = bytes_eq text (codes "true")
 abbrev pub messages_among : List Row → Option Asked
 messages_among rows = option_map (λ report. messages report (is_set (first_of (codes "csv") rows))) (first_of (codes "report") rows)
 
-abbrev pub minding_among : List Row → Option Minding
-minding_among rows = minding_with
+abbrev pub mind_among : List Row → Option Asked
+mind_among rows = mind_with
     (first_of (codes "project") rows)
     (first_of (codes "report") rows)
     (first_of (codes "agent") rows)
@@ -81,11 +83,19 @@ minding_among rows = minding_with
 abbrev pub page_among : List Row → Option Asked
 page_among rows = page_with (first_of (codes "project") rows) (first_of (codes "report") rows)
 
-abbrev pub dropping_among : List Row → Option Dropping
-dropping_among rows = dropping_with
+abbrev pub drops_among : List Row → Option Asked
+drops_among rows = drops_with
     (first_of (codes "project") rows)
     (first_of (codes "report") rows)
     (is_set (first_of (codes "unhandled") rows))
+
+abbrev pub asked_among : LookVerb → List Row → Option Asked
+asked_among verb.Where rows = option_map places (first_of (codes "project") rows)
+asked_among verb.Hints rows = option_map hints (first_of (codes "project") rows)
+asked_among verb.Messages rows = messages_among rows
+asked_among verb.Mind rows = mind_among rows
+asked_among verb.Page rows = page_among rows
+asked_among verb.Drops rows = drops_among rows
 
 -- ---- the words
 
@@ -93,21 +103,20 @@ dropping_among rows = dropping_with
 unfoldable pub rows_by : App → List (List ℕ) → Option (List Row)
 rows_by app words = if is_empty (fault_of app words) then Some (matches_of app words) else None
 
--- the one name that the words are
-abbrev pub project_in : List (List ℕ) → Option (List ℕ)
-project_in words = option_and_then (first_of (codes "project")) (rows_by project_app words)
+-- what the words behind a command ask for
+abbrev pub asked_by : LookVerb → List (List ℕ) → Option Asked
+asked_by v words = option_and_then (asked_among v) (rows_by (app_for v) words)
 
-abbrev pub messages_in : List (List ℕ) → Option Asked
-messages_in words = option_and_then messages_among (rows_by messages_app words)
-
-abbrev pub mind_in : List (List ℕ) → Option Asked
-mind_in words = option_map mind (option_and_then minding_among (rows_by mind_app words))
-
-abbrev pub page_in : List (List ℕ) → Option Asked
-page_in words = option_and_then page_among (rows_by page_app words)
-
-abbrev pub drops_in : List (List ℕ) → Option Asked
-drops_in words = option_map drops (option_and_then dropping_among (rows_by drops_app words))
+-- the command that a word names
+abbrev pub verb_of : List ℕ → Option LookVerb
+verb_of word =
+    if bytes_eq word (codes "where") then Some verb.Where
+    else if bytes_eq word (codes "hints") then Some verb.Hints
+    else if bytes_eq word (codes "messages") then Some verb.Messages
+    else if bytes_eq word (codes "mind") then Some verb.Mind
+    else if bytes_eq word (codes "page") then Some verb.Page
+    else if bytes_eq word (codes "drops") then Some verb.Drops
+    else None
 
 abbrev pub is_either : List ℕ → List ℕ → List ℕ → Bool
 is_either word long short = bytes_eq word long || bytes_eq word short
@@ -117,13 +126,7 @@ abbrev pub asked_behind : List ℕ → List (List ℕ) → Option Asked
 asked_behind word words =
     if is_either word (codes "--help") (codes "-h") then Some help
     else if is_either word (codes "--version") (codes "-V") then Some version
-    else if bytes_eq word (codes "where") then option_map places (project_in words)
-    else if bytes_eq word (codes "hints") then option_map hints (project_in words)
-    else if bytes_eq word (codes "messages") then messages_in words
-    else if bytes_eq word (codes "mind") then mind_in words
-    else if bytes_eq word (codes "page") then page_in words
-    else if bytes_eq word (codes "drops") then drops_in words
-    else None
+    else option_and_then (λ v. asked_by v words) (verb_of word)
 
 -- what the words ask for; None where they are not read
 abbrev pub asked : List (List ℕ) → Option Asked

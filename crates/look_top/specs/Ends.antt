@@ -7,7 +7,7 @@ use Rattle.mas_io.specs.Writing.{IsCut, Wrote, WroteSome}
 use Rattle.mas_top_status.specs.declared.status.Status.TheVariants.{Memory}
 use Rattle.mas_world.specs.Worlds.{Used}
 use Rattle.look_answer.specs.declared.answer.LookFault.{LookFault}
-use Rattle.look_answer.specs.declared.answer.LookFault.TheVariants.{Ended, Unfit}
+use Rattle.look_answer.specs.declared.answer.LookFault.TheVariants.{Ended}
 use Rattle.look_answer.specs.declared.answer.Output.{Output}
 use Rattle.look_answer.specs.Answers.{found_code, fault_code}
 use Rattle.look_top.specs.Asked.{Asked, asked}

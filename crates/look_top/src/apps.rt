@@ -1,9 +1,10 @@
 //! The commands as clap has them: simple commands, of which all values but one are texts.
 
-ghost use Rattle.std.specs.Prelude.{◌≡◌, codes, IfOk};
-ghost use Rattle.clap.specs.Simple.{app_of, with_rule};
+ghost use Rattle.std.specs.Prelude.{◌≡◌, map, option_map, IfOk};
+ghost use Rattle.clap.specs.Simple.{app_of};
 ghost use Rattle.look_top.specs.Apps as spec;
 
+use crate::words::LookVerb;
 use clap::{Arg, ArgAction, Command};
 use std::alloc::{AllocError, Global};
 
@@ -16,61 +17,43 @@ fn bare<'a>(alloc: Global) -> Command<'a>
         .disable_version_flag(true)
 }
 
-fn with_name<'a>(alloc: Global, app: Command<'a>, id: &'a str) -> Result<Command<'a>, AllocError>
-    ensures { IfOk result (λ a. app_of a ≡ spec.with_name (app_of app.entry) id.entry.now) }
+/// A command of these names.
+fn named<'a>(alloc: Global, names: &[&'a str]) -> Result<Command<'a>, AllocError>
+    ensures { IfOk result (λ a. app_of a ≡ spec.with_names spec.bare (map (λ n. n.now) names.now)) }
 {
-    app.arg(Arg::new(alloc, id))
+    let mut app = bare(alloc);
+    'names: for name in names {
+        app = app.arg(Arg::new(alloc, *name))?;
+    }
+    Ok(app)
 }
 
-fn with_flag<'a>(alloc: Global, app: Command<'a>, id: &'a str) -> Result<Command<'a>, AllocError>
-    ensures { IfOk result (λ a. app_of a ≡ with_rule (app_of app.entry) (spec.flag_rule id.entry.now)) }
+/// A command of these names, and a flag.
+fn command<'a>(
+    alloc: Global,
+    names: &[&'a str],
+    flag: Option<&'a str>,
+) -> Result<Command<'a>, AllocError>
+    ensures { IfOk result (λ a. app_of a ≡ spec.command (map (λ n. n.now) names.now) (option_map (λ f. f.now) flag.entry)) }
 {
-    app.arg(Arg::new(alloc, id).long(id).action(ArgAction::SetTrue))
+    let app = named(alloc, names)?;
+    match flag {
+        Some(id) => app.arg(Arg::new(alloc, id).long(id).action(ArgAction::SetTrue)),
+        None => Ok(app),
+    }
 }
 
-/// For `where` and `hints`: a name.
-#[tactic(auto, unfolding(crate::specs::Apps::project_app))]
-pub fn project_app<'a>(alloc: Global) -> Result<Command<'a>, AllocError>
-    ensures { IfOk result (λ a. app_of a ≡ spec.project_app) }
+/// What clap is asked for behind a command.
+#[tactic(auto, unfolding(crate::specs::Apps::app_for))]
+pub fn app_for<'a>(alloc: Global, verb: LookVerb) -> Result<Command<'a>, AllocError>
+    ensures { IfOk result (λ a. app_of a ≡ spec.app_for verb) }
 {
-    with_name(alloc, bare(alloc), "project")
-}
-
-/// For `messages`: a name, and a flag.
-#[tactic(auto, unfolding(crate::specs::Apps::messages_app))]
-pub fn messages_app<'a>(alloc: Global) -> Result<Command<'a>, AllocError>
-    ensures { IfOk result (λ a. app_of a ≡ spec.messages_app) }
-{
-    let app = with_name(alloc, bare(alloc), "report")?;
-    with_flag(alloc, app, "csv")
-}
-
-/// For `mind`: four names.
-#[tactic(auto, unfolding(crate::specs::Apps::mind_app))]
-pub fn mind_app<'a>(alloc: Global) -> Result<Command<'a>, AllocError>
-    ensures { IfOk result (λ a. app_of a ≡ spec.mind_app) }
-{
-    let app = with_name(alloc, bare(alloc), "project")?;
-    let app = with_name(alloc, app, "report")?;
-    let app = with_name(alloc, app, "agent")?;
-    with_name(alloc, app, "turn")
-}
-
-/// For `page`: two names.
-#[tactic(auto, unfolding(crate::specs::Apps::page_app))]
-pub fn page_app<'a>(alloc: Global) -> Result<Command<'a>, AllocError>
-    ensures { IfOk result (λ a. app_of a ≡ spec.page_app) }
-{
-    let app = with_name(alloc, bare(alloc), "project")?;
-    with_name(alloc, app, "report")
-}
-
-/// For `drops`: two names, and a flag.
-#[tactic(auto, unfolding(crate::specs::Apps::drops_app))]
-pub fn drops_app<'a>(alloc: Global) -> Result<Command<'a>, AllocError>
-    ensures { IfOk result (λ a. app_of a ≡ spec.drops_app) }
-{
-    let app = with_name(alloc, bare(alloc), "project")?;
-    let app = with_name(alloc, app, "report")?;
-    with_flag(alloc, app, "unhandled")
+    match verb {
+        LookVerb::Where => command(alloc, &["project"], None),
+        LookVerb::Hints => command(alloc, &["project"], None),
+        LookVerb::Messages => command(alloc, &["report"], Some("csv")),
+        LookVerb::Mind => command(alloc, &["project", "report", "agent", "turn"], None),
+        LookVerb::Page => command(alloc, &["project", "report"], None),
+        LookVerb::Drops => command(alloc, &["project", "report"], Some("unhandled")),
+    }
 }

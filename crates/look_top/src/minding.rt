@@ -13,48 +13,22 @@ ghost use Rattle.look_top.specs.Outputs as spec;
 use crate::reports::report_bytes;
 use crate::words::MindWords;
 use asl_term::copying::text_of;
-use asl_term::printing::write_number;
 use asl_term::sequence::Starved;
 use asl_term::syntax::Text;
 use look_answer::answer::{LookFault, Output};
 use look_mind::files::look_in;
 use look_mind::look::Look;
-use look_reasons::excerpt::shown;
+use look_reasons::phrase::{Phrase, sentence};
 use mas_io::shelf::Shelf;
 use mas_top_status::status::Status;
 use mas_world::artifact::Artifact;
 use std::alloc::Global;
 
-/// The line that says that a file is not the report of the project.
-fn foreign_line(alloc: Global, report: &[u8]) -> Result<Text, Starved> {
-    let mut line = shown(alloc, report)?;
-    line.append(b": not the report of this project\n")?;
-    Ok(line)
-}
-
-/// The line that says that no agent has a name.
-fn nobody_line(alloc: Global, agent: &[u8]) -> Result<Text, Starved> {
-    let mut line = text_of(alloc, b"no agent ")?;
-    let name = shown(alloc, agent)?;
-    line.append(name.as_slice())?;
-    line.append(b"\n")?;
-    Ok(line)
-}
-
-/// The line that says how many turns a report has.
-fn turns_line(alloc: Global, report: &[u8], turns: u64) -> Result<Text, Starved> {
-    let mut line = shown(alloc, report)?;
-    line.append(b" has ")?;
-    write_number(alloc, turns, &mut line)?;
-    line.append(b" turns\n")?;
-    Ok(line)
-}
-
-/// The fault with this line.
-fn unfit(line: Result<Text, Starved>) -> LookFault
+/// The fault with a line of these phrases.
+fn unfit(alloc: Global, phrases: &[Phrase<'_>]) -> LookFault
     ensures { IsUnfit result }
 {
-    match line {
+    match sentence(alloc, phrases) {
         Ok(line) => LookFault::Unfit(line),
         Err(Starved) => LookFault::Ended(Status::Memory),
     }
@@ -64,7 +38,33 @@ fn unfit(line: Result<Text, Starved>) -> LookFault
 pub fn foreign(alloc: Global, report: &[u8]) -> LookFault
     ensures { IsUnfit result }
 {
-    unfit(foreign_line(alloc, report))
+    let why = Phrase::Words(b": not the report of this project\n");
+    unfit(alloc, &[Phrase::Shown(report), why])
+}
+
+/// No agent has this name.
+fn nobody(alloc: Global, agent: &[u8]) -> LookFault
+    ensures { IsUnfit result }
+{
+    let phrases = [
+        Phrase::Words(b"no agent "),
+        Phrase::Shown(agent),
+        Phrase::Words(b"\n"),
+    ];
+    unfit(alloc, &phrases)
+}
+
+/// A report has no more than these turns.
+fn turnless(alloc: Global, report: &[u8], turns: u64) -> LookFault
+    ensures { IsUnfit result }
+{
+    let phrases = [
+        Phrase::Shown(report),
+        Phrase::Words(b" has "),
+        Phrase::Number(turns),
+        Phrase::Words(b" turns\n"),
+    ];
+    unfit(alloc, &phrases)
 }
 
 /// The text of a look, or why there is none.
@@ -74,8 +74,8 @@ fn look_output(alloc: Global, words: &MindWords<'_>, look: Look) -> Result<Outpu
     match look {
         Look::Shown(text) => Ok(Output { text, found: false }),
         Look::Foreign => Err(foreign(alloc, words.report)),
-        Look::NoAgent => Err(unfit(nobody_line(alloc, words.agent))),
-        Look::NoTurn(turns) => Err(unfit(turns_line(alloc, words.report, turns))),
+        Look::NoAgent => Err(nobody(alloc, words.agent)),
+        Look::NoTurn(turns) => Err(turnless(alloc, words.report, turns)),
     }
 }
 

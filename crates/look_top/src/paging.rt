@@ -85,7 +85,7 @@ fn changes_of<S: Shelf, A: Artifact>(
 }
 
 /// The page of the run of a project, or why there is none.
-#[tactic(auto, using(crate::proofs::Outputs::page_no_report, crate::proofs::Outputs::page_no_project, crate::proofs::Outputs::paged))]
+#[tactic(auto, using(crate::proofs::Outputs::page_no_report))]
 pub fn page_output<S: Shelf, A: Artifact>(
     alloc: Global,
     words: &PageWords<'_>,

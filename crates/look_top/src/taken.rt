@@ -1,26 +1,29 @@
 //! Words taken apart by clap.
 
-ghost use Rattle.std.specs.Prelude.{◌≡◌, ◌||◌, true, map, string_bytes, option_map, option_and_then, codes, IfOk};
+ghost use Rattle.std.specs.Prelude.{◌≡◌, ◌||◌, map, string_bytes, option_map, option_and_then, codes, IfOk};
 ghost use Rattle.std.specs.Str.{bytes_eq};
-ghost use Rattle.clap.specs.Faults.{is_simple_and_free};
 ghost use Rattle.clap.specs.Matches.{found_of};
-ghost use Rattle.clap.specs.Simple.{app_of};
 ghost use Rattle.clap.specs.Walk.{first_of, rows_of};
+ghost use Rattle.look_top.specs.Apps.{app_for};
 ghost use Rattle.look_top.specs.Asked as spec;
 
-use crate::apps::{drops_app, messages_app, mind_app, page_app, project_app};
+use crate::apps::app_for;
 use crate::turns::turn_in;
-use crate::words::{DropsWords, LookAsked, MindWords, PageWords};
+use crate::words::{DropsWords, LookAsked, LookVerb, MindWords, PageWords};
 use asl_term::sequence::Starved;
+use clap::ArgMatches;
 use clap::error::ErrorKind;
-use clap::{ArgMatches, Command};
 use std::alloc::Global;
 
-/// The words that a command takes, taken apart; None where it does not take them. Want of memory is the only refusal.
-fn matches_of<'a>(app: Command<'a>, words: &'a [String]) -> Result<Option<ArgMatches<'a>>, Starved>
-    requires { is_simple_and_free (app_of app) ≡ true }
-    ensures { IfOk result (λ r. option_map (λ m. rows_of (found_of m)) r ≡ spec.rows_by (app_of app.entry) (map string_bytes words.now)) }
+/// The words behind a command, taken apart; None where it does not take them.
+fn matches_of<'a>(
+    alloc: Global,
+    verb: LookVerb,
+    words: &'a [String],
+) -> Result<Option<ArgMatches<'a>>, Starved>
+    ensures { IfOk result (λ r. option_map (λ m. rows_of (found_of m)) r ≡ spec.rows_by (app_for verb) (map string_bytes words.now)) }
 {
+    let app = app_for(alloc, verb)?;
     match app.try_get_matches_from(words) {
         Ok(matches) => Ok(Some(matches)),
         Err(error) => match error.kind() {
@@ -70,19 +73,19 @@ fn messages_among<'a>(matches: &ArgMatches<'a>) -> Option<LookAsked<'a>>
     Some(LookAsked::Messages { report, csv })
 }
 
-fn minding_among<'a>(matches: &ArgMatches<'a>) -> Option<MindWords<'a>>
-    ensures { option_map spec.minding_of result ≡ spec.minding_among (rows_of (found_of matches.now)) }
+fn mind_among<'a>(matches: &ArgMatches<'a>) -> Option<LookAsked<'a>>
+    ensures { option_map spec.asked_of result ≡ spec.mind_among (rows_of (found_of matches.now)) }
 {
     let project = text_of(matches, "project")?;
     let report = text_of(matches, "report")?;
     let agent = text_of(matches, "agent")?;
     let turn = turn_of(matches)?;
-    Some(MindWords {
+    Some(LookAsked::Mind(MindWords {
         project,
         report,
         agent,
         turn,
-    })
+    }))
 }
 
 fn page_among<'a>(matches: &ArgMatches<'a>) -> Option<LookAsked<'a>>
@@ -93,98 +96,84 @@ fn page_among<'a>(matches: &ArgMatches<'a>) -> Option<LookAsked<'a>>
     Some(LookAsked::Page(PageWords { project, report }))
 }
 
-fn dropping_among<'a>(matches: &ArgMatches<'a>) -> Option<DropsWords<'a>>
-    ensures { option_map spec.dropping_of result ≡ spec.dropping_among (rows_of (found_of matches.now)) }
+fn drops_among<'a>(matches: &ArgMatches<'a>) -> Option<LookAsked<'a>>
+    ensures { option_map spec.asked_of result ≡ spec.drops_among (rows_of (found_of matches.now)) }
 {
     let project = text_of(matches, "project")?;
     let report = text_of(matches, "report")?;
     let unhandled = is_set(text_of(matches, "unhandled"));
-    Some(DropsWords {
+    Some(LookAsked::Drops(DropsWords {
         project,
         report,
         unhandled,
-    })
+    }))
 }
 
-/// The one name that the words are.
-fn project_in<'a>(alloc: Global, words: &'a [String]) -> Result<Option<&'a [u8]>, Starved>
-    ensures { IfOk result (λ r. option_map (λ t. t.now) r ≡ spec.project_in (map string_bytes words.now)) }
+/// What the matches of a command ask for.
+fn asked_among<'a>(verb: LookVerb, matches: &ArgMatches<'a>) -> Option<LookAsked<'a>>
+    ensures { option_map spec.asked_of result ≡ spec.asked_among verb (rows_of (found_of matches.now)) }
 {
-    let app = project_app(alloc)?;
-    match matches_of(app, words)? {
-        None => Ok(None),
-        Some(matches) => Ok(text_of(&matches, "project")),
-    }
-}
-
-fn where_asked<'a>(alloc: Global, words: &'a [String]) -> Result<Option<LookAsked<'a>>, Starved>
-    ensures { IfOk result (λ a. option_map spec.asked_of a ≡ option_map spec.places (spec.project_in (map string_bytes words.now))) }
-{
-    match project_in(alloc, words)? {
-        None => Ok(None),
-        Some(project) => Ok(Some(LookAsked::Where { project })),
-    }
-}
-
-fn hints_asked<'a>(alloc: Global, words: &'a [String]) -> Result<Option<LookAsked<'a>>, Starved>
-    ensures { IfOk result (λ a. option_map spec.asked_of a ≡ option_map spec.hints (spec.project_in (map string_bytes words.now))) }
-{
-    match project_in(alloc, words)? {
-        None => Ok(None),
-        Some(project) => Ok(Some(LookAsked::Hints { project })),
-    }
-}
-
-fn messages_asked<'a>(alloc: Global, words: &'a [String]) -> Result<Option<LookAsked<'a>>, Starved>
-    ensures { IfOk result (λ a. option_map spec.asked_of a ≡ spec.messages_in (map string_bytes words.now)) }
-{
-    let app = messages_app(alloc)?;
-    match matches_of(app, words)? {
-        None => Ok(None),
-        Some(matches) => Ok(messages_among(&matches)),
-    }
-}
-
-fn mind_asked<'a>(alloc: Global, words: &'a [String]) -> Result<Option<LookAsked<'a>>, Starved>
-    ensures { IfOk result (λ a. option_map spec.asked_of a ≡ spec.mind_in (map string_bytes words.now)) }
-{
-    let app = mind_app(alloc)?;
-    match matches_of(app, words)? {
-        None => Ok(None),
-        Some(matches) => match minding_among(&matches) {
-            None => Ok(None),
-            Some(words) => Ok(Some(LookAsked::Mind(words))),
+    match verb {
+        LookVerb::Where => match text_of(matches, "project") {
+            Some(project) => Some(LookAsked::Where { project }),
+            None => None,
         },
-    }
-}
-
-fn page_asked<'a>(alloc: Global, words: &'a [String]) -> Result<Option<LookAsked<'a>>, Starved>
-    ensures { IfOk result (λ a. option_map spec.asked_of a ≡ spec.page_in (map string_bytes words.now)) }
-{
-    let app = page_app(alloc)?;
-    match matches_of(app, words)? {
-        None => Ok(None),
-        Some(matches) => Ok(page_among(&matches)),
-    }
-}
-
-fn drops_asked<'a>(alloc: Global, words: &'a [String]) -> Result<Option<LookAsked<'a>>, Starved>
-    ensures { IfOk result (λ a. option_map spec.asked_of a ≡ spec.drops_in (map string_bytes words.now)) }
-{
-    let app = drops_app(alloc)?;
-    match matches_of(app, words)? {
-        None => Ok(None),
-        Some(matches) => match dropping_among(&matches) {
-            None => Ok(None),
-            Some(words) => Ok(Some(LookAsked::Drops(words))),
+        LookVerb::Hints => match text_of(matches, "project") {
+            Some(project) => Some(LookAsked::Hints { project }),
+            None => None,
         },
+        LookVerb::Messages => messages_among(matches),
+        LookVerb::Mind => mind_among(matches),
+        LookVerb::Page => page_among(matches),
+        LookVerb::Drops => drops_among(matches),
+    }
+}
+
+/// What the words behind a command ask for.
+fn asked_by<'a>(
+    alloc: Global,
+    verb: LookVerb,
+    words: &'a [String],
+) -> Result<Option<LookAsked<'a>>, Starved>
+    ensures { IfOk result (λ a. option_map spec.asked_of a ≡ spec.asked_by verb (map string_bytes words.now)) }
+{
+    match matches_of(alloc, verb, words)? {
+        None => Ok(None),
+        Some(matches) => Ok(asked_among(verb, &matches)),
+    }
+}
+
+fn is_word(word: &[u8], other: &[u8]) -> bool
+    ensures { result ≡ bytes_eq word.now other.now }
+{
+    word == other
+}
+
+/// The command that a word names.
+fn verb_of(word: &[u8]) -> Option<LookVerb>
+    ensures { result ≡ spec.verb_of word.now }
+{
+    if is_word(word, b"where") {
+        Some(LookVerb::Where)
+    } else if is_word(word, b"hints") {
+        Some(LookVerb::Hints)
+    } else if is_word(word, b"messages") {
+        Some(LookVerb::Messages)
+    } else if is_word(word, b"mind") {
+        Some(LookVerb::Mind)
+    } else if is_word(word, b"page") {
+        Some(LookVerb::Page)
+    } else if is_word(word, b"drops") {
+        Some(LookVerb::Drops)
+    } else {
+        None
     }
 }
 
 fn is_either(word: &[u8], long: &[u8], short: &[u8]) -> bool
     ensures { result ≡ (bytes_eq word.now long.now || bytes_eq word.now short.now) }
 {
-    word == long || word == short
+    is_word(word, long) || is_word(word, short)
 }
 
 /// What the words behind this one ask for.
@@ -201,25 +190,10 @@ fn asked_behind<'a>(
     if is_either(word, b"--version", b"-V") {
         return Ok(Some(LookAsked::Version));
     }
-    if word == b"where".as_slice() {
-        return where_asked(alloc, words);
+    match verb_of(word) {
+        Some(verb) => asked_by(alloc, verb, words),
+        None => Ok(None),
     }
-    if word == b"hints".as_slice() {
-        return hints_asked(alloc, words);
-    }
-    if word == b"messages".as_slice() {
-        return messages_asked(alloc, words);
-    }
-    if word == b"mind".as_slice() {
-        return mind_asked(alloc, words);
-    }
-    if word == b"page".as_slice() {
-        return page_asked(alloc, words);
-    }
-    if word == b"drops".as_slice() {
-        return drops_asked(alloc, words);
-    }
-    Ok(None)
 }
 
 /// What the words ask for; None where they are not read. The words leave out the program's own name.

@@ -1,5 +1,16 @@
 //! What the words ask for, as it is held.
 
+/// The commands that take words.
+#[derive(Clone, Copy)]
+pub enum LookVerb {
+    Where,
+    Hints,
+    Messages,
+    Mind,
+    Page,
+    Drops,
+}
+
 /// What the words ask for. Names of files are as they stand.
 #[derive(Clone, Copy)]
 pub enum LookAsked<'a> {

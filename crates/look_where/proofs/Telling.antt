@@ -17,7 +17,7 @@ use Rattle.look_where.specs.declared.files.FileKind.TheVariants.{Project, Agent}
 use Rattle.look_where.specs.declared.files.FileTold.{FileTold}
 use Rattle.look_where.specs.declared.files.Wanted.{Wanted}
 use Rattle.look_where.specs.Others.{TellsProject}
-use Rattle.look_where.specs.Files.{is_lack, wanted_of, TellsBytes, TellsNamed, TellsOne, IsLacking, not_there, too_large, unread, AreTold, none_wanted, one_told, one_lacks, AreOthers, all_told, some_told, TellFiles, source_told, project_told}
+use Rattle.look_where.specs.Files.{kind_of, is_lack, wanted_of, TellsBytes, TellsNamed, TellsOne, PutsOne, AreWanted, all_wanted, some_wanted, IsLacking, not_there, too_large, unread, AreTold, none_wanted, one_told, one_lacks, AreOthers, all_told, some_told, TellFiles, source_told, project_told}
 
 pub no_memory : (s : Status) → is_lack s ≡ false → s ≢ Memory
 no_memory s h e = let f : true ≡ false = ap is_lack (sym e) ∙ h in absurd cc
@@ -73,20 +73,37 @@ pub record Left (known : List (List ℕ)) (held : Option (List Filed)) (first no
 pub begins : (known : List (List ℕ)) (held : Option (List Filed)) (first : ℕ) (ws all : List Wanted) → ws ≡ all → Left known held first first ws all []
 begins known held first ws all e = record { then = λ last us l a. subst (λ (x : List Wanted). AreTold known held first last x us) e a }
 
-pub more : (known : List (List ℕ)) (held : Option (List Filed)) (first before now : ℕ) (rest after all : List Wanted) (ts : List FileTold) (w : Wanted) (told : Option FileTold) →
+pub puts_told : (known : List (List ℕ)) (held : Option (List Filed)) (before after : ℕ) (w : Wanted) (t : FileTold) (ts us : List FileTold) →
+    TellsNamed known held (kind_of w.world) w.name t → us ≡ ts ++ t ∷ [] → PutsOne known held before after w ts us
+puts_told known held before after w t ts us h e = record { told = Some t; tells = h; put = e }
+
+pub puts_none : (known : List (List ℕ)) (held : Option (List Filed)) (before after : ℕ) (w : Wanted) (status : Status) (ts us : List FileTold) → is_lack status ≡ false →
+    IsUnfetched most_bytes w.name held before after status → us ≡ ts → PutsOne known held before after w ts us
+puts_none known held before after w status ts us n h e = record {
+  told = None;
+  tells = lacking held before after w.name status n h;
+  put = e ∙ sym (append-nil ts);
+}
+
+more_told : (known : List (List ℕ)) (held : Option (List Filed)) (first before now : ℕ) (rest after all : List Wanted) (ts : List FileTold) (w : Wanted) (told : Option FileTold) →
     Left known held first before rest all ts → rest ≡ w ∷ after → first ≤ before → before ≤ now → TellsOne known held before now w told →
     Left known held first now after all (ts ++ option_to_list told)
-more known held first before now rest after all ts w (Some t) h e f l m = record {
+more_told known held first before now rest after all ts w (Some t) h e f l m = record {
   then = λ last us r a.
       subst (AreTold known held first last all) (sym (append_assoc ts (t ∷ []) us))
       (h.then last (t ∷ us) (omega arith) (subst (λ (x : List Wanted). AreTold known held first last x (t ∷ us)) (sym e) (one_told m a)));
 }
-more known held first before now rest after all ts w None h e f l m = record {
+more_told known held first before now rest after all ts w None h e f l m = record {
   then = λ last us r a.
       subst (λ (x : List FileTold). AreTold known held first last all (x ++ us)) (sym (append-nil ts))
       (h.then last us (omega arith) (subst (λ (x : List Wanted). AreTold known held first last x us) (sym e)
       (one_lacks (lacks_wider held first before now last w.name f r m) a)));
 }
+
+pub more : (known : List (List ℕ)) (held : Option (List Filed)) (first before now : ℕ) (rest after all : List Wanted) (ts us : List FileTold) (w : Wanted) →
+    Left known held first before rest all ts → rest ≡ w ∷ after → first ≤ before → before ≤ now → PutsOne known held before now w ts us → Left known held first now after all us
+more known held first before now rest after all ts us w h e f l p =
+    subst (Left known held first now after all) (sym p.put) (more_told known held first before now rest after all ts w p.told h e f l p.tells)
 
 pub ends : (known : List (List ℕ)) (held : Option (List Filed)) (first now : ℕ) (rest all : List Wanted) (ts : List FileTold) → Left known held first now rest all ts → rest ≡ [] →
     AreTold known held first now all ts
@@ -112,16 +129,21 @@ project_wider held word first before after last status l m h = record {
 }
 
 -- the project is read between `first` and `now`, and its files until `last`
-pub are_all : (known : List (List ℕ)) (held : Option (List Filed)) (word : List ℕ) (first now last : ℕ) (p : ProjectText) (ws : List Wanted) (ts : List FileTold) →
+are_all : (known : List (List ℕ)) (held : Option (List Filed)) (word : List ℕ) (first now last : ℕ) (p : ProjectText) (ws : List Wanted) (ts : List FileTold) →
     first ≤ now → HasProject held word p → ws ≡ wanted_of p → AreTold known held now last ws ts → AreOthers known held word first last ts
 are_all known held word first now last p ws ts l h e a =
     all_told p h (told_wider known held first now last last l (omega arith) (subst (λ (x : List Wanted). AreTold known held now last x ts) e a))
 
-pub are_some : (known : List (List ℕ)) (held : Option (List Filed)) (word : List ℕ) (first now last : ℕ) (status : Status) (ws : List Wanted) (ts : List FileTold) → first ≤ now →
-    now ≤ last → is_lack status ≡ false → UnlessMemory (ProjectRefused held word first now) status → AreTold known held now last ws ts → AreOthers known held word first last ts
-are_some known held word first now last status ws ts l m n u a =
-    some_told status (project_wider held word first first now last status (omega arith) m (unless.is_told (ProjectRefused held word first now) status (no_memory status n) u)) ws
-    (told_wider known held first now last last l (omega arith) a)
+pub refused_wanted : (held : Option (List Filed)) (word : List ℕ) (before after : ℕ) (status : Status) (ws : List Wanted) → is_lack status ≡ false →
+    UnlessMemory (ProjectRefused held word before after) status → AreWanted held word before after ws
+refused_wanted held word before after status ws n u =
+    some_wanted status (unless.is_told (ProjectRefused held word before after) status (no_memory status n) u)
+
+pub are_others : (known : List (List ℕ)) (held : Option (List Filed)) (word : List ℕ) (first now last : ℕ) (ws : List Wanted) (ts : List FileTold) → first ≤ now → now ≤ last →
+    AreWanted held word first now ws → AreTold known held now last ws ts → AreOthers known held word first last ts
+are_others known held word first now last ws ts l m (all_wanted p h e) a = are_all known held word first now last p ws ts l h e a
+are_others known held word first now last ws ts l m (some_wanted status h) a =
+    some_told status (project_wider held word first first now last status (omega arith) m h) ws (told_wider known held first now last last l (omega arith) a)
 
 others_wider : (known : List (List ℕ)) (held : Option (List Filed)) (word : List ℕ) (first before after last : ℕ) (ts : List FileTold) → first ≤ before → after ≤ last →
     AreOthers known held word before after ts → AreOthers known held word first last ts

@@ -81,6 +81,12 @@ abbrev pub TellsOne : List (List ℕ) → Option (List Filed) → ℕ → ℕ �
 TellsOne known held before after w None = IsLacking held before after w.name
 TellsOne known held before after w (Some t) = TellsNamed known held (kind_of w.world) w.name t
 
+-- what is told of a wanted file goes last, where it is there to be read
+pub record PutsOne (known : List (List ℕ)) (held : Option (List Filed)) (before after : ℕ) (w : Wanted) (ts us : List FileTold) : Type 0 where
+  pub told : Option FileTold
+  pub tells : TellsOne known held before after w told
+  pub put : us ≡ ts ++ option_to_list told
+
 -- ---- what is told of all
 
 -- Each of the wanted files is told, in their order, and there are no others. Those that are not there to be read are left out.
@@ -90,6 +96,11 @@ pub data AreTold (known : List (List ℕ)) (held : Option (List Filed)) (before 
       → AreTold known held before after ws ts → AreTold known held before after (w ∷ ws) (t ∷ ts)
   one_lacks : {w : Wanted} {ws : List Wanted} {ts : List FileTold} → IsLacking held before after w.name
       → AreTold known held before after ws ts → AreTold known held before after (w ∷ ws) ts
+
+-- These are the files that the project names, all of them. Where its own file is refused they are some.
+pub data AreWanted (held : Option (List Filed)) (word : List ℕ) (before after : ℕ) (ws : List Wanted) : Type 0 where
+  all_wanted : (p : ProjectText) → HasProject held word p → ws ≡ wanted_of p → AreWanted held word before after ws
+  some_wanted : (status : Status) → ProjectRefused held word before after status → AreWanted held word before after ws
 
 -- These are the files of the project, all that it names. Where the project's own file is refused they are some.
 pub data AreOthers (known : List (List ℕ)) (held : Option (List Filed)) (word : List ℕ) (before after : ℕ) (files : List FileTold) : Type 0 where

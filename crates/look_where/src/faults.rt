@@ -3,64 +3,14 @@
 use crate::leads::world_place;
 use asl_lexer::token::{Sign, Word};
 use asl_term::sequence::{Seq, Starved};
-use look_reasons::mark::Mark;
-use look_reasons::phrase::Phrase;
+use asl_term::syntax::Text;
+use look_reasons::bytes::byte_at;
+use look_reasons::grammar::Class;
+use look_reasons::mark::{Mark, between, cut_at, is_listed, mark_at};
+use look_reasons::phrase::{Phrase, put_phrases};
+use look_reasons::reading::is_of;
 use look_reasons::reason::{Reason, reason_of};
 use std::alloc::Global;
-
-/// A part of what is told of a fault.
-#[derive(Clone, Copy)]
-enum Say {
-    Words(&'static [u8]),
-    /// The token, the one before and what ends a name.
-    Token,
-    Before,
-    Ending,
-    Number,
-    /// The line and the column of another token.
-    Line,
-    Column,
-}
-
-/// What holds of a place at which a piece is refused.
-#[derive(Clone, Copy)]
-enum Test {
-    /// The piece is the title, or the one with the options.
-    Title,
-    First,
-    /// So many tokens stand before, or so many at least.
-    At(usize),
-    Behind(usize),
-    /// The token is one of these.
-    Text(&'static [&'static [u8]]),
-    Word(&'static [Word]),
-    /// The one before is one of these.
-    Before(&'static [&'static [u8]]),
-    BeforeWord(&'static [Word]),
-    /// The one before that one is this.
-    Second(&'static [u8]),
-    /// `environment` stands before.
-    World,
-}
-
-/// What is told of a place where all of these tests hold, or of another fault: a stable word for it, the reason and a note.
-#[derive(Clone, Copy)]
-pub struct Rule {
-    tests: &'static [Test],
-    pub code: &'static [u8],
-    /// At most four parts each.
-    words: &'static [Say],
-    note: &'static [Say],
-}
-
-const ATOMS: &[Word] = &[
-    Word::Atom,
-    Word::Not,
-    Word::Div,
-    Word::Mod,
-    Word::True,
-    Word::False,
-];
 
 const COUNTS: &[Word] = &[
     Word::Atom,
@@ -84,222 +34,176 @@ const NAMES: &[Word] = &[
     Word::Var,
 ];
 
-const OPTIONS: &[&[u8]] = &[b"environment", b"infrastructure"];
+/// What holds of a place at which a piece is refused. Texts have blanks between them.
+#[derive(Clone, Copy)]
+enum Test {
+    /// The piece is the title, or the one with the options.
+    Title,
+    First,
+    /// So many tokens stand before, or so many at least.
+    At(usize),
+    Behind(usize),
+    /// The token is of this class, or one of these.
+    Token(Class),
+    TokenOf(&'static [Word]),
+    Text(&'static [u8]),
+    /// The one before is of this class, or one of these.
+    Before(Class),
+    BeforeText(&'static [u8]),
+    /// The one before that one is this.
+    Second(&'static [u8]),
+    /// `environment` stands before.
+    World,
+}
 
-/// Options of other programs.
-const OTHER_OPTIONS: &[&[u8]] = &[
-    b"aslSourcePath",
-    b"classpath",
-    b"controlClass",
-    b"executionControl",
-    b"directives",
-    b"beliefBaseClass",
-    b"agentArchClass",
-    b"agentClass",
-    b"at",
-];
+/// What is told of a place where all of these tests hold, or of another fault. The lines of what is told are a stable word for it, the reason, and a
+/// note where there is one; each `$` and the letter behind it stand for what the fault speaks of: see `phrase_of`.
+pub struct Rule {
+    tests: &'static [Test],
+    told: &'static [u8],
+}
+
+impl Rule {
+    /// The word for it.
+    pub fn code(&self) -> &'static [u8] {
+        cut_at(self.told, b'\n').0
+    }
+}
 
 /// The first of which all tests hold is told.
 const RULES: [Rule; 16] = [
     Rule {
         tests: &[Test::Title, Test::At(0)],
-        code: b"mas",
-        words: &[Say::Words(b"a project begins with MAS")],
-        note: &[],
+        told: b"mas\na project begins with MAS",
     },
     Rule {
         tests: &[Test::Title, Test::At(1)],
-        code: b"mas",
-        words: &[Say::Words(b"the project's name begins with a small letter")],
-        note: &[],
+        told: b"mas\nthe project's name begins with a small letter",
     },
     Rule {
         tests: &[Test::Title],
-        code: b"mas",
-        words: &[Say::Words(b"{ is wanted behind the project's name")],
-        note: &[],
+        told: b"mas\n{ is wanted behind the project's name",
     },
     Rule {
-        tests: &[Test::Before(&[b":"]), Test::Second(b"infrastructure")],
-        code: b"option",
-        words: &[Say::Token, Say::Words(b" is not there")],
-        note: &[Say::Words(b"infrastructure: Centralised is the only one")],
+        tests: &[Test::BeforeText(b":"), Test::Second(b"infrastructure")],
+        told: b"option\n$t is not there\ninfrastructure: Centralised is the only one",
     },
     Rule {
         tests: &[
-            Test::Text(&[b":", b".", b"("]),
+            Test::Text(b": . ("),
             Test::First,
             Test::Behind(1),
             Test::World,
         ],
-        code: b"option",
-        words: &[Say::Words(b"a world is a file, named by one word: environment: E is E.env")],
-        note: &[Say::Words(b"no Java environments, no arguments")],
+        told: b"option\na world is a file, named by one word: environment: E is E.env\nno Java environments, no arguments",
     },
     Rule {
-        tests: &[Test::Word(ATOMS), Test::Text(OTHER_OPTIONS)],
-        code: b"option",
-        words: &[Say::Token, Say::Words(b" is no option here")],
-        note: &[],
-    },
-    Rule {
-        tests: &[Test::Word(&[Word::Sign(Sign::OpenSquare)])],
-        code: b"option",
-        words: &[Say::Words(b"an agent has no options here")],
-        note: &[],
-    },
-    Rule {
-        tests: &[Test::Word(&[Word::Sign(Sign::CloseBrace)]), Test::Behind(1)],
-        code: b"missing",
-        words: &[Say::Words(b"; is missing in front of }")],
-        note: &[],
-    },
-    Rule {
-        tests: &[Test::Word(&[Word::Sign(Sign::CloseBrace)])],
-        code: b"missing",
-        words: &[Say::Words(b"an agent is wanted before the }")],
-        note: &[],
-    },
-    Rule {
-        tests: &[Test::Text(&[b":"]), Test::Before(OPTIONS)],
-        code: b"option",
-        words: &[Say::Words(b"no option "), Say::Before],
-        note: &[],
-    },
-    Rule {
-        tests: &[Test::Text(&[b":"]), Test::BeforeWord(ATOMS)],
-        code: b"option",
-        words: &[Say::Words(b"no option "), Say::Before],
-        note: &[Say::Words(
-            b"in front of agents: infrastructure: Centralised and environment: E may stand; behind it entries alone",
-        )],
-    },
-    Rule {
-        tests: &[Test::Text(&[b"agents", b"environment", b"infrastructure"])],
-        code: b"option",
-        words: &[Say::Token, Say::Words(b" stands once, before the entries")],
-        note: &[],
-    },
-    Rule {
-        tests: &[Test::Behind(2), Test::BeforeWord(ATOMS), Test::Word(NAMES)],
-        code: b"entry",
-        words: &[
-            Say::Token,
-            Say::Words(
-                b" cannot stand here: an entry is NAME, NAME file.asl or NAME file.asl #N, and ;",
+        tests: &[
+            Test::Token(Class::Atom),
+            // Options of other programs.
+            Test::Text(
+                b"aslSourcePath classpath controlClass executionControl directives beliefBaseClass agentArchClass agentClass at",
             ),
         ],
-        note: &[],
+        told: b"option\n$t is no option here",
     },
     Rule {
-        tests: &[Test::Word(COUNTS), Test::Before(&[b"#"])],
-        code: b"entry",
-        words: &[Say::Words(b"behind # stands a number from 1")],
-        note: &[],
+        tests: &[Test::Token(Class::Sign(Sign::OpenSquare))],
+        told: b"option\nan agent has no options here",
     },
     Rule {
-        tests: &[Test::Word(ATOMS)],
-        code: b"option",
-        words: &[Say::Token, Say::Words(b" cannot stand here")],
-        note: &[],
+        tests: &[Test::Token(Class::Sign(Sign::CloseBrace)), Test::Behind(1)],
+        told: b"missing\n; is missing in front of }",
     },
     Rule {
-        tests: &[Test::Word(&[Word::Var])],
-        code: b"entry",
-        words: &[
-            Say::Token,
-            Say::Words(b": names of agents begin with a small letter"),
+        tests: &[Test::Token(Class::Sign(Sign::CloseBrace))],
+        told: b"missing\nan agent is wanted before the }",
+    },
+    Rule {
+        tests: &[
+            Test::Text(b":"),
+            Test::BeforeText(b"environment infrastructure"),
         ],
-        note: &[],
+        told: b"option\nno option $b",
+    },
+    Rule {
+        tests: &[Test::Text(b":"), Test::Before(Class::Atom)],
+        told: b"option\nno option $b\nin front of agents: infrastructure: Centralised and environment: E may stand; behind it entries alone",
+    },
+    Rule {
+        tests: &[Test::Text(b"agents environment infrastructure")],
+        told: b"option\n$t stands once, before the entries",
+    },
+    Rule {
+        tests: &[
+            Test::Behind(2),
+            Test::Before(Class::Atom),
+            Test::TokenOf(NAMES),
+        ],
+        told: b"entry\n$t cannot stand here: an entry is NAME, NAME file.asl or NAME file.asl #N, and ;",
+    },
+    Rule {
+        tests: &[Test::TokenOf(COUNTS), Test::BeforeText(b"#")],
+        told: b"entry\nbehind # stands a number from 1",
+    },
+    Rule {
+        tests: &[Test::Token(Class::Atom)],
+        told: b"option\n$t cannot stand here",
+    },
+    Rule {
+        tests: &[Test::Token(Class::Word(Word::Var))],
+        told: b"entry\n$t: names of agents begin with a small letter",
     },
 ];
+
+fn piece_rules() -> &'static [Rule] {
+    &RULES
+}
 
 /// What is told where none of these holds.
 const ELSE: Rule = Rule {
     tests: &[],
-    code: b"entry",
-    words: &[Say::Token, Say::Words(b" cannot stand here")],
-    note: &[],
+    told: b"entry\n$t cannot stand here",
 };
 
 const ENDS: Rule = Rule {
     tests: &[],
-    code: b"missing",
-    words: &[Say::Words(b"the file ends in the middle of a project")],
-    note: &[],
+    told: b"missing\nthe file ends in the middle of a project",
 };
 
 pub const BEHIND: Rule = Rule {
     tests: &[],
-    code: b"behind",
-    words: &[Say::Words(b"nothing may stand behind the }")],
-    note: &[],
+    told: b"behind\nnothing may stand behind the }",
 };
 
 pub const NO_END: Rule = Rule {
     tests: &[],
-    code: b"missing",
-    words: &[Say::Words(b"the } of the project is missing")],
-    note: &[],
+    told: b"missing\nthe } of the project is missing",
 };
 
 pub const TOO_MANY: Rule = Rule {
     tests: &[],
-    code: b"limit",
-    words: &[Say::Number, Say::Words(b" agents, and there may be 1024")],
-    note: &[],
+    told: b"limit\n$n agents, and there may be 1024",
 };
 
 pub const TWICE: Rule = Rule {
     tests: &[],
-    code: b"name",
-    words: &[
-        Say::Words(b"a second agent has the name "),
-        Say::Token,
-        Say::Number,
-    ],
-    note: &[
-        Say::Words(b"the first is at "),
-        Say::Line,
-        Say::Words(b":"),
-        Say::Column,
-    ],
+    told: b"name\na second agent has the name $t$n\nthe first is at $l:$c",
 };
 
 pub const MISSING: Rule = Rule {
     tests: &[],
-    code: b"missing-file",
-    words: &[
-        Say::Words(b"no such file: "),
-        Say::Before,
-        Say::Token,
-        Say::Ending,
-    ],
-    note: &[],
+    told: b"missing-file\nno such file: $b$t$e",
 };
 
 pub const TOO_LARGE: Rule = Rule {
     tests: &[],
-    code: b"missing-file",
-    words: &[
-        Say::Words(b"more than 1048576 bytes: "),
-        Say::Before,
-        Say::Token,
-        Say::Ending,
-    ],
-    note: &[],
+    told: b"missing-file\nmore than 1048576 bytes: $b$t$e",
 };
 
 pub const UNREAD: Rule = Rule {
     tests: &[],
-    code: b"missing-file",
-    words: &[
-        Say::Words(b"cannot be read: "),
-        Say::Before,
-        Say::Token,
-        Say::Ending,
-    ],
-    note: &[],
+    told: b"missing-file\ncannot be read: $b$t$e",
 };
 
 /// Bytes at fault, what is told of them, and what that speaks of.
@@ -351,17 +255,18 @@ fn holds(s: &Spot<'_>, test: Test) -> bool {
         Test::First => s.number == 2,
         Test::At(place) => s.place == place,
         Test::Behind(place) => s.place >= place,
-        Test::Text(texts) => texts.contains(&s.token.text),
-        Test::Word(words) => words.contains(&s.token.word),
-        Test::Before(texts) => texts.contains(&s.before.text),
-        Test::BeforeWord(words) => words.contains(&s.before.word),
+        Test::Token(class) => is_of(s.token.word, class),
+        Test::TokenOf(words) => words.contains(&s.token.word),
+        Test::Text(texts) => is_listed(texts, s.token.text),
+        Test::Before(class) => is_of(s.before.word, class),
+        Test::BeforeText(texts) => is_listed(texts, s.before.text),
         Test::Second(text) => s.second.text == text,
         Test::World => s.world,
     }
 }
 
 fn rule_for(s: &Spot<'_>) -> &'static Rule {
-    for rule in &RULES {
+    for rule in piece_rules() {
         let mut all = true;
         for test in rule.tests {
             all = all && holds(s, *test);
@@ -373,34 +278,22 @@ fn rule_for(s: &Spot<'_>) -> &'static Rule {
     &ELSE
 }
 
-/// The token so many before a place; where there is none, one without a text.
-fn mark_before<'a>(marks: &[Mark<'a>], place: usize, back: usize) -> Mark<'a> {
-    let none = Mark {
-        word: Word::Other,
-        text: &[],
-        at: 0,
-        end: 0,
-        line: 0,
-        column: 0,
-    };
-    match place.checked_sub(back) {
-        Some(at) => marks.get(at).copied().unwrap_or(none),
-        None => none,
-    }
-}
-
 /// Why a piece, the one of this number, is refused at a place.
 pub fn fault_in<'a>(number: u64, marks: &[Mark<'a>], place: usize) -> Fault<'a> {
-    let last = mark_before(marks, marks.len(), 1);
+    let count = marks.len();
     let Some(token) = marks.get(place) else {
-        return fault_at(&ENDS, last.end, last.end.saturating_add(1));
+        let end = match marks.last() {
+            Some(m) => m.end,
+            None => 0,
+        };
+        return fault_at(&ENDS, end, end.saturating_add(1));
     };
     let spot = Spot {
         number,
         place,
         token: *token,
-        before: mark_before(marks, place, 1),
-        second: mark_before(marks, place, 2),
+        before: mark_at(marks, place.checked_sub(1).unwrap_or(count)),
+        second: mark_at(marks, place.checked_sub(2).unwrap_or(count)),
         world: world_place(marks) < place,
     };
     Fault {
@@ -410,33 +303,47 @@ pub fn fault_in<'a>(number: u64, marks: &[Mark<'a>], place: usize) -> Fault<'a> 
     }
 }
 
-/// A part of what is told of a fault; nothing behind the last one.
-fn phrase_at<'a>(f: &Fault<'a>, says: &[Say], at: usize) -> Phrase<'a> {
-    match says.get(at).copied() {
-        Some(Say::Words(words)) => Phrase::Words(words),
-        Some(Say::Token) => Phrase::Shown(f.token),
-        Some(Say::Before) => Phrase::Shown(f.before),
-        Some(Say::Ending) => Phrase::Words(f.ending),
-        Some(Say::Number) => f.number,
-        Some(Say::Line) => Phrase::Number(f.line),
-        Some(Say::Column) => Phrase::Number(f.column),
-        None => Phrase::Words(b""),
+/// What a letter behind `$` stands for in what a rule tells.
+fn phrase_of<'a>(f: &Fault<'a>, letter: u8) -> Phrase<'a> {
+    match letter {
+        // The token, the one before and what ends a name; a number.
+        b't' => Phrase::Shown(f.token),
+        b'b' => Phrase::Shown(f.before),
+        b'e' => Phrase::Words(f.ending),
+        b'n' => f.number,
+        // The line and the column of another token.
+        b'l' => Phrase::Number(f.line),
+        b'c' => Phrase::Number(f.column),
+        _ => Phrase::Words(b""),
     }
 }
 
-fn phrases<'a>(f: &Fault<'a>, says: &[Say]) -> [Phrase<'a>; 4] {
-    [
-        phrase_at(f, says, 0),
-        phrase_at(f, says, 1),
-        phrase_at(f, says, 2),
-        phrase_at(f, says, 3),
-    ]
+/// These words, with what stands for each `$` and its letter.
+fn said_of(alloc: Global, f: &Fault<'_>, words: &[u8]) -> Result<Text, Starved> {
+    let mut out = Seq::new(alloc);
+    let mut spent = false;
+    let mut rest = words;
+    for _ in words {
+        let (plain, behind) = cut_at(rest, b'$');
+        let parts = [Phrase::Words(plain), phrase_of(f, byte_at(behind, 0))];
+        spent = spent || put_phrases(alloc, &parts, &mut out).is_err();
+        rest = between(behind, 1, behind.len());
+    }
+    if spent {
+        drop(out);
+        return Err(Starved);
+    }
+    Ok(out)
 }
 
 fn put_reason(alloc: Global, f: &Fault<'_>, all: &mut Seq<Reason>) -> Result<(), Starved> {
-    let words = phrases(f, f.rule.words);
-    let note = phrases(f, f.rule.note);
-    match reason_of(alloc, (f.at, f.end), f.rule.code, &words, &note) {
+    let (code, told) = cut_at(f.rule.told, b'\n');
+    let (words, note) = cut_at(told, b'\n');
+    let said = said_of(alloc, f, words)?;
+    let note = said_of(alloc, f, note)?;
+    let span = (f.at, f.end);
+    let words = [Phrase::Words(said.as_slice())];
+    match reason_of(alloc, span, code, &words, &[Phrase::Words(note.as_slice())]) {
         Ok(r) => all.push(r),
         Err(_) => Err(Starved),
     }

@@ -1,7 +1,6 @@
 //! What is told of the files of a project.
 
 ghost use Rattle.std.specs.Prelude.{◌≡◌, ◌≤◌, [], ◌∷◌, ◌++◌, true, false, IfOk, IfErr, OnOk, MatchResult, option_copied};
-ghost use Rattle.std.specs.Option.{option_to_list};
 ghost use Rattle.std.specs.List.{list_any};
 ghost use Rattle.mas_io.specs.declared.shelf.Fetched.TheVariants.{Bytes};
 ghost use Rattle.mas_top_files.specs.Files.{Has, IsUnfetched, most_bytes};
@@ -161,6 +160,16 @@ fn is_led(name: &[u8], directory: &[u8], lead: &Lead<'_>) -> bool {
     }
 }
 
+/// The first of those that lead to a wanted file.
+fn lead_to<'a>(leads: &[Lead<'a>], directory: &[u8], w: &Wanted) -> Option<Lead<'a>> {
+    for lead in leads {
+        if lead.world == w.world && is_led(w.name.as_slice(), directory, lead) {
+            return Some(*lead);
+        }
+    }
+    None
+}
+
 /// Puts why a wanted file is not there, at the first token that leads to it.
 fn put_lacking<'a>(directory: &'a [u8], w: &Wanted, why: &Status, read: &mut ProjectRead<'a>) {
     let rule = match why {
@@ -168,19 +177,13 @@ fn put_lacking<'a>(directory: &'a [u8], w: &Wanted, why: &Status, read: &mut Pro
         Status::Limit { .. } => &TOO_LARGE,
         _ => &UNREAD,
     };
-    for at in 0..read.leads.len() {
-        match read.leads.at(at).copied() {
-            Some(lead) if lead.world == w.world && is_led(w.name.as_slice(), directory, &lead) => {
-                read.put_fault(Fault {
-                    before: directory,
-                    token: lead.stem,
-                    ending: lead.ending,
-                    ..fault_at(rule, lead.named.at, lead.named.end)
-                });
-                return;
-            }
-            _ => {}
-        }
+    if let Some(lead) = lead_to(read.leads.as_slice(), directory, w) {
+        read.put_fault(Fault {
+            before: directory,
+            token: lead.stem,
+            ending: lead.ending,
+            ..fault_at(rule, lead.named.at, lead.named.end)
+        });
     }
 }
 
@@ -278,38 +281,33 @@ fn wanted_by(alloc: Global, directory: &[u8], leads: &[Lead<'_>]) -> Result<Seq<
     Ok(all)
 }
 
-/// What is told of a wanted file. Where it is not there a fault is put.
-#[tactic(auto, using(crate::proofs::Telling::lacking))]
-fn wanted_told<'a, S: Shelf>(
+/// Puts what is told of a wanted file. Where it is not there a fault is put.
+#[tactic(auto, using(crate::proofs::Telling::puts_told, crate::proofs::Telling::puts_none))]
+fn put_told<'a, S: Shelf>(
     alloc: Global,
     known: &Names,
     w: &Wanted,
     directory: &'a [u8],
     read: &mut ProjectRead<'a>,
+    files: &mut FilesTold,
     shelf: &mut S,
-) -> Result<Option<FileTold>, Status>
+) -> Result<(), Status>
     ensures same { S.holds shelf.new ≡ S.holds shelf.old }
     ensures later { S.faults shelf.old ≤ S.faults shelf.new }
-    ensures answer { IfOk result (spec.TellsOne known.now (S.holds shelf.old) (S.faults shelf.old) (S.faults shelf.new) w.now) }
+    ensures answer { OnOk result (spec.PutsOne known.now (S.holds shelf.old) (S.faults shelf.old) (S.faults shelf.new) w.now files.old files.new) }
     ensures starved { IfErr result (λ s. s ≡ status.Memory) }
 {
     match file_told(alloc, known, w.world, &w.name, shelf) {
-        Ok(told) => Ok(Some(told)),
+        Ok(told) => match files.push(told) {
+            Ok(()) => Ok(()),
+            Err(_) => Err(Status::Memory),
+        },
         Err(why) => {
             let lack = is_lack(&why);
             put_lacking(directory, w, &why, read);
             drop(why);
-            if lack { Err(Status::Memory) } else { Ok(None) }
+            if lack { Err(Status::Memory) } else { Ok(()) }
         }
-    }
-}
-
-fn put_told(files: &mut FilesTold, told: Option<FileTold>) -> Result<(), Starved>
-    ensures { OnOk result (files.new ≡ files.old ++ option_to_list told) }
-{
-    match told {
-        Some(told) => files.push(told),
-        None => Ok(()),
     }
 }
 
@@ -331,17 +329,48 @@ fn all_told<'a, S: Shelf>(
     let mut files: FilesTold = Seq::new(alloc);
     let mut rest = wanted.as_slice();
     'wanted: while let Some((w, after)) = rest.split_first() {
-        let told = match wanted_told(alloc, known, w, directory, read, shelf) {
-            Ok(told) => told,
+        match put_told(alloc, known, w, directory, read, &mut files, shelf) {
+            Ok(()) => rest = after,
             Err(_) => return Err(Status::Memory),
-        };
-        put_told(&mut files, told)?;
-        rest = after;
+        }
     }
     Ok(files)
 }
 
 /// The files of the project of this name: all of them where it is read, else those to which it leads.
+#[tactic(auto, using(crate::proofs::Telling::refused_wanted))]
+fn wanted_files<S: Shelf>(
+    alloc: Global,
+    word: &Text,
+    leads: &[Lead<'_>],
+    shelf: &mut S,
+) -> Result<Seq<Wanted>, Status>
+    ensures same { S.holds shelf.new ≡ S.holds shelf.old }
+    ensures later { S.faults shelf.old ≤ S.faults shelf.new }
+    ensures answer { IfOk result (spec.AreWanted (S.holds shelf.old) word.now (S.faults shelf.old) (S.faults shelf.new)) }
+    ensures starved { IfErr result (λ s. s ≡ status.Memory) }
+{
+    match project_of(alloc, word, shelf) {
+        Ok(p) => match wanted_in(alloc, p) {
+            Ok(wanted) => Ok(wanted),
+            Err(_) => Err(Status::Memory),
+        },
+        Err(why) => {
+            let lack = is_lack(&why);
+            drop(why);
+            if lack {
+                return Err(Status::Memory);
+            }
+            match wanted_by(alloc, folder(word.as_slice()), leads) {
+                Ok(wanted) => Ok(wanted),
+                Err(_) => Err(Status::Memory),
+            }
+        }
+    }
+}
+
+/// What is told of the files of the project of this name.
+#[tactic(auto, using(crate::proofs::Telling::are_others))]
 fn others_told<'a, S: Shelf>(
     alloc: Global,
     known: &Names,
@@ -355,26 +384,12 @@ fn others_told<'a, S: Shelf>(
     ensures starved { IfErr result (λ s. s ≡ status.Memory) }
 {
     let directory = folder(word.as_slice());
-    match project_of(alloc, word, shelf) {
-        Ok(p) => {
-            let wanted = wanted_in(alloc, p)?;
-            match all_told(alloc, known, &wanted, directory, read, shelf) {
-                Ok(files) => Ok(files),
-                Err(_) => Err(Status::Memory),
-            }
-        }
-        Err(why) => {
-            if is_lack(&why) {
-                drop(why);
-                return Err(Status::Memory);
-            }
-            drop(why);
-            let wanted = wanted_by(alloc, directory, read.leads.as_slice())?;
-            match all_told(alloc, known, &wanted, directory, read, shelf) {
-                Ok(files) => Ok(files),
-                Err(_) => Err(Status::Memory),
-            }
-        }
+    match wanted_files(alloc, word, read.leads.as_slice(), shelf) {
+        Ok(wanted) => match all_told(alloc, known, &wanted, directory, read, shelf) {
+            Ok(files) => Ok(files),
+            Err(_) => Err(Status::Memory),
+        },
+        Err(_) => Err(Status::Memory),
     }
 }
 

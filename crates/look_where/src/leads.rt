@@ -2,10 +2,9 @@
 
 use asl_lexer::scan::value;
 use asl_lexer::token::{Tok, TokKind, Word};
-use asl_term::copying::text_of;
 use asl_term::sequence::{Seq, Starved};
 use asl_term::syntax::Text;
-use look_reasons::mark::{Mark, is_atom};
+use look_reasons::mark::{Mark, is_atom, mark_at};
 use look_reasons::mending::is_pair;
 use mas_project::piece::NextPiece;
 use mas_project::reading::{Outcome, read};
@@ -73,14 +72,6 @@ pub fn stop_of(alloc: Global, turn: NextPiece, piece: &[Tok]) -> Result<Option<u
     Ok(if whole { None } else { Some(piece.len()) })
 }
 
-/// The text of a token; none behind all of them.
-fn text_at<'a>(marks: &[Mark<'a>], at: usize) -> &'a [u8] {
-    match marks.get(at) {
-        Some(m) => m.text,
-        None => &[],
-    }
-}
-
 /// The place behind `agents :`; behind all tokens where that stands nowhere.
 fn behind_agents(marks: &[Mark<'_>]) -> usize {
     for at in 0..marks.len() {
@@ -94,7 +85,7 @@ fn behind_agents(marks: &[Mark<'_>]) -> usize {
 /// The first place of `environment`; behind all tokens where that stands nowhere.
 pub fn world_place(marks: &[Mark<'_>]) -> usize {
     for at in 0..marks.len() {
-        if text_at(marks, at) == b"environment".as_slice() {
+        if mark_at(marks, at).text == b"environment".as_slice() {
             return at;
         }
     }
@@ -111,20 +102,18 @@ fn count_in(toks: &[Tok]) -> Option<u64> {
 
 /// Where an entry leads, whose file may stand at this place: else its name stands for the file.
 fn with_file<'a>(marks: &[Mark<'a>], toks: &'a [Tok], at: usize, own: Lead<'a>) -> Lead<'a> {
-    match (marks.get(at), toks.get(at)) {
-        (Some(m), Some(t)) if matches!(m.word, Word::Str) => Lead {
-            stem: t.text.as_slice(),
-            ending: b"",
-            named: *m,
-            ..own
-        },
-        (Some(m), _)
-            if is_atom(m.word) && text_at(marks, at.saturating_add(1)) == b".asl".as_slice() => {
-            Lead {
-                stem: m.text,
-                named: *m,
-                ..own
-            }
+    let named = mark_at(marks, at);
+    let ending = mark_at(marks, at.saturating_add(1)).text;
+    let mut lead = Lead { named, ..own };
+    if is_atom(named.word) && ending == b".asl".as_slice() {
+        lead.stem = named.text;
+        return lead;
+    }
+    match toks.get(at) {
+        Some(t) if matches!(named.word, Word::Str) => {
+            lead.stem = t.text.as_slice();
+            lead.ending = b"";
+            lead
         }
         _ => own,
     }
@@ -138,43 +127,19 @@ pub fn lead_in<'a>(
     whole: bool,
 ) -> Option<Lead<'a>> {
     let at = if first { behind_agents(marks) } else { 0 };
-    match marks.get(at) {
-        Some(name) if is_atom(name.word) => {
-            let own = Lead {
-                stem: name.text,
-                ending: b".asl",
-                world: false,
-                named: *name,
-                name: *name,
-                count: if whole { count_in(toks) } else { None },
-            };
-            Some(with_file(marks, toks, at.saturating_add(1), own))
-        }
-        _ => None,
+    let name = mark_at(marks, at);
+    if !is_atom(name.word) {
+        return None;
     }
-}
-
-/// The entry of a piece, which is read whole or not; of the first one behind its options.
-pub fn entry_in(
-    alloc: Global,
-    marks: &[Mark<'_>],
-    toks: &[Tok],
-    first: bool,
-    whole: bool,
-) -> Result<Option<Entry>, Starved> {
-    match lead_in(&*marks, &*toks, first, whole) {
-        Some(lead) => {
-            let name = text_of(alloc, lead.name.text)?;
-            let mut file = text_of(alloc, lead.stem)?;
-            file.append(lead.ending)?;
-            Ok(Some(Entry {
-                name,
-                file,
-                count: lead.count,
-            }))
-        }
-        None => Ok(None),
-    }
+    let own = Lead {
+        stem: name.text,
+        ending: b".asl",
+        world: false,
+        named: name,
+        name,
+        count: if whole { count_in(toks) } else { None },
+    };
+    Some(with_file(marks, toks, at.saturating_add(1), own))
 }
 
 /// Where the name of the environment leads, where a reading goes on behind it. It has no agents.

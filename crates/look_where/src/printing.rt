@@ -11,7 +11,7 @@ use asl_term::sequence::{Seq, Starved};
 use asl_term::syntax::Text;
 use look_answer::answer::Output;
 use look_pieces::findings::Finding;
-use look_reasons::phrase::{Phrase, sentence};
+use look_reasons::phrase::{Phrase, put_phrases, sentence};
 use mas_io::shelf::Shelf;
 use mas_top_files::sources::sources;
 use mas_top_status::status::{Status, fault_line};
@@ -68,9 +68,12 @@ fn is_found(files: &FilesTold) -> bool
 
 /// `1 file`, `2 files`
 pub fn put_counted(alloc: Global, n: u64, what: &[u8], out: &mut Text) -> Result<(), Starved> {
-    write_number(alloc, n, out)?;
-    out.append(what)?;
-    out.append(plural(n))
+    let parts = [
+        Phrase::Number(n),
+        Phrase::Words(what),
+        Phrase::Words(plural(n)),
+    ];
+    put_phrases(alloc, &parts, out)
 }
 
 /// How many findings there are, and how many files have some.
@@ -159,15 +162,16 @@ fn refusal_of<S: Shelf>(
             })
         }
         Err(status) => {
-            if is_lack(&status) {
-                return Err(Starved);
-            }
+            let lack = is_lack(&status);
             let line = status_line(alloc, &status);
             drop(status);
-            Ok(Refusal {
-                refused: true,
-                line: line?,
-            })
+            match line {
+                Ok(line) if !lack => Ok(Refusal {
+                    refused: true,
+                    line,
+                }),
+                _ => Err(Starved),
+            }
         }
     }
 }

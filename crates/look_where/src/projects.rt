@@ -171,7 +171,7 @@ fn put_pieces<'a>(
 fn put_end(end: usize, read: &mut ProjectRead<'_>) {
     let mut told = read.done;
     for f in read.faults.as_slice() {
-        told = told || f.rule.code == NO_END.code;
+        told = told || f.rule.code() == NO_END.code();
     }
     if !told {
         read.put_fault(fault_at(&NO_END, end, end.saturating_add(1)));
@@ -186,12 +186,14 @@ fn first_token<'a>(
     names: &mut Names,
     tokens: &mut Seq<Mark<'a>>,
 ) -> Result<Option<Mark<'a>>, Starved> {
-    let name = sentence(alloc, &[Phrase::Words(token.text), count])?;
     let before = names.len();
     if before >= 100_000 {
         return Ok(None);
     }
-    match number(names, &name) {
+    let name = sentence(alloc, &[Phrase::Words(token.text), count])?;
+    let place = number(names, &name);
+    drop(name);
+    match place {
         Ok(place) if place <= before => Ok(tokens.at((place as u64).saturating_sub(1)).copied()),
         Ok(_) => match tokens.push(token) {
             Ok(()) => Ok(None),

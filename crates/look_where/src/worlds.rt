@@ -23,7 +23,7 @@ use look_pieces::findings::{Findings, at_least_one, findings_in};
 use look_pieces::spoilt::{is_dirty, is_ended, piece_end, with_bytes};
 use look_reasons::bytes::{Mended, Spoilt, mended_of};
 use look_reasons::flaws::{artifact_reason, limit_reason, unbound_reason};
-use look_reasons::mark::{Mark, marks_of};
+use look_reasons::mark::{Mark, mark_at, marks_of};
 use look_reasons::mending::Piece;
 use look_reasons::reason::{Reason, reasons};
 use mas_world::acts::WorldText;
@@ -193,13 +193,9 @@ impl<'a> Draft<'a> {
 
     /// Keeps the token of the name that a piece uses.
     fn put_used(&mut self, marks: &[Mark<'a>]) {
-        match marks {
-            [first, second, ..] if first.text == b"use".as_slice() => {
-                if self.used.push(*second).is_err() {
-                    self.spent = true;
-                }
-            }
-            _ => {}
+        let uses = marks.len() > 1 && mark_at(marks, 0).text == b"use".as_slice();
+        if uses && self.used.push(mark_at(marks, 1)).is_err() {
+            self.spent = true;
         }
     }
 

@@ -1,4 +1,4 @@
-use Rattle.std.proofs.Common.{subst, sym}
+use Rattle.std.proofs.Common.{subst}
 use Rattle.chart_page.specs.Minds.{texts_of}
 use Rattle.chart_page.specs.Texts.{HoldsAll}
 use Rattle.look_mind.proofs.Paged.{changes_held, is_page}

@@ -1,5 +1,5 @@
 use Rattle.std.proofs.Common.{◌-◌, ◌∙◌, List, Some, ap, sym}
-use Rattle.look_change.specs.declared.change.ChangedLine.{ChangedLine}
+use Rattle.look_lines.specs.declared.change.ChangedLine.{ChangedLine}
 use Rattle.std.specs.Prelude.{slice_index}
 use Rattle.look_mind.specs.Rows.{rows_of}
 use Rattle.look_mind.proofs.Rowed.{turn_told, turn_untold}

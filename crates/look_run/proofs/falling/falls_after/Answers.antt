@@ -1,6 +1,6 @@
 use Rattle.std.proofs.Common.{ap, map, subst, ◌∙◌}
 use Rattle.mas_core.specs.Platform.{opening_platform}
-use Rattle.look_falls.specs.Falls.{falls}
+use Rattle.look_lines.specs.Falls.{falls}
 use Rattle.look_run.specs.Steps.{HasGone}
 use Rattle.look_run.proofs.Fallen.{have_fallen}
 use Rattle.look_run.proofs.falling.falls_after.Goals as goal

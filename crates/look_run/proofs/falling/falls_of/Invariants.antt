@@ -1,6 +1,6 @@
 -- the failures of the minds before are found
 use Rattle.std.proofs.Common.{◌≡◌, map, take}
-use Rattle.look_falls.specs.Falls.{falls}
+use Rattle.look_lines.specs.Falls.{falls}
 use Rattle.look_run.proofs.falling.falls_of.Given as goal
 
 abbrev pub invariant-loop-m : goal.invariant-loop-m

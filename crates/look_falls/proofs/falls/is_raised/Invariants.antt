@@ -1,6 +1,0 @@
-use Rattle.std.proofs.Common.{◌≡◌, drop, map}
-use Rattle.look_falls.specs.Falls.{is_raised}
-use Rattle.look_falls.proofs.falls.is_raised.Given as goal
-
-abbrev pub invariant-loop-line : goal.invariant-loop-line
-invariant-loop-line l = is_raised (map (λ x. x.now) (drop l.line-index l.lines)) ≡ is_raised (map (λ x. x.now) l.lines)

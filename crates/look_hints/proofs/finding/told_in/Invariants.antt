@@ -1,8 +1,0 @@
-use Rattle.std.proofs.Common.{◌≡◌, ◌+◌, length}
-use Rattle.look_hints.proofs.finding.told_in.Given as goal
-
-abbrev pub invariant-hints : goal.invariant-hints
-invariant-hints l = length l.findings + length l.rest ≡ length l.fn.hints
-
-abbrev pub decreases-hints : goal.decreases-hints
-decreases-hints l = length l.rest

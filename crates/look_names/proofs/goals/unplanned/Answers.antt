@@ -1,5 +1,0 @@
-use Rattle.look_names.proofs.Planless.{none_left_out}
-use Rattle.look_names.proofs.goals.unplanned.Goals as goal
-
-pub returns-clause-whole : goal.returns-clause-whole
-returns-clause-whole c = none_left_out c.args.cs.now c.args.c.now c.in_ok-all.all c.in_ok-all.ensures
