@@ -10,7 +10,7 @@ pub const FRONT: &str = "<!DOCTYPE html>\n\
 --done:#7ee787;--failed:#ffa657;--drops:#ff8f88;--on:#4b3f00}}\n\
 body{margin:0 1rem 4rem;background:var(--back);color:var(--text);font:14px/1.4 ui-monospace,Menlo,Consolas,'DejaVu Sans Mono',monospace}\n\
 h1{font-size:1.2rem}h2{font-size:1.05rem}h3{font-size:1rem;margin:1rem 0 .2rem}\
-ol,ul{list-style:none;margin:0;padding:0}li{overflow-wrap:anywhere;padding:0 .3rem}\n\
+ol,ul{list-style:none;margin:0;padding:0}li{overflow-wrap:anywhere;padding:0 .3rem;scroll-margin-top:10rem}\n\
 .at{display:inline-block;min-width:4.5ch;margin-right:1ch;color:var(--soft);text-align:right}.end{margin:.2rem 0;font-weight:bold}\
 .small{color:var(--soft);overflow-wrap:anywhere}.name{font-weight:bold}\n\
 .sign{width:11px;height:12px;margin-right:.6ch;overflow:visible}li.say{font-weight:bold}li.mail{color:var(--mail)}li.does{color:var(--does)}\
@@ -23,6 +23,7 @@ li.on,li:target{background:var(--on)}li.now{outline:2px solid var(--text)}a{colo
 .picture{overflow:auto;max-height:70vh;border:1px solid var(--edge)}.turns{width:100%;height:48px;border:1px solid var(--edge);margin:.5rem 0;padding:0}\n\
 #filter{position:sticky;top:0;background:var(--back);border-bottom:1px solid var(--edge);padding:.4rem 0;z-index:1}\
 #filter fieldset{display:inline-block;border:1px solid var(--edge);max-height:6.5rem;overflow:auto;vertical-align:top}\
+@media(max-width:600px),(max-height:600px){#filter{position:static}li{scroll-margin-top:2rem}}\
 #filter label{display:inline-block;margin-right:1ch}[hidden]{display:none!important}\
 :focus-visible{outline:2px solid var(--mail);outline-offset:1px}\n\
 .picture .dim{opacity:.15}.picture .on{text-decoration:underline;font-weight:bold}.picture g.on .arrow{stroke-width:3}\n\
@@ -48,8 +49,10 @@ const rows=all('.trace li'),names={},form=get('filter'),text=get('text'),traces=
 all('.trace').forEach(s=>names[s.dataset.agent]=s.querySelector('h3').textContent);\n\
 rows.forEach((r,i)=>{r.dataset.name=names[r.dataset.agent];r.home=r.parentNode;r.order=i});\n\
 const order=[...rows].sort((a,b)=>(+a.dataset.turn||1e18)-(+b.dataset.turn||1e18)||a.order-b.order);\n\
-const fill=(id,list)=>list.forEach(([v,t])=>{const l=document.createElement('label'),b=document.createElement('input');\
-b.type='checkbox';b.checked=true;b.value=v;l.append(b,' '+t);get(id).append(l)});\n\
+const fill=(id,list)=>{const put=(v,t)=>{const l=document.createElement('label'),b=document.createElement('input');\
+b.type='checkbox';b.checked=true;b.value=v;l.append(b,' '+t);get(id).append(l);return b};\
+if(list.length>3)put('','all').addEventListener('input',e=>all('input',get(id)).forEach(b=>b.checked=e.target.checked));\
+list.forEach(([v,t])=>put(v,t));};\n\
 fill('agents',Object.entries(names));fill('kinds',[...new Set(rows.map(r=>r.dataset.kind))].map(k=>[k,k]));\n\
 const marks=r=>[r,get('t'+r.id.slice(1)),get('m'+r.id.slice(1))].filter(x=>x);\n\
 const ticked=id=>new Set(all('input:checked',get(id)).map(b=>b.value));\n\
@@ -70,5 +73,6 @@ let turn=0;const step=d=>{const seen=order.filter(r=>!r.hidden&&r.dataset.turn>0
 seen.reverse().find(r=>+r.dataset.turn<turn);if(!next)return;turn=+next.dataset.turn;\
 rows.forEach(r=>r.classList.toggle('now',+r.dataset.turn===turn));const t=get('t'+next.id.slice(1));if(t)t.scrollIntoView({block:'center',inline:'nearest'});\
 next.focus({preventScroll:true});next.scrollIntoView({block:'center'})};\n\
-addEventListener('keydown',e=>{if(e.ctrlKey||e.metaKey||e.altKey||e.target===text)return;if(e.key==='j')step(1);if(e.key==='k')step(-1)})\n\
+addEventListener('keydown',e=>{if(e.ctrlKey||e.metaKey||e.altKey||e.target===text)return;if(e.key==='j')step(1);if(e.key==='k')step(-1)});\n\
+document.title=decodeURI(location.pathname.split('/').pop()||document.title)\n\
 })()\n</script></body>";
