@@ -40,7 +40,7 @@ END
 
 jasonrun help COMMAND shows one command and its options; jasonrun --version.
 Example: jasonrun run examples/hello/hello.mas2j --level say --workers 1
-More: docs/TUTORIAL.md (a first hour), docs/LANGUAGE.md, man ./docs/jasonrun.1
+More: docs/TUTORIAL.md, docs/LANGUAGE.md; beside it: jasonlook, explore, chart
 END
 }
 
@@ -159,6 +159,16 @@ END
     esac
 }
 
+# What is wrong with a word that is no command.
+word_of() {
+    case $1 in
+        '') echo 'a command is missing' ;;
+        where | hints | mind | messages | drops | page) echo "$1 is a command of jasonlook: ${call-./}jasonlook $1" ;;
+        jasonlook | explore | chart) echo "$1 is a program of its own: ${call-./}$1" ;;
+        *) echo "there is no command $1" ;;
+    esac
+}
+
 # A status and a command, in plain words: what happened, and the section of docs/LANGUAGE.md to read on.
 hint_of() {
     section='The end of the program'
@@ -168,9 +178,9 @@ hint_of() {
         2:*)
             section='Commands and options'
             if [ -n "$2" ] && help_of "$2" >/dev/null; then
-                set -- "The names, the options or a value among them are none that $2 has: ./jasonrun help $2 shows them."
+                set -- "The names, the options or a value among them are none that $2 has: ${call-./}jasonrun help $2 shows them."
             else
-                set -- 'The first word has to be a command: ./jasonrun help shows all of them.'
+                set -- "$(word_of "$2"); ${call-./}jasonrun help shows all commands."
             fi
             ;;
         3:*) section='What is refused' && set -- 'There is no such file. A project ends in .mas2j, a source in .asl; the files of a project stand in its own folder.' ;;
@@ -180,7 +190,7 @@ hint_of() {
             section='What is refused'
             set -- 'Nothing ran. The number counts clauses from 1, dot by dot (in a project its pieces, in a schedule lines or turns),' \
                 'but with byte, string, comment and number it counts bytes from 0.' \
-                'jasonlook where PROJECT shows each such place with its line, and why.'
+                "${call-./}jasonlook where PROJECT shows each such place with its line, and why."
             ;;
         7:*) section='What is refused' && set -- 'Something is too large. The word behind limit says what; the number says how many bytes there may be, which clause it is, or how many there are.' ;;
         8:*) section='When something fails' && set -- 'The report is written, but the search of an agent was cut off: --tries and --depth give it more.' ;;
@@ -188,5 +198,5 @@ hint_of() {
         11:*) section='Record and resume' && set -- 'The file of the recorded run could not be made, read or written, or another run has it. What was made until then is in it.' ;;
         *) return ;;
     esac
-    printf '  %s\n' "$@" "See docs/LANGUAGE.md, \"$section\"."
+    printf '  %s\n' "$@" "See ${docs-docs}/LANGUAGE.md, \"$section\"."
 }

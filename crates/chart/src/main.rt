@@ -13,6 +13,7 @@ use std::{env, io};
 
 const USAGE: &str =
     "usage: chart [--all] [--page] [--agents NAME,NAME,..] [--turns FROM..TO] <REPORT";
+const VERSION: &str = "chart 1.0.0";
 
 /// The words of the command line without the program's own name.
 fn words_of(rt: &HostRuntime) -> io::Result<Vec<String>> {
@@ -23,11 +24,26 @@ fn words_of(rt: &HostRuntime) -> io::Result<Vec<String>> {
     Ok(words)
 }
 
+/// What is written where `--help` or `--version` is the only word.
+fn told_of(words: &[String]) -> Option<&'static str> {
+    let [word] = words else {
+        return None;
+    };
+    match word.as_bytes() {
+        b"--help" => Some(USAGE),
+        b"--version" => Some(VERSION),
+        _ => None,
+    }
+}
+
 /// Draws what the words ask for.
 fn drawn(rt: &HostRuntime) -> Result<(), Fault> {
     let Ok(words) = words_of(rt) else {
         return Err(Fault::Words);
     };
+    if let Some(told) = told_of(words.as_slice()) {
+        return println!(rt; "{told}").map_err(|_| Fault::Write);
+    }
     let Some(asked) = asked_of(words.as_slice()) else {
         return Err(Fault::Words);
     };
