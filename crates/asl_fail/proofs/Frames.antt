@@ -138,8 +138,3 @@ pub top_no_goal : (ps : List OwnedPlan) (n : ℕ) (e : Error) (stack : List Mean
     → None ≡ raised_top ps n e stack
 top_no_goal ps n e stack t c g = sym (top_is ps n e stack ∙ ap (raised_of ps n e) c.1
     ∙ ap (λ b. if (if b then any_choice (relevant_from 0 ps n (failure e (put_trigger c.0 t))) else false) then Some (failure e (put_trigger c.0 t)) else None) g)
-
--- no means is there
-pub no_top : (ps : List OwnedPlan) (n : ℕ) (e : Error) (stack : List Means) → trigger_at stack 0 ≡ None → None ≡ raised_top ps n e stack
-no_top ps n e [] h = refl
-no_top ps n e (m ∷ below) h = cc

@@ -1,7 +1,7 @@
 -- The first match in a list, one place after another.
 use Rattle.std.proofs.Common.{◌≡◌, ◌∙◌, ℕ, ◌+◌, ◌≤◌, ◌<◌, List, [], ◌∷◌, ◌++◌, length, drop, get_or}
 use Rattle.std.proofs.Common.{slice_get, Option, None, Some, Result, Ok, Err, is_some, true, false, refl, ap, sym, arith, ◌⊎◌, inl, inr}
-use Rattle.std.proofs.lemmas.List.{at_drop_more, at_drop_all}
+use Rattle.std.proofs.lemmas.List.{at_drop_more}
 use Rattle.std.proofs.lemmas.Option.{slice_get_cases}
 use Rattle.std.specs.Option.{option_map}
 use Rattle.std.specs.Result.{IfOk}
@@ -52,10 +52,6 @@ module _ {A B : Type 0} (f : A → Option B) where
       → first_of f (drop k xs) ≡ first_of f xs → found ≡ first_of f xs
   here xs k d x None h e r some i = cc
   here xs k d x (Some y) h e r some i = ap (λ o. or_else o (first_of f (drop (k + 1) xs))) r ∙ sym (next xs k d x h e) ∙ i
-
-  -- no place is left
-  pub absent : (xs : List A) (k : ℕ) → length xs ≤ k → first_of f (drop k xs) ≡ first_of f xs → None ≡ first_of f xs
-  absent xs k h i = sym (at_drop_all (first_of f) xs k h) ∙ i
 
 -- a stack, from its top
 

@@ -1,5 +1,5 @@
 -- A sweep, one item after another.
-use Rattle.std.proofs.Common.{◌≡◌, List, [], ◌∷◌, ◌++◌, refl, sym, subst, ap, ◌∙◌, append_assoc}
+use Rattle.std.proofs.Common.{◌≡◌, List, [], ◌∷◌, ◌++◌, sym, subst, ap, ◌∙◌, append_assoc}
 use Rattle.std.proofs.lemmas.List.{append-nil}
 use Rattle.asl_exec_circumstance.specs.declared.rows.Fall.{Fall}
 use Rattle.asl_exec_circumstance.specs.Circumstance.{Circumstance}
@@ -24,9 +24,6 @@ module _ {S : Type 0} (one : Circumstance → S → Swept S) where
     pub parts : q ≡ (sweep one p done).parts
     pub left : kept ≡ (sweep one p done).left
     pub fell : falls ≡ before ++ (sweep one p done).falls
-
-  pub begins : (p : Circumstance) (before : List Fall) → Sofar p before [] p [] before
-  begins p before = record { parts = refl; left = refl; fell = sym (append-nil before) }
 
   pub goes_on : (p : Circumstance) (before : List Fall) (done : List S) (x : S) (q r : Circumstance) (kept left : List S) (falls fell : List Fall)
       → Sofar p before done q kept falls → r ≡ (one q x).parts → left ≡ kept ++ (one q x).left → fell ≡ falls ++ (one q x).falls

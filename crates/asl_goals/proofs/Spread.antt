@@ -1,5 +1,5 @@
 -- The messages to all other agents, one after another.
-use Rattle.std.proofs.Common.{◌≡◌, ◌≢◌, ◌∙◌, ℕ, ◌+◌, ◌<◌, List, [], ◌∷◌, ◌++◌, length, drop, refl, ap, sym, add-one, append_assoc}
+use Rattle.std.proofs.Common.{◌≡◌, ◌≢◌, ◌∙◌, ℕ, ◌+◌, ◌<◌, List, [], ◌∷◌, ◌++◌, length, drop, ap, sym, add-one, append_assoc}
 use Rattle.std.specs.Prelude.{cond, eqb}
 use Rattle.std.proofs.Math.Seq.{drop-cons}
 use Rattle.std.proofs.lemmas.Bool.{ne_eqb, eq-eqb}
@@ -22,9 +22,6 @@ next me v t names k h =
     ap (to_others me v t (k + 1)) (drop-cons names k [] h)
     ∙ ap (λ more. cond (eqb (k + 1) me) (to_others me v t (k + 1 + 1) more) (one me v t (k + 1) ∷ to_others me v t (k + 1 + 1) more))
     (ap (λ n. drop n names) (sym (add-one k)))
-
-pub begins : (me : ℕ) (v : Verb) (t : Term) (names : List (List ℕ)) → [] ++ from_on me v t names 0 ≡ to_others me v t 1 names
-begins me v t names = refl
 
 -- that of the agent itself is left out
 pub passes : (me : ℕ) (v : Verb) (t : Term) (names : List (List ℕ)) (k : ℕ) (sent all : List Message) → k < length names → k + 1 ≡ me

@@ -1,5 +1,5 @@
 -- What a change of one slot makes of what is filed and listed.
-use Rattle.std.proofs.Common.{◌≡◌, ◌<◌, ℕ, zero, suc, ◌+◌, ◌-◌, Bool, List, [], ◌∷◌, ◌++◌, map, length, take, Option, Some, None, cond, refl, ap, sym, ◌∙◌, subst, arith}
+use Rattle.std.proofs.Common.{◌≡◌, ℕ, zero, suc, ◌+◌, ◌-◌, Bool, List, [], ◌∷◌, ◌++◌, map, length, take, Option, Some, None, cond, refl, ap, sym, ◌∙◌, subst, arith}
 use Rattle.std.specs.Prelude.{◌==◌, Result, Ok, Err, OnErr}
 use Rattle.std.specs.List.{slice_get, slice_set, filter}
 use Rattle.asl_term.specs.declared.syntax.LiteralOf.{LiteralOf}
@@ -161,9 +161,6 @@ module _ (s : BeliefSlots) where
 
   pub last_place : length (s ++ None ∷ []) - 1 ≡ length s
   last_place = let size = length-append s (None ∷ []) in omega (arith, size)
-
-  pub last_some : 0 < length (s ++ None ∷ [])
-  last_some = let size = length-append s (None ∷ []) in omega (arith, size)
 
   pub kept_last : (b : LiteralOf Term) → kept (slice_set (s ++ None ∷ []) (length s) (Some b)) ≡ kept s ++ b ∷ []
   kept_last b =

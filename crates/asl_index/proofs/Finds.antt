@@ -13,7 +13,7 @@ use Rattle.asl_index_tables.specs.Slots.{kept, at_slot}
 use Rattle.asl_index_tables.proofs.Slots.{IsNth, nth_slot, length_places}
 use Rattle.asl_beliefs.specs.Changes.{same_belief}
 use Rattle.asl_beliefs.proofs.Keys.{same_key}
-use Rattle.asl_index.specs.Store.{has_key, AreListed, IsSlot}
+use Rattle.asl_index.specs.Store.{has_key, AreListed}
 use Rattle.asl_index.proofs.Filing.{BeliefSlots}
 
 module _ {A : Type 0} (p : A → Bool) where
@@ -55,12 +55,6 @@ module _ (b : LiteralOf Term) (slots : BeliefSlots) (f : Keys) (n : ℕ) (all : 
       let next : suc k ≡ k + 1 = omega arith in
       subst (λ m. list_any (same_belief b) (take m (filter (has_key n) (kept slots))) ≡ false) next
       (none_next (same_belief b) (filter (has_key n) (kept slots)) k p.here p.nth (ap (λ z. option_map_or (same_belief b) z false) (sym p.at) ∙ o) h)
-
-  -- or it is this one
-  pub here_found : (k j : ℕ) → slice_get (listed f n) k ≡ Some j → option_map_or (same_belief b) (at_slot slots j) false ≡ true → IsSlot b slots j
-  here_found k j e o =
-      let p = at_place k j e in
-      record { here = p.here; at = p.at; same = ap (λ z. option_map_or (same_belief b) z false) (sym p.at) ∙ o }
 
   -- a place in the list of places is that of one
   pub not_past : (k : ℕ) → k < length (listed f n) → slice_get (listed f n) k ≡ None → ⊥

@@ -1,9 +1,9 @@
 -- A walk over slots in which what is no longer perceived loses its mark.
-use Rattle.std.proofs.Common.{◌≡◌, ◌≤◌, ◌<◌, ℕ, suc, ◌+◌, true, false, List, [], ◌∷◌, ◌++◌, length, take, drop, Option, Some, None, refl, ap, sym, ◌∙◌, subst, arith}
+use Rattle.std.proofs.Common.{◌≡◌, ◌<◌, ℕ, suc, ◌+◌, true, false, List, [], ◌∷◌, ◌++◌, length, take, drop, Option, Some, None, refl, ap, sym, ◌∙◌, subst, arith}
 use Rattle.std.specs.List.{slice_set}
-use Rattle.std.specs.Option.{option_map_or, is_some}
+use Rattle.std.specs.Option.{option_map_or}
 use Rattle.std.proofs.lemmas.Bool.{false≢true}
-use Rattle.std.proofs.lemmas.List.{take_all, drop_all, append-nil, length-set}
+use Rattle.std.proofs.lemmas.List.{length-set}
 use Rattle.asl_term.specs.declared.syntax.LiteralOf.{LiteralOf}
 use Rattle.asl_term.specs.declared.syntax.Term.{Term}
 use Rattle.asl_term.specs.declared.syntax.Trigger.{Trigger}
@@ -15,13 +15,6 @@ use Rattle.asl_index.specs.Hits.{left_slot, is_unseen_at}
 use Rattle.asl_index.proofs.Filing.{BeliefSlots, at_get}
 use Rattle.asl_index.proofs.Changes.{sound_left}
 use Rattle.asl_index.proofs.Steps.{staying, losing}
-
--- an unseen belief stands in its slot
-pub unseen_some : (percepts : List (LiteralOf Term)) (s : BeliefSlots) (k : ℕ) → is_unseen_at percepts s k ≡ true → is_some (at_slot s k) ≡ true
-unseen_some percepts s k e = go (at_slot s k) e where
-  go : (x : Option (LiteralOf Term)) → option_map_or (is_unseen percepts) x false ≡ true → is_some x ≡ true
-  go None w = absurd (false≢true w)
-  go (Some b) w = refl
 
 pub unseen_here : (percepts : List (LiteralOf Term)) (s : BeliefSlots) (k : ℕ) → is_unseen_at percepts s k ≡ true
     → (b : LiteralOf Term) × (at_slot s k ≡ Some b) × (is_unseen percepts b ≡ true)
@@ -73,17 +66,6 @@ module _ (percepts : List (LiteralOf Term)) (first slots : BeliefSlots) where
         beliefs = r.0 ∙ f.beliefs;
         told = ap (λ z. z ++ (unseen percepts (kept (drop (suc k) new))).events) said ∙ r.1 ∙ f.told;
       })
-
-  pub forgot_all : (k : ℕ) (events : List Trigger) → Forgot percepts first slots k events → length first ≤ k
-      → (kept slots ≡ (unseen percepts (kept first)).beliefs) × (events ≡ (unseen percepts (kept first)).events)
-  forgot_all k events f l =
-      let size = f.size in
-      let whole : take k slots ≡ slots = take_all k slots (omega (arith, l, size)) in
-      let none : drop k slots ≡ [] = drop_all k slots (omega (arith, l, size)) in (
-        sym (append-nil (kept slots)) ∙ ap (λ z. kept z ++ []) (sym whole)
-            ∙ ap (λ z. kept (take k slots) ++ (unseen percepts (kept z)).beliefs) (sym none) ∙ f.beliefs,
-        sym (append-nil events) ∙ ap (λ z. events ++ (unseen percepts (kept z)).events) (sym none) ∙ f.told,
-      )
 
 -- after a belief that is unseen lost annotations they are beliefs still
 pub lost_sound : (percepts : List (LiteralOf Term)) (s new : BeliefSlots) (k : ℕ) (marks : List Term) → AreBeliefs (kept s) → is_unseen_at percepts s k ≡ true

@@ -1,6 +1,6 @@
 -- Steps of loops over slots.
-use Rattle.std.proofs.Common.{◌≡◌, ◌≤◌, ◌<◌, ℕ, zero, suc, ◌+◌, ◌-◌, true, false, List, [], ◌∷◌, ◌++◌, map, length, take, drop, Option, Some, None, ap, sym, ◌∙◌, subst, append_assoc, arith}
-use Rattle.std.specs.Prelude.{option_to_list, not}
+use Rattle.std.proofs.Common.{◌≡◌, ◌≤◌, ◌<◌, ℕ, zero, suc, ◌+◌, ◌-◌, true, false, List, [], ◌∷◌, ◌++◌, map, length, take, Option, Some, None, ap, sym, ◌∙◌, subst, append_assoc, arith}
+use Rattle.std.specs.Prelude.{not}
 use Rattle.std.specs.List.{slice_get, slice_set, filter, AllByRecursion}
 use Rattle.std.proofs.lemmas.List.{take_all, append-nil}
 use Rattle.asl_term.specs.declared.syntax.LiteralOf.{LiteralOf}
@@ -152,12 +152,3 @@ module _ (p : LiteralOf Term) where
       let past = get_past xs k (nth_none (same_frame p) slots k e) in
       let none = all_apart p (kept slots) (subst (Apart p) (take_all k xs past) w.before) in
       (sym none.0 ∙ w.beliefs, sym (append-nil told) ∙ ap (λ z. told ++ map minus z) (sym none.1) ∙ w.told)
-
--- what stands from a slot on
-pub kept_from : (s : BeliefSlots) (k : ℕ) (x : Option (LiteralOf Term)) → slice_get s k ≡ Some x → kept (drop k s) ≡ option_to_list x ++ kept (drop (k + 1) s)
-kept_from s k x e = let next : suc k ≡ k + 1 = omega arith in go s k x e ∙ ap (λ m. option_to_list x ++ kept (drop m s)) next where
-  go : (s : BeliefSlots) (k : ℕ) (x : Option (LiteralOf Term)) → slice_get s k ≡ Some x → kept (drop k s) ≡ option_to_list x ++ kept (drop (suc k) s)
-  go [] k x e = cc
-  go (None ∷ s) zero x e = let is : None ≡ x = cc in ap (λ z. option_to_list z ++ kept s) is
-  go (Some b ∷ s) zero x e = let is : Some b ≡ x = cc in ap (λ z. option_to_list z ++ kept s) is
-  go (y ∷ s) (suc k) x e = go s k x e

@@ -1,18 +1,13 @@
 -- What stands among groups, and what is made of them.
-use Rattle.std.proofs.Common.{◌≡◌, ◌<◌, ℕ, zero, suc, ◌+◌, ◌&&◌, Bool, true, false, List, [], ◌∷◌, ◌++◌, remove, length, Option, Some, None, cond, refl, ap, sym, ◌∙◌, subst, arith, rules, tests}
+use Rattle.std.proofs.Common.{◌≡◌, ◌<◌, ℕ, zero, suc, ◌+◌, ◌&&◌, Bool, true, false, List, [], ◌∷◌, ◌++◌, remove, Option, Some, None, cond, refl, ap, sym, ◌∙◌, subst, arith, rules, tests}
 use Rattle.std.specs.Prelude.{◌==◌}
 use Rattle.std.specs.List.{slice_get, slice_set}
-use Rattle.std.specs.HashMap.{HashMap, get, Updates}
-use Rattle.std.specs.Option.{unwrap_or}
-use Rattle.std.specs.Str.{bytes_eq}
-use Rattle.std.proofs.lemmas.Bool.{false≢true, true≢false, eqb-true, eq-eqb}
-use Rattle.std.proofs.lemmas.Slice.Eq.{bytes_eq-Decides}
+use Rattle.std.specs.HashMap.{Updates}
+use Rattle.std.proofs.lemmas.Bool.{false≢true, true≢false, eqb-true}
 use Rattle.std.specs.Bool.{Decides}
-use Rattle.asl_term.specs.declared.syntax.LiteralOf.{LiteralOf}
-use Rattle.asl_term.specs.declared.syntax.Term.{Term}
 use Rattle.asl_index_tables.specs.declared.frames.Group.{Group}
 use Rattle.asl_unify.specs.Compare.{same_sign}
-use Rattle.asl_index_tables.specs.Frames.{has_frame, is_group, with_places, places_in, group_from, place_from, without, ArePut, AreTaken}
+use Rattle.asl_index_tables.specs.Frames.{is_group, with_places, places_in, group_from, place_from, without, ArePut, AreTaken}
 
 pub set_self : {A : Type 0} → (xs : List A) (k : ℕ) (x : A) → slice_get xs k ≡ Some x → slice_set xs k x ≡ xs
 set_self [] k x e = refl
@@ -184,46 +179,3 @@ place_none i place (x ∷ xs) e = go (place_none (suc i) place xs) (place == x) 
       → x ∷ xs ≡ cond r xs (x ∷ without place xs)
   go more true w = cc
   go more false w = ap (λ z. x ∷ z) (more w)
-
--- from the groups of one functor to all that is filed, for a change f of the places of one frame
-pub all_changed : {S : Type 0} (f : List ℕ → List ℕ) (l : LiteralOf Term) (old new : HashMap (List ℕ) (List Group) S) (gs hs : List Group)
-    → unwrap_or (get bytes_eq old l.functor) [] ≡ gs
-    → ((q : List ℕ) → get bytes_eq new q ≡ cond (bytes_eq l.functor q) (Some hs) (get bytes_eq old q))
-    → ((n : Bool) (c : ℕ) → places_in n c hs ≡ cond (test l.neg (length l.args) n c) (f (places_in n c gs)) (places_in n c gs))
-    → (neg : Bool) (functor : List ℕ) (count : ℕ) → places_in neg count (unwrap_or (get bytes_eq new functor) [])
-    ≡ cond (has_frame neg functor count l) (f (places_in neg count (unwrap_or (get bytes_eq old functor) [])))
-    (places_in neg count (unwrap_or (get bytes_eq old functor) []))
-all_changed f l old new gs hs was is made neg functor count = go (places_in neg count (unwrap_or (get bytes_eq old functor) [])) refl (bytes_eq l.functor functor) refl where
-  with_functor : (s b c : Bool) → b ≡ true → (s && b && c) ≡ (s && c)
-  with_functor true b c e = ap (λ z. z && c) e
-  with_functor false b c e = refl
-
-  without_functor : (s b c : Bool) → b ≡ false → (s && b && c) ≡ false
-  without_functor true b c e = ap (λ z. z && c) e
-  without_functor false b c e = refl
-
-  go : (before : List ℕ) → places_in neg count (unwrap_or (get bytes_eq old functor) []) ≡ before → (t : Bool) → bytes_eq l.functor functor ≡ t
-      → places_in neg count (unwrap_or (get bytes_eq new functor) []) ≡ cond (has_frame neg functor count l) (f before) before
-  go before held_as true e =
-      let name : l.functor ≡ functor = (bytes_eq-Decides l.functor functor).0 e in
-      let same : bytes_eq functor l.functor ≡ true = (bytes_eq-Decides functor l.functor).1 (sym name) in
-      let held : unwrap_or (get bytes_eq old functor) [] ≡ gs = ap (λ q. unwrap_or (get bytes_eq old q) []) (sym name) ∙ was in
-      ap (λ z. places_in neg count (unwrap_or z [])) (is functor ∙ ap (λ z. cond z (Some hs) (get bytes_eq old functor)) e)
-      ∙ made neg count
-      ∙ ap (λ z. cond (test l.neg (length l.args) neg count) (f z) z) (ap (places_in neg count) (sym held) ∙ held_as)
-      ∙ ap (λ z. cond z (f before) before) (sym (with_functor (same_sign neg l.neg) (bytes_eq functor l.functor) (count == length l.args) same))
-  go before held_as false e =
-      let other : bytes_eq functor l.functor ≡ false = apart in
-      ap (λ z. places_in neg count (unwrap_or z [])) (is functor ∙ ap (λ z. cond z (Some hs) (get bytes_eq old functor)) e)
-      ∙ held_as
-      ∙ ap (λ z. cond z (f before) before) (sym (without_functor (same_sign neg l.neg) (bytes_eq functor l.functor) (count == length l.args) other))
-    where
-      apart : bytes_eq functor l.functor ≡ false
-      apart = by (bytes_eq functor l.functor) refl where
-        by : (u : Bool) → bytes_eq functor l.functor ≡ u → u ≡ false
-        by true w = absurd (false≢true (sym e ∙ (bytes_eq-Decides l.functor functor).1 (sym ((bytes_eq-Decides functor l.functor).0 w))))
-        by false w = refl
-
-pub test_self : (neg : Bool) (count : ℕ) → test neg count neg count ≡ true
-test_self true count = eq-eqb count count refl
-test_self false count = eq-eqb count count refl

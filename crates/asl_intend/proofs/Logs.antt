@@ -3,7 +3,7 @@ use Rattle.std.proofs.Common.{◌≡◌, ◌≤◌, ◌<◌, ℕ, ◌+◌, ◌-�
 use Rattle.std.proofs.Common.{List, [], ◌∷◌, ◌++◌, map, drop, length, Option, Some, None, is_some, slice_get, refl, sym, ap, ◌∙◌, arith}
 use Rattle.std.proofs.Math.Seq.{drop-length}
 use Rattle.std.proofs.lemmas.Bool.{false≢true}
-use Rattle.std.proofs.lemmas.List.{append-nil, at_drop_more, length-map, drop-append-le, length-append, reverse-append}
+use Rattle.std.proofs.lemmas.List.{at_drop_more, length-map, drop-append-le, length-append, reverse-append}
 use Rattle.std.specs.List.{AllByRecursion}
 use Rattle.std.specs.Option.{option_map}
 use Rattle.std.proofs.lemmas.Option.{slice_get-map}
@@ -68,17 +68,6 @@ module _ (log : List (List Pair)) (s : List Pair) where
   all_bound [] a = refl
   all_bound (e ∷ es) a = λ i. seen_bound e a.0 i ∷ all_bound es a.1 i
 
-  longer : (n : ℕ) → n ≤ length log → n ≤ length more
-  longer n h = let e = length-append log (s ∷ []) in omega (arith, e, h)
-
-  first_since : (o : Option First) → FirstSince (length log) o → FirstSince (length more) o
-  first_since None h = h
-  first_since (Some f) h = longer f.since h
-
-  pub all_since : (es : List StackEntry) → AllByRecursion (Since (length log)) es → AllByRecursion (Since (length more)) es
-  all_since [] a = a
-  all_since (e ∷ es) a = ((longer e.since a.0.0, first_since e.first a.0.1), all_since es a.1)
-
 -- the last item of a list
 
 pub last_of : {A : Type 0} (x : A) (xs : List A) → (ys : List A) × (y : A) × (x ∷ xs ≡ ys ++ y ∷ [])
@@ -108,14 +97,6 @@ top_changed f (x ∷ xs) k d new h e g =
     let set : slice_set (x ∷ xs) k new ≡ r.0 ++ new ∷ [] = ap (λ j. slice_set (x ∷ xs) j new) e ∙ ap (λ l. slice_set l (length l - 1) new) r.2
     ∙ set_last r.0 r.1 new in
     ap reverse set ∙ reverse-append r.0 (new ∷ []) ∙ ap (λ z. z ∷ reverse r.0) new_is ∙ ap (entry.on_top f) (sym old)
-
-pub top_tested : (xs : List StackEntry) (k : ℕ) (d : StackEntry) → 0 < length xs → k ≡ length xs - 1 → entry.has_first (get_or xs k d) ≡ entry.top_has (reverse xs)
-top_tested [] k d h e = absurd (omega (arith, h))
-top_tested (x ∷ xs) k d h e =
-    let r = last_of x xs in
-    let old : reverse (x ∷ xs) ≡ r.1 ∷ reverse r.0 = ap reverse r.2 ∙ reverse-append r.0 (r.1 ∷ []) in
-    ap (λ j. entry.has_first (get_or (x ∷ xs) j d)) e ∙ ap (λ l. entry.has_first (get_or l (length l - 1) d)) r.2
-    ∙ ap entry.has_first (get_last r.0 r.1 d) ∙ ap entry.top_has (sym old)
 
 -- what a stack shows
 
@@ -218,17 +199,6 @@ pub since_without : (n : ℕ) (es : List StackEntry) → AllByRecursion (Since n
 since_without n [] a = a
 since_without n (e ∷ es) a = (since_in n e e.first a.0, a.1)
 
-with_in : (n : ℕ) (f : Formula) (e : StackEntry) (b : Bool) → Since n e → Since n (cond b (record (entry.without_first e) {
-  first = Some
-      (record { formula = f; since = n });
-}) e)
-with_in n f e false h = h
-with_in n f e true h = ((since_in n e e.first h).0, omega arith)
-
-pub since_with : (n : ℕ) (f : Formula) (es : List StackEntry) → AllByRecursion (Since n) es → AllByRecursion (Since n) (entry.on_top (entry.with_first f n) es)
-since_with n f [] a = a
-since_with n f (e ∷ es) a = (with_in n f e (entry.has_first e) a.0, a.1)
-
 pub pushed : (log : List (List Pair)) (xs ys : List StackEntry) (e : StackEntry) → ys ≡ xs ++ e ∷ [] → shown log (reverse ys) ≡ seen log e ∷ shown log (reverse xs)
 pushed log xs ys e h = ap (λ l. shown log (reverse l)) h ∙ ap (shown log) (reverse-append xs (e ∷ []))
 
@@ -293,38 +263,6 @@ match_missed g l h true kind.Test e = refl
 match_missed g l h true kind.Achieve e =
     ap (λ b. slice_get (cond b (on_unified (annots g.annots (map (put h) l.annots)) (unified [] (asks g.args (map (put h) l.args) []))) []) 0)
     (frame_put g l h ∙ e)
-
--- what may be named is named where the literals match
-pub named_by_match : (log : List (List Pair)) (e : StackEntry) (g : LiteralOf Term) → entry.can_name g e.trigger ≡ true
-    → stacks.matched_at g [] (Some (seen log e).trigger) ≡ stacks.names_goal g (seen log e).trigger
-named_by_match log e g h =
-    let l = put_literal (value_in e.own (drop e.since log)) e.trigger.lit in
-    ap (λ a. stacks.any_match (matches g (record l { annots = a }) [])) (append-nil l.annots) ∙ go e.trigger.add e.trigger.kind l h
-  where
-    go : (add : Bool) (k : Kind) (l : LiteralOf Term) → (add && entry.is_achieve k && same_frame g e.trigger.lit) ≡ true
-        → stacks.any_match (matches g l []) ≡ stacks.is_goal g add k l
-    go true kind.Achieve l h = refl
-    go true kind.Belief l h = cc
-    go true kind.Test l h = cc
-    go false k l h = cc
-
--- no match is found where there is none
-none_first : (ms : List (List Pair)) → stacks.any_match ms ≡ false → slice_get ms 0 ≡ None
-none_first [] e = refl
-none_first (m ∷ ms) e = cc
-
-pub none_matched : (log : List (List Pair)) (e : StackEntry) (g : LiteralOf Term) → stacks.matched_at g [] (Some (seen log e).trigger) ≡ false
-    → stacks.goal_match g (seen log e).trigger ≡ None
-none_matched log e g h = go (e.trigger.add && entry.is_achieve e.trigger.kind) where
-  l : LiteralOf Term
-  l = put_literal (value_in e.own (drop e.since log)) e.trigger.lit
-
-  none : stacks.any_match (matches g l []) ≡ false
-  none = ap (λ a. stacks.any_match (matches g (record l { annots = a }) [])) (sym (append-nil l.annots)) ∙ h
-
-  go : (b : Bool) → cond b (slice_get (matches g l []) 0) None ≡ None
-  go true = none_first (matches g l []) none
-  go false = refl
 
 -- and no match is found
 pub not_matched : (log : List (List Pair)) (e : StackEntry) (g : LiteralOf Term) → entry.can_name g e.trigger ≡ false

@@ -54,11 +54,6 @@ told_of m t u old new e p = subst (λ z. PushedBy m z old new) (sym e) p
 bare_trigger : (own : List Pair) (rest : List (List Pair)) (t : Trigger) → put_trigger (value_in own rest) t ≡ put_trigger (value_of []) (put_trigger (value_in own rest) t)
 bare_trigger own rest t = (λ i. put_trigger (λ y. sym (flat_in own rest y) i) t) ∙ trigger_twice (value_of []) (value_in own rest) t
 
--- an entry of a copy of a trigger
-pub bare_entry : (t : Trigger) (own : List Pair) (e entry : StackEntry) → entry ≡ record { trigger = t; own = own; since = e.since; first = None; body = [] }
-    → t ≡ e.trigger → own ≡ e.own → entry ≡ record { trigger = e.trigger; own = e.own; since = e.since; first = None; body = [] }
-bare_entry t own e entry is a b = is ∙ (λ i. record { trigger = a i; own = b i; since = e.since; first = None; body = [] })
-
 -- means without formulas, of a trigger that is kept
 pub bare_seen : (log : List (List Pair)) (e : StackEntry) (old new : List Means)
     → new ≡ seen log (record { trigger = e.trigger; own = e.own; since = e.since; first = None; body = [] }) ∷ old

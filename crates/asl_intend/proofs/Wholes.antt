@@ -1,5 +1,5 @@
 -- A literal matches another one with what is bound put into it just where the literals of the questions match.
-use Rattle.std.proofs.Common.{◌≡◌, ℕ, ◌+◌, Bool, true, false, ◌&&◌, cond, eqb, List, [], ◌∷◌, ◌++◌, map, length, Option, Some, None, IfSome, refl, sym, ap, subst, ◌∙◌, arith}
+use Rattle.std.proofs.Common.{◌≡◌, ℕ, ◌+◌, Bool, true, false, ◌&&◌, eqb, List, [], ◌∷◌, ◌++◌, map, length, Option, Some, None, IfSome, refl, sym, ap, subst, ◌∙◌, arith}
 use Rattle.std.proofs.lemmas.List.{append-nil, length-append, length-map, map-append}
 use Rattle.std.proofs.lemmas.Bool.{eq-eqb, eqb-true}
 use Rattle.std.specs.List.{AllByRecursion}
@@ -10,9 +10,8 @@ use Rattle.asl_term.specs.declared.syntax.Term.{Term}
 use Rattle.asl_unify.specs.declared.subst.Pair.{Pair}
 use Rattle.asl_unify.specs.Puts.{put, IsSubst}
 use Rattle.asl_unify.specs.Applied.{put_literal}
-use Rattle.asl_unify.specs.Compare.{same_sign, same_frame, asks}
-use Rattle.asl_unify.specs.Matches.{on_unified, annots, matches}
-use Rattle.asl_unify.specs.Unified.{unified}
+use Rattle.asl_unify.specs.Compare.{same_sign, same_frame}
+use Rattle.asl_unify.specs.Matches.{annots, matches}
 use Rattle.asl_unify.specs.Turns.{value_in}
 use Rattle.asl_unify.specs.Renamed.{with_vars}
 use Rattle.asl_unify.proofs.General.{and_true}
@@ -73,10 +72,6 @@ module _ (g l : LiteralOf Term) (s : List Pair) (rest : List (List Pair)) (more 
 
   whole_frame : same_frame g whole ≡ same_frame g l
   whole_frame = ap (λ n. same_sign g.neg l.neg && bytes_eq g.functor l.functor && eqb (length g.args) n) (length-map l.args (put under))
-
-  pub other_frame : same_frame g l ≡ false → any_match (matches g whole []) ≡ false
-  other_frame e =
-      ap (λ b. any_match (cond b (on_unified (annots g.annots whole.annots) (unified [] (asks g.args whole.args []))) [])) (whole_frame ∙ e)
 
   same_count : same_frame g l ≡ true → length g.args ≡ length l.args
   same_count e = eqb-true (length g.args) (length l.args) (and_true (same_sign g.neg l.neg && bytes_eq g.functor l.functor) _ e).1

@@ -133,9 +133,6 @@ closes_two : (a : ℕ) (bytes : List ℕ) → closes (a ∷ bytes) ≡ true → 
 closes_two a [] e = absurd cc
 closes_two a (b ∷ bytes) e = let h = both (a == 42) (b == 47) e in (bytes, λ i. eqb-true a 42 h.0 i ∷ (eqb-true b 47 h.1 i ∷ bytes))
 
-closes_here : (y : List ℕ) → closes (codes "*/" ++ y) ≡ true
-closes_here y = refl
-
 star_slash : {a : ℕ} (y : List ℕ) → a ∷ codes "*" ≡ codes "*/" ++ y → ⊥
 star_slash y e = cc
 

@@ -179,10 +179,6 @@ module _ (v : Var → Term) where
   op_becomes a left right (layer.Op b) ps e met = ops_become a b left right ps e met
   op_becomes a left right _ ps e met = cc
 
-  -- `needs` at a layer
-  at_layer : (x : Term-F (Term → Needs)) (h : Term) → needs h ≡ needs_step x → (y : Term-F Term) → needs h (made y) ≡ needs_step x (made y)
-  at_layer x h e y = ap (λ f. f (made y)) e
-
   one_need : (p : Need) (ps : List Need) → Some (p ∷ []) ≡ Some ps → ps ≡ p ∷ []
   one_need p ps e = cc
 

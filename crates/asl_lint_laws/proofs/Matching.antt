@@ -111,11 +111,6 @@ is_not : (b : Bool) → not b ≡ true → b ≡ false
 is_not true e = absurd (false≢true e)
 is_not false e = refl
 
-record OnlyVar (ts : List Term) : Type 0 where
-  var : Var
-  is : ts ≡ term.Var var ∷ []
-  found : only_var ts ≡ Some var
-
 var_layer : (y : Term-F Term) (x : Var) → var_in y ≡ Some x → made y ≡ term.Var x
 var_layer (layer.Var z) x e = let same : z ≡ x = cc in ap term.Var same
 var_layer (layer.Num n) x e = cc

@@ -19,7 +19,7 @@ use Rattle.asl_unify.specs.Settling.{Settled, and_then, each, if_any, operation,
 use Rattle.asl_unify.proofs.Views.{by_layers}
 use Rattle.asl_unify.proofs.Puts.{put-nil, put-list, put-merged, list_of-made}
 use Rattle.asl_unify.proofs.General.{and_true, put-lit}
-use Rattle.asl_unify.proofs.Laws.{put-var, flat-var, flat-put, FlatValues}
+use Rattle.asl_unify.proofs.Laws.{put-var}
 use Rattle.asl_parser_tree.specs.Plain.{plain_step, is_plain}
 
 -- ---- settled values
@@ -208,6 +208,3 @@ settled_by v x = put term.Var (or_self (settle (v x)) (v x))
 
 pub settled_values : (v : Var → Term) (x : Var) (u : Term) → settle (v x) ≡ Ok u → settled_by v x ≡ put term.Var u
 settled_values v x u e = ap (λ s. put term.Var (or_self s (v x))) e
-
-pub flat_settled : (v : Var → Term) → FlatValues (settled_by v)
-flat_settled v x = flat-put term.Var flat-var (or_self (settle (v x)) (v x))

@@ -72,10 +72,6 @@ module _ (names : List (List ℕ)) (texts : List AgentText) (k : Surroundings) (
 
 -- ---- matches
 
-IfBelow : ℕ → Option (List Pair) → Type 0
-IfBelow n None = Unit {0}
-IfBelow n (Some s) = SubstBelow n s
-
 abbrev pub RemovedBelow : ℕ → Option Removed → Type 0
 RemovedBelow n None = Unit {0}
 RemovedBelow n (Some r) = SubstBelow n r.subst

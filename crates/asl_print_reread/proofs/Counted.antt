@@ -29,9 +29,6 @@ use Rattle.asl_print_reread.proofs.NamesKept.{kept_literal}
 use Rattle.asl_print_reread.proofs.NamesSaid.{last, one_after, condition_named, head_named, label_named, trigger_named, context_named, body_named}
 use Rattle.asl_print_reread.proofs.Answered.{Counts}
 
-abbrev Lists : Type 0
-Lists = List (List ℕ)
-
 -- ---- beliefs, also as rules
 
 fact_within : (l : LiteralOf Term) → is_within (fact l) ≡ true → within_literal (kept_once l) ≡ true

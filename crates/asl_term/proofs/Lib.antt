@@ -2,7 +2,6 @@ pub mod Terms
 pub mod Exprs
 pub mod Same
 pub mod Grounds
-pub mod Commas
 pub mod Places
 pub mod Args
 pub mod Noted

@@ -1,5 +1,5 @@
 -- Where a name stands.
-use Rattle.std.proofs.Common.{◌≡◌, ℕ, ◌+◌, Bool, true, false, List, [], ◌∷◌, ◌++◌, position, Some, None, refl, sym, true≢false, arith}
+use Rattle.std.proofs.Common.{◌≡◌, ℕ, ◌+◌, true, false, List, [], ◌∷◌, ◌++◌, position, Some, None, refl, sym, true≢false, arith}
 use Rattle.std.proofs.lemmas.Grind.{common_steps}
 use Rattle.std.specs.Cmp.Lexicographic.{nat_list_eq_equiv}
 use Rattle.std.specs.List.{list_any, position_or_len}
@@ -8,9 +8,6 @@ use Rattle.std.specs.Str.{bytes_eq}
 use Rattle.asl_term.specs.Names.{place_of}
 
 module _ (name : List ℕ) where
-  abbrev p : List ℕ → Bool
-  p = bytes_eq name
-
   -- `place_of` is std's `position`, counted from 1
   pub place_at : (ns : List (List ℕ)) → place_of ns name ≡ option_map (λ k. k + 1) (position (bytes_eq name) ns)
   place_at [] = refl

@@ -353,9 +353,6 @@ start_after (r ∷ log) (suc k) s e =
     let d = ap (start (r ∷ log)) moved in
     omega (arith, a, b, c, d)
 
-start_all : (log : List (List Pair)) → start log (length log) ≡ length (all_pairs log)
-start_all log = ap (λ l. length (all_pairs l)) (take_all log)
-
 place_inside : (log : List (List Pair)) (k i : ℕ) (s : List Pair) → slice_get log k ≡ Some s → i < length s → start log k + i < length (all_pairs log)
 place_inside [] k i s e lt = absurd cc
 place_inside (r ∷ log) zero i s e lt =
@@ -398,12 +395,6 @@ pub put_whole : (log : List (List Pair)) (k i : ℕ) (s : List Pair) (t : Index)
 put_whole log k i s t is all h =
     let a = start_after log k s is in
     let same_place : start log k + i ≡ start log (k + 1) + 0 = omega (arith, a, all) in
-    subst (λ n. HasPairs log n t) same_place h
-
-pub put_every : (log : List (List Pair)) (t : Index) → HasFirst log (length log) 0 t → HasAll log t
-put_every log t h =
-    let a = start_all log in
-    let same_place : start log (length log) + 0 ≡ length (all_pairs log) = omega (arith, a) in
     subst (λ n. HasPairs log n t) same_place h
 
 -- one more substitution, none of whose pairs is in the index yet

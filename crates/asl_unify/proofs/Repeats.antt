@@ -1,7 +1,6 @@
 -- Comparisons that come again while no variable is bound.
 use Rattle.std.proofs.Common.{◌≡◌, ◌≤◌, ◌<◌, ℕ, ◌+◌, ◌-◌, min, Bool, true, false, List, [], ◌∷◌, ◌++◌, length, take, get_or, Option, Some, None, cond, refl, sym, ap, subst, ◌∙◌, append_assoc, arith}
 use Rattle.std.proofs.lemmas.List.{append-nil, take_more, take_all}
-use Rattle.std.specs.List.{slice_get}
 use Rattle.std.specs.List.{AllByRecursion}
 use Rattle.std.specs.Ordering.{int_eq}
 use Rattle.std.specs.Str.{bytes_eq}
@@ -24,9 +23,8 @@ use Rattle.asl_unify.specs.declared.rounds.Known.{Known}
 use Rattle.asl_unify.specs.Puts.{IsSubst, apply}
 use Rattle.asl_unify.specs.Compare.{Question, ask, Fault, Clash, Occurs, Move, Go, End, counted, look, var_of, same_head, bind, asks, item_asks, lists, plain, by_vars, with_right, with_left, step, Leads, goes}
 use Rattle.asl_unify.specs.Unified.{question_costs}
-use Rattle.asl_unify.specs.inner.Views.{seen, now_of, asked, before, Led, Stops, FailsFrom}
+use Rattle.asl_unify.specs.inner.Views.{now_of, asked, before, Led, Stops, FailsFrom}
 use Rattle.asl_unify.specs.inner.Repeats.{question, under, Passes, IsKnown, Came, AllCame, Kept}
-use Rattle.asl_unify.proofs.Cuts.{all_at}
 use Rattle.asl_unify.proofs.Loop.{led-step, led-fault, less-step}
 use Rattle.asl_unify.proofs.Measures.{cost_measure}
 
@@ -136,9 +134,6 @@ capped_more m n k d h = omega arith
 
 capped_rest : (m c n k d : ℕ) → c ≤ n → n ≡ min (c + d) m → n ≤ k → min k m ≡ k → min (k + (n - c)) m ≡ min (k + d) m
 capped_rest m c n k d f e h i = omega arith
-
-most : ℕ
-most = 18446744073709551615
 
 -- one way after another, and the same way with more behind it or from a higher count
 passes_then : (s : List Pair) (n m d e : ℕ) (u v x : List Question) → Passes s n u d v → m ≡ capped (n + d) → Passes s m v e x → Passes s n u (d + e) x
@@ -308,12 +303,6 @@ module _ (q : Question) (v : List Question) (s : List Pair) (n : ℕ) where
       → Kept s begun known (q ∷ v) n → Kept s begun known x m
   kept_step begun known x t m e d k = let g = went x t m e d k.fits in kept_on s begun known n m g.pairs (q ∷ v) x g.passes g.count k
 
--- a comparison that comes again
-pub recalled : (known : List Known) (i : ℕ) (k : Known) (q : Pairing) → slice_get known i ≡ Some k → seen k.question.left ≡ seen q.left → seen k.question.right ≡ seen q.right
-    → (s : List Pair) (n : ℕ) → AllByRecursion (IsKnown s n) known → Passes s n (question q ∷ []) k.pairs []
-recalled known i k q at l r s n a =
-    subst (λ z. Passes s n (z ∷ []) k.pairs []) (λ j. ask (l j) (r j)) (all_at (IsKnown s n) known i k a at)
-
 pub kept_recall : (s : List Pair) (begun : List LongRound) (known : List Known) (q : Question) (v : List Question) (n m d : ℕ) → Passes s n (q ∷ []) d [] → m ≡ capped (n + d)
     → Kept s begun known (q ∷ v) n → Kept s begun known v m
 kept_recall s begun known q v n m d p i k = kept_on s begun known n m d (q ∷ v) v (passes_over s n d (q ∷ []) [] v p) i k
@@ -347,13 +336,6 @@ kept_start s begun known v n b k f = record {
 
 -- The loop of a long round: it has come to w, before what was set aside, u. It takes a question q from w, of which m is left.
 module _ (w0 : List Question) (s0 : List Pair) (n0 : ℕ) (s : List Pair) (n : ℕ) (w u : List Question) (h : Led w0 s0 n0 (w ++ u) s n) where
-  -- w is used up: so is all, or what was set aside last is taken up
-  pub led_empty : (y : List Question) → w ≡ [] → u ≡ [] → y ≡ [] → Led w0 s0 n0 y s n
-  led_empty y e d f = subst (λ z. Led w0 s0 n0 z s n) (ap (λ z. z ++ u) e ∙ d ∙ sym f) h
-
-  pub led_finish : (y x : List Question) → w ≡ [] → y ++ x ≡ u → Led w0 s0 n0 (y ++ x) s n
-  led_finish y x e d = subst (λ z. Led w0 s0 n0 z s n) (ap (λ z. z ++ u) e ∙ sym d) h
-
   module _ (q : Question) (m : List Question) (is : w ≡ q ∷ m) where
     pub led_recall : (d k : ℕ) → Passes s n (q ∷ []) d [] → capped n ≡ n → k ≡ capped (n + d) → Led w0 s0 n0 (m ++ u) s k
     led_recall d k p f e =

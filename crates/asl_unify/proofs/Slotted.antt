@@ -118,13 +118,6 @@ get_end [] y k e = ap (λ i. get_or (y ∷ []) i 0) e
 get_end (x ∷ xs) y zero e = absurd (omega (arith, e))
 get_end (x ∷ xs) y (suc k) e = get_end xs y k (omega (arith, e))
 
-get_kept : (xs : List ℕ) (n k : ℕ) → k < n → get_or (take n xs) k 0 ≡ get_or xs k 0
-get_kept [] zero k lt = refl
-get_kept [] (suc n) k lt = refl
-get_kept (x ∷ xs) zero k lt = absurd (omega (arith, lt))
-get_kept (x ∷ xs) (suc n) zero lt = refl
-get_kept (x ∷ xs) (suc n) (suc k) lt = get_kept xs n k (omega (arith, lt))
-
 -- one of these is the other, or it is not
 same_pair : (s : List Pair) (k : ℕ) (p q : Pair) → slice_get s k ≡ Some p → slice_get s k ≡ Some q → p ≡ q
 same_pair s k p q e g = cc
@@ -166,30 +159,6 @@ module _ (f : Var → ℕ) (count : ℕ) (s : List Pair) (n : ℕ) (p : Pair) (i
         let pairs = a.pairs in
         let less : k < n = omega (arith, lt, other) in
         get_front before _ k (omega (arith, less, pairs)) ∙ a.links k q less at
-
-  -- one pair less
-  pub take_out : (last before : List ℕ) → AreIn f count s (n + 1) last before → AreIn f count s n (set last (f p.var) (get_or before n 0)) (take n before)
-  take_out last before a = record {
-    slots = set_length last (f p.var) (get_or before n 0) ∙ a.slots;
-    pairs = let e = a.pairs in grind (arith, common_steps, e);
-    tops = λ j lt. at_slot j lt (eqb (f p.var) j) refl;
-    links = λ k q lt at. get_kept before n k lt ∙ a.links k q (omega (arith, lt)) at;
-  } where
-    inside : f p.var < length last
-    inside = let e = a.slots in omega (arith, e, within)
-
-    at_slot : (j : ℕ) → j < count → (b : Bool) → eqb (f p.var) j ≡ b → get_or (set last (f p.var) (get_or before n 0)) j 0 ≡ top f j s n
-    at_slot j lt true e =
-        let same_slot : f p.var ≡ j = grind (arith, e) in
-        ap (λ i. get_or (set last (f p.var) (get_or before n 0)) i 0) (sym same_slot)
-        ∙ get_same last (f p.var) (get_or before n 0) inside
-        ∙ a.links n p (omega arith) is
-        ∙ ap (λ i. top f i s n) same_slot
-    at_slot j lt false e =
-        get_other last (f p.var) j (get_or before n 0) (eqb-false (f p.var) j e)
-        ∙ a.tops j lt
-        ∙ ap (top f j s) (add_one n)
-        ∙ top_miss f j s n p is e
 
 -- the pairs behind the first n count for nothing
 pub cut_off : (f : Var → ℕ) (count : ℕ) (s : List Pair) (n : ℕ) (last before : List ℕ) → AreIn f count s n last before → AreIn f count (take n s) n last before
@@ -293,9 +262,6 @@ linked_less s k next p last before a is lt got =
     let w = top_within (slot (length last)) (slot (length last) p.var) s k in
     omega (arith, e, w)
 
-pub sought_none : (f : Var → ℕ) (s : List Pair) (x : Var) (at : ℕ) → IsSought f s x at → at ≡ 0 → find s x ≡ None
-sought_none f s x at i e = i.value ∙ ap (λ m. find (take m s) x) e
-
 -- the same of the slots of a substitution
 moved : (s : List Pair) (n count : ℕ) (last before : List ℕ) → 0 < count → AreIn (slot count) count s n last before → AreSlots s n last before
 moved s n count last before some a =
@@ -315,18 +281,6 @@ put_slots s n place p last before more_last more_before is at within el eb a =
     moved s (n + 1) count more_last more_before a.0
     (subst (λ ys. AreIn (slot count) count s (n + 1) more_last ys) (sym eb)
     (subst (λ xs. AreIn (slot count) count s (n + 1) xs (before ++ get_or last place 0 ∷ [])) (sym el) c))
-
-pub take_slots : (s : List Pair) (n place : ℕ) (p : Pair) (last before less_last less_before : List ℕ) → slice_get s n ≡ Some p
-    → place ≡ slot (length last) p.var → place < length last → less_last ≡ set last place (get_or before n 0) → less_before ≡ take n before
-    → AreSlots s (n + 1) last before → AreSlots s n less_last less_before
-take_slots s n place p last before less_last less_before is at within el eb a =
-    let count = length last in
-    let inside : slot count p.var < count = subst (λ k. k < count) at within in
-    let b = take_out (slot count) count s n p is inside last before a.1 in
-    let c = subst (λ k. AreIn (slot count) count s n (set last k (get_or before n 0)) (take n before)) (sym at) b in
-    moved s n count less_last less_before a.0
-    (subst (λ ys. AreIn (slot count) count s n less_last ys) (sym eb)
-    (subst (λ xs. AreIn (slot count) count s n xs (take n before)) (sym el) c))
 
 take_past : (mark : ℕ) (s : List Pair) → take mark s ≡ take (min mark (length s)) s
 take_past zero s = let e : 0 ≡ min 0 (length s) = omega arith in ap (λ k. take k s) e

@@ -1,24 +1,21 @@
 -- Arguments that tell by themselves what a step of their comparison does.
-use Rattle.std.proofs.Common.{◌≡◌, ℕ, zero, suc, ℤ, Bool, true, List, [], ◌∷◌, ◌++◌, map, drop, Option, Some, None, cond, refl, sym, ap, subst, ◌∙◌, ◌≤◌, length, append_assoc, append-nil, arith}
+use Rattle.std.proofs.Common.{◌≡◌, ℕ, zero, suc, Bool, true, List, [], ◌∷◌, ◌++◌, map, drop, Option, Some, None, cond, refl, sym, ap, ◌∙◌, ◌≤◌, length, append_assoc, arith}
 use Rattle.std.specs.List.{slice_get}
 use Rattle.std.specs.Ordering.{int_eq}
 use Rattle.std.proofs.lemmas.Bool.{false≢true}
-use Rattle.std.proofs.lemmas.Bool.Decides.{Decides-int_eq}
 use Rattle.asl_term.specs.declared.syntax.Var.{Var}
 use Rattle.asl_term.specs.declared.syntax.Term.{Term}
 use Rattle.asl_term.specs.declared.syntax.Term.TheVariants as term
 use Rattle.asl_term.specs.declared.syntax.Term.TheOpen as layer
 use Rattle.asl_term.specs.declared.syntax.Term.TheViews.{out-Term}
-use Rattle.asl_term.specs.Trees.{is_ground, ground_step, with_terms_step}
-use Rattle.asl_term.proofs.Terms.{out_made, fold_num, fold_var}
+use Rattle.asl_term.specs.Trees.{is_ground, ground_step}
+use Rattle.asl_term.proofs.Terms.{out_made, fold_var}
 use Rattle.asl_unify.specs.declared.subst.Pair.{Pair}
-use Rattle.asl_unify.specs.Compare.{Question, Go, End, Occurs, Clash, Unified, ask, asks, counted, find, var_in, var_of, look, look_var, bind, compared, with_left, with_right, step}
+use Rattle.asl_unify.specs.Compare.{Question, Go, End, Occurs, Unified, ask, asks, counted, find, var_in, var_of, look, look_var, bind, compared, with_left, with_right, step}
 use Rattle.asl_unify.specs.Puts.{IsSubst}
-use Rattle.asl_unify.specs.Renamed.{numbered, renamed}
 use Rattle.asl_unify.specs.Unified.{unified}
-use Rattle.asl_unify.specs.inner.Views.{Led}
 use Rattle.asl_unify.proofs.General.{var_of-Some}
-use Rattle.asl_unify.proofs.Binds.{by-right, by-none}
+use Rattle.asl_unify.proofs.Binds.{by-right}
 use Rattle.asl_unify.proofs.Closed.{closed_free}
 use Rattle.asl_unify.proofs.Loop.{led-done, led-step, sound-step}
 use Rattle.asl_unify.proofs.Unified.{leads_unified}
@@ -33,9 +30,6 @@ ground_none a e = go (var_of a) refl where
 
 var_is : (x : Var) → var_of (term.Var x) ≡ Some x
 var_is x = ap var_in (out_made (layer.Var x))
-
-num_none : (m : ℤ) → var_of (term.Num m) ≡ None
-num_none m = ap var_in (out_made (layer.Num m))
 
 -- two terms that have no pair are compared
 free_step : (a b : Term) (w : List Question) (s : List Pair) (n : ℕ) → look s a ≡ None → look s b ≡ None → step (ask a b) w s n ≡ compared a b w s n
@@ -52,21 +46,6 @@ var_steps s old a x e f w n =
     ∙ ap (λ b. cond b (End Occurs) (Go w made (counted n))) (closed_free x t a e)
     ∙ ap (λ z. Go w z (counted n)) (append_assoc s old (record { var = x; term = a } ∷ []))
 
--- equal numbers bind nothing
-pub num_steps : (s old : List Pair) (m k : ℤ) → m ≡ k → StepsTo s (term.Num m) (term.Num k) old old
-num_steps s old m k e w n =
-    let t = s ++ old in
-    free_step (term.Num m) (term.Num k) w t n (ap (look_var t) (num_none m)) (ap (look_var t) (num_none k))
-    ∙ sym (by-none (term.Num m) (term.Num k) (layer.Num m) (layer.Num k) w t n (num_none m) (num_none k) (sym (out_made (layer.Num m))) (sym (out_made (layer.Num k))))
-    ∙ ap (λ b. cond b (Go w t (counted n)) (End (Clash n))) ((Decides-int_eq m k).1 e)
-
--- the second one renamed
-pub renamed_var : (number : ℕ) (x : Var) → renamed number (term.Var x) ≡ term.Var (numbered number x)
-renamed_var number x = fold_var Term (with_terms_step (λ v. term.Var (numbered number v))) x
-
-pub renamed_num : (number : ℕ) (k : ℤ) → renamed number (term.Num k) ≡ term.Num k
-renamed_num number k = fold_num Term (with_terms_step (λ v. term.Var (numbered number v))) k
-
 -- place by place
 
 drop_at : (xs : List Term) (i : ℕ) (x : Term) → slice_get xs i ≡ Some x → drop i xs ≡ x ∷ drop (suc i) xs
@@ -77,13 +56,6 @@ drop_at (a ∷ xs) (suc i) x e = drop_at xs i x e
 asks_none : (ys : List Term) → asks [] ys [] ≡ []
 asks_none [] = refl
 asks_none (y ∷ ys) = refl
-
-pub reached_start : (s : List Pair) (xs ys : List Term) → IsSubst s → Reached s xs ys 0 []
-reached_start s xs ys i = record {
-  count = 0;
-  led = subst (λ z. Led (asks xs ys []) s 0 (asks xs ys []) z 0) (sym (append-nil s)) (λ o l. l);
-  sound = subst IsSubst (sym (append-nil s)) i;
-}
 
 pub reached_next : (s : List Pair) (xs ys : List Term) (i : ℕ) (x y : Term) (old new : List Pair) → Reached s xs ys i old
     → slice_get xs i ≡ Some x → slice_get ys i ≡ Some y → StepsTo s x y old new → Reached s xs ys (suc i) new

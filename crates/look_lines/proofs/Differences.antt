@@ -11,9 +11,6 @@ use Rattle.look_lines.specs.Differences.IsPart.{nothing, kept, past}
 same_by : (l line : List ℕ) → bytes_eq l line ≡ true → l ≡ line
 same_by l line e = (bytes_eq-Decides l line).0 e
 
-self_same : (l : List ℕ) → bytes_eq l l ≡ true
-self_same l = (bytes_eq-Decides l l).1 refl
-
 true_not_false : {b : Bool} → b ≡ true → b ≡ false → ⊥
 true_not_false e f = cc
 

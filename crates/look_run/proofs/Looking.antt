@@ -15,9 +15,6 @@ use Rattle.look_run.specs.Views.{asked, view}
 none_some : {A : Type 0} {x : A} → None ≡ Some x → ⊥
 none_some e = cc
 
-some_same : {A : Type 0} {x y : A} → Some x ≡ Some y → x ≡ y
-some_same e = cc
-
 module _ {V : Type 0} (k : Kind V) (version : ℕ) (o : Options) (bytes names front rest : List ℕ) (n : printed bytes ≡ names) (parts_are : names ≡ front ++ rest) where
   in_parts : (p : Platform V) → run k p (printed bytes) ≡ and_run (λ q. run k q rest) (run k p front)
   in_parts p = ap (run k p) (n ∙ parts_are) ∙ run-append k p front rest

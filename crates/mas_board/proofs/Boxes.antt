@@ -132,10 +132,6 @@ module _ (boxes self : List Box) (is : boxes ≡ self) (a : ℕ) (agent : IsAgen
   pub oldest : IsPost boxes → IfSome (slice_get old.list 0) (IsTo a)
   oldest p = first_of_all (IsTo a) old.list (were p)
 
--- empty boxes
-pub empty_are : (boxes : List Box) → AreEmpty boxes → IsPost boxes
-empty_are boxes e = record { addressed = λ k. subst (For (k + 1)) (sym (e k)) tt }
-
 pub empty_push : (boxes : List Box) (b : Box) → AreEmpty boxes → b.list ≡ [] → AreEmpty (boxes ++ b ∷ [])
 empty_push [] b e h zero = h
 empty_push [] b e h (suc k) = refl

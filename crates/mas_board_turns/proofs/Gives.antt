@@ -1,17 +1,17 @@
 -- The board is given back.
-use Rattle.std.proofs.Common.{◌≡◌, ◌≢◌, ℕ, ◌+◌, ◌≤◌, true, false, true≢false, Option, Some, None, List, [], ◌∷◌, ◌++◌, length, sym, refl, ap, ◌∙◌, subst, inr, length-append, append_assoc, arith}
+use Rattle.std.proofs.Common.{◌≡◌, ◌≢◌, ℕ, ◌+◌, ◌≤◌, true, true≢false, Option, Some, None, List, [], ◌∷◌, ◌++◌, length, sym, refl, ap, ◌∙◌, subst, inr, length-append, append_assoc, arith}
 use Rattle.crossbeam_queue.specs.Fifo.{Pushes}
 use Rattle.mas_board_lists.specs.Lists.{StartsWith, Each, total, times}
 use Rattle.mas_board_lists.proofs.Sums.{total_set, at_total, two_total, all_set, each_append, each_map}
 use Rattle.mas_board_lists.proofs.Times.{times_self, times_other, times_append, once_le}
 use Rattle.mas_board_lists.proofs.Starts.{starts_refl, starts_more}
-use Rattle.mas_board.specs.Boards.{State, Noted}
+use Rattle.mas_board.specs.Boards.{State}
 use Rattle.mas_board_turns.specs.declared.turn.Turn.{Turn}
 use Rattle.mas_board_turns.specs.Turns.{Entry, entry, Makes, names}
 use Rattle.mas_board_turns.proofs.Logs.{plays_snoc, names_snoc, of_snoc, of_other}
 use Rattle.mas_board_turns.specs.declared.view.SideView.{SideView}
 use Rattle.mas_board_turns.specs.Views.{Turns, Opening, numbers, noted}
-use Rattle.mas_board_turns.specs.Steps.{of_first, Sits, gave, took}
+use Rattle.mas_board_turns.specs.Steps.{of_first, Sits, gave}
 use Rattle.mas_board_turns.specs.Rule.{Showing, Knows, Fits, hand, order, Lies, Holds, MayGive}
 use Rattle.mas_board_turns.proofs.Views.{has, numbers_noted, in_one, playing}
 
@@ -149,16 +149,3 @@ pub gives_seat : {X : Type 0} {r : Showing X} {a b : ℕ} {u v : SideView} {x y 
     Pushes (Holds r) n p v x (λ w. w ≡ gave made v (r.board x))
 gives_seat {X} {r} {a} {b} {u} {v} {x} {y} made n p s c e d m =
     gives r n p v x a (of_first v.turns) made s.started s.held s.turns (subst (λ (t : ℕ × SideView × X). MayGive r made t.0 t.1 t.2) (λ i. (sym c i, sym e i, sym d i)) m)
-
-pub gave_same : {u v w : SideView} {x y : Noted} (made : Option Turn) → v ≡ u → x ≡ y → w ≡ gave made v x → w ≡ gave made u y
-gave_same {u} {v} {w} {x} {y} made e d h = h ∙ (λ i. gave made (e i) (d i))
-
-sits_noted : (a : ℕ) (made : Option Turn) (ts : List Turn) (es : Turns) → es ≡ (a, ts) ∷ [] → noted made es ≡ (a, of_first (noted made es)) ∷ []
-sits_noted a None ts es e = e ∙ ap (λ (l : List Turn). (a, l) ∷ []) (sym (ap of_first e))
-sits_noted a (Some t) ts es e = ap (noted (Some t)) e ∙ ap (λ (l : List Turn). (a, l) ∷ []) (sym (ap of_first (ap (noted (Some t)) e)))
-
-pub sits_took : {a : ℕ} {v w : SideView} (x : Noted) → Sits a false v → w ≡ took v x → Sits a true w
-sits_took {a} {v} {w} x s e = subst (Sits a true) (sym e) record { started = s.started; held = refl; turns = s.turns }
-
-pub sits_gave : {a : ℕ} {v w : SideView} (made : Option Turn) (x : Noted) → Sits a true v → w ≡ gave made v x → Sits a false w
-sits_gave {a} {v} {w} made x s e = subst (Sits a false) (sym e) record { started = s.started; held = refl; turns = sits_noted a made (of_first v.turns) v.turns s.turns }

@@ -16,7 +16,7 @@ use Rattle.mas_explore.specs.declared.listing.Listing.{Listing}
 use Rattle.mas_explore.specs.Searches.{IsOutcomeAt, IsReached, AreReached, begun, AllSearched, HasSearched}
 use Rattle.mas_explore.specs.Listings.{IsShown, AreShown, AreDistinct, IsListed, IsWhole, HasMissed, extent_of, Reaches, OutcomeListed, OutcomeMissed, HasListed, HasListedTo, HasListedEach, IsOneMissed, AreAllListed, HasListedAll}
 use Rattle.mas_explore.proofs.Members.{item_at, member_left, member_last, member_split}
-use Rattle.mas_explore.proofs.Times.{listed_by, unlisted_by, none_twice, one_more_once}
+use Rattle.mas_explore.proofs.Times.{listed_by, unlisted_by, one_more_once}
 
 pub if_some : {X : Type 0} (P : X → Type 0) (o : Option X) (x : X) → o ≡ Some x → IfSome o P → P x
 if_some {X} P o x e h = let Q = λ (y : Option X). IfSome y P in subst Q e h
@@ -31,9 +31,6 @@ module _ {V : Type 0} (k : Kind V) (v : View) (s : Start V) (met : List (Free V)
     distinct = λ d. d;
     here = λ t f e. (let P = λ (x : List ℕ). IsListed list x in subst P (o f e) l);
   }
-
-  pub not_listed : HasListed k v s met state list list false
-  not_listed = record { stay = λ e m. m; sound = sound; distinct = λ d. d; here = λ t. cc }
 
   shown-by : (e x : Shown) → IsShown k v s x → IsMember e list ⊎ (x ≡ e) → IsShown k v s e
   shown-by e x h (inl m) = sound e m
@@ -52,13 +49,6 @@ module _ {V : Type 0} (k : Kind V) (v : View) (s : Start V) (met : List (Free V)
       subst P (sym w) here
 
 -- ---- all of them
-
-pub listed_none : {V : Type 0} (k : Kind V) (v : View) (s : Start V) (met : List (Free V)) (states : List ℕ) → HasListedTo k v s met states 0 [] true
-listed_none k v s met states = record {
-  sound = λ e m. absurd (none-some e m.at);
-  distinct = none_twice;
-  each = λ t i state l. absurd (omega arith);
-}
 
 -- what is listed stays so
 still-listed : (old new : List Shown) (text : List ℕ) → ((e : Shown) → IsMember e old → IsMember e new) → IsListed old text → IsListed new text

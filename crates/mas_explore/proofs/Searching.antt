@@ -1,21 +1,16 @@
 -- What is known while states are followed.
-use Rattle.std.proofs.Common.{ℕ, ◌≡◌, ◌≢◌, ◌+◌, ◌<◌, ◌≤◌, ◌⊎◌, inl, inr, arith, Bool, true, false, nat_eq, nat_le, ◌||◌, if◌then◌else◌, ◌-◌, List, [], ◌∷◌, length, slice_get, Option, None, Some, refl, ap, sym, ◌∙◌, subst}
+use Rattle.std.proofs.Common.{ℕ, ◌≡◌, ◌≢◌, ◌+◌, ◌<◌, ◌≤◌, ◌⊎◌, inl, inr, arith, Bool, true, false, nat_eq, nat_le, ◌||◌, List, [], ◌∷◌, length, slice_get, Option, None, Some, refl, ap, sym, ◌∙◌, subst}
 use Rattle.std.proofs.lemmas.Grind.{common_steps}
 use Rattle.std.proofs.lemmas.Bool.{eqb-true, eqb-false}
 use Rattle.std.proofs.lemmas.Option.{same_Some, none-some, slice_get_within}
 use Rattle.mas_mind.specs.Minds.{Kind, IsAgent}
-use Rattle.mas_core.specs.Platform.{is_agent}
-use Rattle.mas_free.specs.Free.{Free, move, move_in, AtRest}
+use Rattle.mas_free.specs.Free.{Free, move, AtRest}
 use Rattle.mas_free.specs.declared.view.View.{View}
 use Rattle.mas_free.specs.Covers.{IsMember, HasLike}
-use Rattle.mas_free.proofs.Ends.{is_agent_of}
-use Rattle.mas_explore.specs.Searches.{AreSized, AreReached, Keeps, LeadsInto, HasFollowed, HasFollowedTo, HasFollowedAll, noted, HasSearchedTo, AllSearched, HasSearched}
+use Rattle.mas_explore.specs.Searches.{AreReached, Keeps, LeadsInto, HasFollowed, HasFollowedTo, HasFollowedAll, noted, HasSearchedTo, AllSearched, HasSearched}
 use Rattle.mas_explore.proofs.Members.{member_left, member_last, member_split, item_at}
 
 -- ---- states keep their numbers
-
-keeps-same : {V : Type 0} (met : List (Free V)) → Keeps met met
-keeps-same met = record { longer = omega arith; stay = λ state f e. e }
 
 keeps-then : {V : Type 0} (old mid new : List (Free V)) → Keeps old mid → Keeps mid new → Keeps old new
 keeps-then old mid new h j =
@@ -46,23 +41,6 @@ not-at-rest k v met (Some f) e l = none-some f (sym e)
 no-move : {V : Type 0} (k : Kind V) (v : View) (met : List (Free V)) (o : Option (Free V)) → LeadsInto k v met o false → o ≡ None
 no-move k v met None l = refl
 no-move k v met (Some f) l = absurd l
-
--- where no agent has a move nobody has one
-all-rest : {V : Type 0} (k : Kind V) (f : Free V) → ((a : ℕ) → IsAgent (length f.stages) a → move k f a ≡ None) → AtRest k f
-all-rest {V} k f h a = by (is_agent (length f.stages) a) refl
-  where
-    by : (b : Bool) → is_agent (length f.stages) a ≡ b → move k f a ≡ None
-    by true e = h a (is_agent_of (length f.stages) a e)
-    by false e = ap (λ (b : Bool). if b then move_in k f a (slice_get f.stages (a - 1)) else None) e
-
-pub followed_none : {V : Type 0} (k : Kind V) (v : View) (met : List (Free V)) (state : ℕ) → HasFollowedTo k v met met state 0 false
-followed_none k v met state = record {
-  keeps = keeps-same met;
-  reached = λ first h. h;
-  leads = λ f h a e i m. (let l = i.from_one in let u = i.named in absurd (omega arith));
-  moves = λ e. cc;
-  stays = λ e f a q i. (let l = i.from_one in let u = i.named in absurd (omega arith));
-}
 
 lead-by : {V : Type 0} (k : Kind V) (v : View) (old mid new : List (Free V)) (state n a : ℕ) (moved made b : Bool) (f h : Free V) → HasFollowedTo k v old mid state n moved → HasFollowed k v mid new state (n + 1) made →
     slice_get old state ≡ Some f → IsAgent (n + 1) a → move k f a ≡ Some h → nat_eq a (n + 1) ≡ b → HasLike k v h new
@@ -106,36 +84,7 @@ followed_on k v old mid new state n moved made after to one w = record {
   stays = λ e f a g i. stays-by k v old mid new state n moved made to one (sym w ∙ e) f a (nat_eq a (n + 1)) g i refl;
 }
 
-pub followed_all : {V : Type 0} (k : Kind V) (v : View) (old new : List (Free V)) (state n agents : ℕ) (moved : Bool) → HasFollowedTo k v old new state n moved → AreSized agents old → agents ≤ n →
-    HasFollowedAll k v old new state moved
-followed_all {V} k v old new state n agents moved to sized l = record {
-  keeps = to.keeps;
-  reached = to.reached;
-  leads = λ f h a e i m.
-      (let s : length f.stages ≡ agents = sized state f e in
-      let x = i.from_one in
-      let y = i.named in
-      to.leads f h a e (record { from_one = x; named = omega arith }) m);
-  moves = to.moves;
-  stays = λ t f e. all-rest k f
-      (λ a i.
-      (let s : length f.stages ≡ agents = sized state f e in
-      let x = i.from_one in
-      let y = i.named in
-      to.stays t f a e (record { from_one = x; named = omega arith })));
-}
-
 -- ---- all states
-
-pub searched_none : {V : Type 0} (k : Kind V) (v : View) (met : List (Free V)) → HasSearchedTo k v met met [] 0
-searched_none k v met = record {
-  keeps = keeps-same met;
-  reached = λ first h. h;
-  leads = λ state f h a l. absurd (omega arith);
-  rests_are = λ state f l. absurd (omega arith);
-  within = λ state m. absurd (none-some state m.at);
-  rest = λ state f m. absurd (none-some state m.at);
-}
 
 rests-on : (rests : List ℕ) (n state : ℕ) (moved : Bool) → IsMember state rests → IsMember state (noted rests n moved)
 rests-on rests n state true m = m

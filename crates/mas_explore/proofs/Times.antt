@@ -71,9 +71,6 @@ none-times : (list : List Shown) (text : List ℕ) → list_any (has text) list 
 none-times [] text n = refl
 none-times (x ∷ xs) text n = none-cons x xs text (has text x) refl n (λ r. none-times xs text r)
 
-pub none_twice : AreDistinct []
-none_twice text = omega arith
-
 pub one_more_once : (list : List Shown) (x : Shown) (text : List ℕ) → x.text ≡ text → list_any (λ e. bytes_eq e.text text) list ≡ false → AreDistinct list →
     AreDistinct (list ++ x ∷ [])
 one_more_once list x text e none d other = by (has other x) refl

@@ -1,6 +1,6 @@
 -- Minds that stand for others, as more of them are met.
-use Rattle.std.proofs.Common.{ℕ, ◌≡◌, ◌+◌, ◌<◌, ◌≤◌, ◌⊎◌, inl, inr, arith, true, List, [], length, slice_get, Some, refl, sym, ◌∙◌, ap, subst}
-use Rattle.std.proofs.lemmas.Option.{none-some, same_Some, slice_get_within}
+use Rattle.std.proofs.Common.{ℕ, ◌≡◌, ◌+◌, ◌<◌, ◌≤◌, ◌⊎◌, inl, inr, arith, true, List, length, slice_get, Some, refl, sym, ◌∙◌, ap, subst}
+use Rattle.std.proofs.lemmas.Option.{same_Some, slice_get_within}
 use Rattle.mas_mind.specs.Minds.{Kind}
 use Rattle.mas_free.specs.declared.view.View.{View}
 use Rattle.mas_free.specs.Lines.{are_lines, viewed}
@@ -58,24 +58,10 @@ module _ {V : Type 0} (k : Kind V) (first : List V) where
     settled = λ c r q. stands_on s t c r g (h.settled c r q);
   }
 
-  pub met_none : (t : Minds) (l : Likes V) → l.met ≡ [] → l.settled ≡ record { keys = []; values = [] } → AreMet k first t l
-  met_none t l e f = record {
-    met = λ place x q. (let P = λ (xs : List (MetMind V)). slice_get xs place ≡ Some x in absurd (none-some x (subst P e q)));
-    settled = λ c r q. (let P = λ (a : Answers Liking Settled). Recalls a c r in absurd (none-some c (subst P f q).key_at));
-  }
-
   pub made_within : (t : Minds) (n most : ℕ) → Fits k first t → HasMade k first t n most → n < length first + length t.links
   made_within t n most f h = (let l = slice_get_within (minds_in k first t) n h.mind h.at in let q = number_of k first t f in omega arith)
 
   -- ---- a mind that stands for one
-
-  pub stands_met : (t : Minds) (l : Likes V) (c : Liking) (r : Settled) (m : V) → AreMet k first t l → slice_get (minds_in k first t) c.mind ≡ Some m →
-      IsMetLike k c.view l.met m r → StandsFor k first t c r
-  stands_met t l c r m h at x =
-      let y = h.met x.place x.one x.at in
-      let A = λ (n : ℕ). slice_get (minds_in k first t) n ≡ Some x.one.mind in
-      let B = λ (n : ℕ). k.made x.one.mind ≤ n in
-      record { mind = m; at = at; other = x.one.mind; other_at = subst A (sym x.number) y.at; made = subst B (sym x.most) y.made; alike = x.alike }
 
   pub stands_self : (t : Minds) (c : Liking) (most : ℕ) → HasMade k first t c.mind most → StandsFor k first t c (record { mind = c.mind; most = most })
   stands_self t c most h = record { mind = h.mind; at = h.at; other = h.mind; other_at = h.at; made = h.made; alike = same_self k c.view h.mind }

@@ -34,9 +34,6 @@ fits_none k first t e f = record {
 pub stay_same : {X : Type 0} (xs : List X) → Stay xs xs
 stay_same xs i x e = e
 
-pub stay_then : {X : Type 0} (xs ys zs : List X) → Stay xs ys → Stay ys zs → Stay xs zs
-stay_then xs ys zs h j i x e = j i x (h i x e)
-
 pub grows_same : {V : Type 0} (k : Kind V) (first : List V) (t : Minds) → Grows k first t t
 grows_same k first t = record { sights = λ i x e. e; boxes = λ i x e. e; thoughts = λ i x e. e; minds = λ i x e. e }
 
@@ -256,9 +253,6 @@ module _ {V : Type 0} (k : Kind V) (first : List V) where
 
   pub stands_first : (s : Minds) (n root : ℕ) (places : List ℕ) (m : V) → LeadsBack (length first) s.links n places root → slice_get first root ≡ Some m → StandsAt s n places m
   stands_first s n root places m l e = record { number = root; leads = l; at = values_stay (heard k s.sights s.boxes) first s.links root m e }
-
-  pub stands_last : (s : Minds) (n : ℕ) (m : V) → StandsAt s n [] m → slice_get (minds_in k first s) n ≡ Some m
-  stands_last s n m w = (let P = λ (x : ℕ). slice_get (minds_in k first s) x ≡ Some m in subst P (sym w.leads) w.at)
 
 -- ---- what comes of a cycle
 

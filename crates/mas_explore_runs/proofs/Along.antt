@@ -38,9 +38,6 @@ module _ {V : Type 0} (k : Kind V) (v : View) (s : Start V) (p : Plan) where
     text_is = e;
   }
 
-  pub not_limits : (AreLimits (length s.names) p.cycles p.lead → ⊥) → HasNoRun k v s p
-  not_limits h text r = h r.limits
-
   pub not_uncut : (board : Noted) (minds : List V) → RanAlong k start p.schedule board minds → uncut board.state.seats ≡ false → HasNoRun k v s p
   not_uncut board minds r u text h =
       let same = some_same (sym h.runs.ran ∙ r.ran) in

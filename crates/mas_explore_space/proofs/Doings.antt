@@ -28,7 +28,7 @@ use Rattle.mas_explore_space.specs.declared.row.Stance.{Stance}
 use Rattle.mas_explore_space.specs.declared.row.Stance.TheVariants as stance
 use Rattle.mas_explore_space.specs.Held.{minds_of, worlds_of, IsActed, Fits, Grows, HasGrown}
 use Rattle.mas_explore_space.specs.Rows.{IsBusy, RowHolds, Stands, HasMoved, IsMover, IsWith, ActsTo, acted_row, acted_free, HasPut, HasPutOne, HasDone, HasAction, MayDo, MayAct, HasOuts, HasBox, with_seat}
-use Rattle.mas_explore_space.proofs.Helds.{grown_same, grown_then}
+use Rattle.mas_explore_space.proofs.Helds.{grown_then}
 use Rattle.mas_explore_space.proofs.Puts.{item_at}
 use Rattle.mas_explore_space.proofs.Rows.{row_on}
 use Rattle.mas_explore_space.proofs.Carries.{put_holds, busy_with, carry_moves, act_holds}
@@ -42,9 +42,6 @@ module _ {V : Type 0} (k : Kind V) (s : Start V) where
 
   pub may_tell : (h now : Held) (c : Acting) (mind : ℕ) (action : LiteralOf Term) (feedback : Feedback) → MayDo k s h c mind action → Grows k s h now → MayFollow k s.minds now.minds mind (Told feedback)
   may_tell h now c mind action feedback m g = record { before = m.teller; at = g.minds.minds mind m.teller m.mind_at; may = m.awaits }
-
-  pub done_none : (h : Held) (world a mind : ℕ) → Fits k s h → HasDone k s h h world a mind None world mind
-  done_none h world a mind fits = record { grown = grown_same k s h fits; acts = (refl, refl) }
 
   pub done_some : (h now later : Held) (c : Acting) (mind mind' : ℕ) (action : LiteralOf Term) (r : Acted) → MayDo k s h c mind action → HasGrown k s h now → IsActed s now c r → HasGrown k s now later →
       HasLinked k s.minds now.minds later.minds mind (Told r.feedback) mind' → HasDone k s h later c.world c.agent mind (Some action) r.world mind'

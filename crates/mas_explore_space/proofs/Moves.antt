@@ -49,9 +49,6 @@ module _ {V : Type 0} (k : Kind V) (s : Start V) (h : Held) (most : ℕ) (row : 
   abbrev pub here : SeatHolds k s h most f (a - 1) seat
   here = x.each (a - 1) seat e
 
-  pub place-is : a - 1 + 1 ≡ a
-  place-is = (let l = i.from_one in omega arith)
-
   pub in-seats : a - 1 < length row.seats
   in-seats = slice_get_within row.seats (a - 1) seat e
 

@@ -1,6 +1,6 @@
 -- The opening, and what is told of all states.
 use Rattle.std.proofs.Common.{ℕ, zero, suc, ◌≡◌, ◌+◌, ◌-◌, ◌<◌, ◌≤◌, ◌⊎◌, inl, inr, arith, false, All, List, [], ◌∷◌, ◌++◌, length, map, replicate, slice_get, Option, None, Some, refl, ap, sym, ◌∙◌, subst}
-use Rattle.std.proofs.lemmas.List.{length-replicate, length-append, length-map}
+use Rattle.std.proofs.lemmas.List.{length-replicate, length-append}
 use Rattle.std.proofs.lemmas.Option.{same_Some, none-some, slice_get_within}
 use Rattle.mas_mind.specs.declared.mind.Message.{Message}
 use Rattle.mas_mind.specs.Minds.{Kind, IsAgent, IsFor}
@@ -135,25 +135,6 @@ sized {V} k s h rows space state f e =
     ap (λ (g : Free V). length g.stages) (sym x.is) ∙ y.stages ∙ y.number
 
 -- ---- what a step and an outcome ask for
-
-module _ {V : Type 0} (k : Kind V) (s : Start V) (h : Held) (rows : List Row) (state : ℕ) (l : state < length (met_of k s h rows)) where
-  pub row_there : state < length rows
-  row_there = (let n = length-map rows (free_of k s h) in omega arith)
-
-  pub space_there : (0 < length rows → IsSpace k s h rows) → IsSpace k s h rows
-  space_there space = (let m = row_there in space (omega arith))
-
-  pub row_is : (row : Row) × (slice_get rows state ≡ Some row)
-  row_is = item_at rows state row_there
-
-  pub stands_there : (row : Row) → (0 < length rows → IsSpace k s h rows) → slice_get rows state ≡ Some row → Stands k s h state row
-  stands_there row space e = (space_there space).each state row e
-
-pub count_is : {V : Type 0} (k : Kind V) (s : Start V) (h : Held) (rows : List Row) → length rows ≡ length (met_of k s h rows)
-count_is k s h rows = sym (length-map rows (free_of k s h))
-
-pub no_rows : {V : Type 0} (k : Kind V) (s : Start V) (h : Held) (rows : List Row) → rows ≡ [] → 0 < length rows → IsSpace k s h rows
-no_rows k s h rows e l = (let n : length rows ≡ 0 = ap length e in absurd (omega arith))
 
 pub outcome_at : {V : Type 0} (k : Kind V) (v : View) (s : Start V) (h : Held) (rows : List Row) (state : ℕ) (row : Row) (text : List ℕ) → slice_get rows state ≡ Some row →
     text ≡ outcome k v (free.at_end (free_of k s h row)) → IsOutcomeAt k v (met_of k s h rows) state text

@@ -9,7 +9,7 @@ use Rattle.mas_free.specs.Covers.{Start}
 use Rattle.mas_explore_space.specs.declared.held.Held.{Held}
 use Rattle.mas_explore_space.specs.declared.row.Row.{Row}
 use Rattle.mas_explore_space.specs.Held.{Fits, HasGrown}
-use Rattle.mas_explore_space.specs.Rows.{RowHolds, Stands, HasPut, HasPutOne}
+use Rattle.mas_explore_space.specs.Rows.{RowHolds, Stands, HasPutOne}
 use Rattle.mas_explore_space.proofs.Helds.{grown_same, grown_then}
 
 reverse-twice : {X : Type 0} (xs : List X) → reverse (reverse xs) ≡ xs
@@ -70,12 +70,3 @@ module _ {V : Type 0} (k : Kind V) (s : Start V) where
               posted_are = ap (posted p.boxes) (sym t) ∙ p.posted_are;
             });
       }
-
-  pub puts_done : (first now : Held) (most a : ℕ) (begins row : Row) (all : List Message) → PutsOn first now most a begins row all [] → HasPut k s first now most begins row all
-  puts_done first now most a begins row all h = record {
-    grown = h.grown;
-    puts = λ f x.
-        (let p = h.puts f x in
-        let P = λ (boxes : List (List Message)). RowHolds k s now most row (record f { boxes = boxes }) in
-        subst P p.posted_are p.holds);
-  }

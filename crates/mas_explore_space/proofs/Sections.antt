@@ -1,20 +1,17 @@
 -- The sections of agents in the outcome of a row.
-use Rattle.std.proofs.Common.{ℕ, zero, suc, ◌≡◌, ◌+◌, ◌-◌, ◌<◌, ◌≤◌, arith, List, [], ◌∷◌, ◌++◌, length, map, slice_get, Option, None, Some, option_map, refl, ap, sym, ◌∙◌, subst, append_assoc, append-nil}
+use Rattle.std.proofs.Common.{ℕ, zero, suc, ◌≡◌, ◌+◌, ◌-◌, ◌<◌, ◌≤◌, arith, List, ◌∷◌, ◌++◌, length, map, slice_get, Option, None, Some, option_map, refl, ap, sym, ◌∙◌, subst, append_assoc}
 use Rattle.std.proofs.lemmas.Option.{same_Some, slice_get-map, slice_get_within}
-use Rattle.std.proofs.lemmas.List.{length-map}
 use Rattle.asl_term.specs.Names.{name_at}
 use Rattle.std.specs.List.{flat_map}
-use Rattle.std.specs.Prelude.{codes}
 use Rattle.mas_mind.specs.declared.mind.Message.{Message}
 use Rattle.mas_mind.specs.declared.mind.Thought.{Thought}
 use Rattle.mas_mind.specs.Minds.{Kind, IsAgent}
-use Rattle.mas_world.specs.Worlds.{World}
 use Rattle.mas_board.specs.declared.seats.AgentPlace.{AgentPlace}
 use Rattle.mas_board.specs.Boards.{State, seat_or_none, name_or_none, box_or_none}
-use Rattle.mas_report.specs.Report.{lines_or_none, message_line, box_text, boxes_text, mail_text, world_text}
+use Rattle.mas_report.specs.Report.{lines_or_none, message_line, box_text, boxes_text}
 use Rattle.mas_free.specs.declared.view.View.{View}
 use Rattle.mas_free.specs.Lines.{viewed}
-use Rattle.mas_free.specs.Outcome.{section, section_of, sections, outcome}
+use Rattle.mas_free.specs.Outcome.{section, section_of, sections}
 use Rattle.mas_free.specs.Free.{Free, Stage, phase_at_end, seat_at_end, board_at_end, at_end}
 use Rattle.mas_free.specs.Covers.{Start}
 use Rattle.mas_explore_space.specs.declared.held.Held.{Held}
@@ -25,8 +22,8 @@ use Rattle.mas_explore_space.specs.declared.row.Stance.TheVariants as stance
 use Rattle.mas_explore_minds.proofs.Fitting.{number_of}
 use Rattle.mas_explore_worlds.proofs.Fitting.{number_of as worlds_number}
 use Rattle.mas_explore_space.specs.Held.{minds_of, worlds_of, Fits}
-use Rattle.mas_explore_space.specs.Rows.{StanceHolds, RowHolds, Stands, free_of, world_or, box_at}
-use Rattle.mas_explore_space.specs.Texts.{phase_of, HasSection, agents_text}
+use Rattle.mas_explore_space.specs.Rows.{StanceHolds, RowHolds, Stands, free_of, box_at}
+use Rattle.mas_explore_space.specs.Texts.{phase_of, HasSection}
 use Rattle.mas_explore_space.proofs.Rows.{free_holds}
 
 phase-is : {V : Type 0} (k : Kind V) (agents a : ℕ) (thoughts : List Thought) (m : V) (stage : Stage) (st : Stance) → StanceHolds k agents a thoughts m stage st → phase_at_end stage ≡ phase_of st
@@ -51,9 +48,6 @@ section_at {V} k v s h most row f a seat old new x e t =
 one-more : (a n : ℕ) → a ≤ n → n + 1 - a ≡ suc (n + 1 - (a + 1))
 one-more a n l = omega arith
 
-no-more : (a n : ℕ) → n < a → n + 1 - a ≡ 0
-no-more a n l = omega arith
-
 onward : (out grown piece rest all total : List ℕ) → grown ≡ out ++ piece → all ≡ piece ++ rest → out ++ all ≡ total → grown ++ rest ≡ total
 onward out grown piece rest all total g e h = ap (λ (x : List ℕ). x ++ rest) g ∙ append_assoc out piece rest ∙ sym (ap (λ (x : List ℕ). out ++ x) e) ∙ h
 
@@ -61,15 +55,9 @@ pub sections_next : (of : ℕ → List ℕ) (a n : ℕ) (out grown total : List 
 sections_next of a n out grown total l g h =
     onward out grown (of a) (sections of (a + 1) (n + 1 - (a + 1))) (sections of a (n + 1 - a)) total g (ap (sections of a) (one-more a n l)) h
 
-pub sections_end : (of : ℕ → List ℕ) (a n : ℕ) (out total : List ℕ) → n < a → out ++ sections of a (n + 1 - a) ≡ total → out ≡ total
-sections_end of a n out total l h = sym (append-nil out) ∙ sym (ap (λ (k : ℕ). out ++ sections of a k) (no-more a n l)) ∙ h
-
 pub letters_next : (s : State) (a n : ℕ) (out grown total : List ℕ) → a ≤ n → grown ≡ out ++ box_text s a → out ++ boxes_text s a (n + 1 - a) ≡ total → grown ++ boxes_text s (a + 1) (n + 1 - (a + 1)) ≡ total
 letters_next s a n out grown total l g h =
     onward out grown (box_text s a) (boxes_text s (a + 1) (n + 1 - (a + 1))) (boxes_text s a (n + 1 - a)) total g (ap (boxes_text s a) (one-more a n l)) h
-
-pub letters_end : (s : State) (a n : ℕ) (out total : List ℕ) → n < a → out ++ boxes_text s a (n + 1 - a) ≡ total → out ≡ total
-letters_end s a n out total l h = sym (append-nil out) ∙ sym (ap (λ (k : ℕ). out ++ boxes_text s a k) (no-more a n l)) ∙ h
 
 -- ---- the row of a state
 
@@ -87,15 +75,6 @@ module _ {V : Type 0} (k : Kind V) (s : Start V) (h : Held) (most : ℕ) (row : 
       let q = worlds_number s.names s.world h.worlds fits.worlds in
       omega arith
 
-  pub world_is : (w : World) → slice_get (worlds_of s h) row.world ≡ Some w → w ≡ (free_of k s h row).world
-  world_is w e = sym (ap (world_or s.world) e)
-
-  pub seats_number : length row.seats ≡ length s.names
-  seats_number = x.holds.number
-
-  pub stages_number : length (free_of k s h row).stages ≡ length s.names
-  stages_number = (let y = free_holds k s h most row x in y.stages ∙ y.number)
-
   seat-before : (place : ℕ) (seat : Seat) → slice_get row.seats place ≡ Some seat → slice_get row.seats (place + 1 - 1) ≡ Some seat
   seat-before place seat e = (let back : place ≡ place + 1 - 1 = omega arith in let P = λ (n : ℕ). slice_get row.seats n ≡ Some seat in subst P back e)
 
@@ -112,21 +91,3 @@ module _ {V : Type 0} (k : Kind V) (s : Start V) (h : Held) (most : ℕ) (row : 
       ap (λ (o : Option (List Message)). old ++ flat_map (message_line s.names) (box_or_none o)) (sym q)
 
 -- ---- the first of all agents, and the whole
-
-pub sections_first : (of : ℕ → List ℕ) (n number : ℕ) (out : List ℕ) → n ≡ number → out ++ sections of 1 (n + 1 - 1) ≡ out ++ sections of 1 number
-sections_first of n number out e = (let q : n + 1 - 1 ≡ number = omega arith in ap (λ (m : ℕ). out ++ sections of 1 m) q)
-
-pub letters_first : {V : Type 0} (f : Free V) (n : ℕ) (old out : List ℕ) → n ≡ length f.stages → out ≡ old ++ codes "mail\n" →
-    out ++ boxes_text (board_at_end f) 1 (n + 1 - 1) ≡ old ++ mail_text (board_at_end f)
-letters_first f n old out e g =
-    let m = length-map f.stages seat_at_end in
-    let q : n + 1 - 1 ≡ length (map seat_at_end f.stages) = omega arith in
-    ap (λ (x : List ℕ). x ++ boxes_text (board_at_end f) 1 (n + 1 - 1)) g ∙ append_assoc old (codes "mail\n") (boxes_text (board_at_end f) 1 (n + 1 - 1)) ∙
-    ap (λ (i : ℕ). old ++ (codes "mail\n" ++ boxes_text (board_at_end f) 1 i)) q
-
-pub outcome_is : {V : Type 0} (k : Kind V) (v : View) (f : Free V) (one two three : List ℕ) → one ≡ [] ++ agents_text k v f → two ≡ one ++ world_text f.world → three ≡ two ++ mail_text (board_at_end f) →
-    three ≡ outcome k v (at_end f)
-outcome_is k v f one two three a b c =
-    let q = sym (length-map f.stages seat_at_end) in
-    c ∙ ap (λ (x : List ℕ). x ++ mail_text (board_at_end f)) b ∙ append_assoc one (world_text f.world) (mail_text (board_at_end f)) ∙
-    ap (λ (x : List ℕ). x ++ (world_text f.world ++ mail_text (board_at_end f))) (a ∙ ap (sections (section_of k v (at_end f)) 1) q)

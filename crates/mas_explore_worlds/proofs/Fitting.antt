@@ -10,11 +10,8 @@ use Rattle.mas_explore_tables.proofs.Entering.{IsNew, get-split}
 use Rattle.mas_explore_tables.proofs.Links.{linked_on, last_step, IsLinked, values_stay, values_number, values_linked, values_on}
 use Rattle.mas_explore_worlds.specs.declared.worlds.Doing.{Doing}
 use Rattle.mas_mind.specs.declared.mind.Feedback.{Feedback}
-use Rattle.mas_mind.specs.declared.mind.Feedback.TheVariants.{Failed, Done}
-use Rattle.mas_explore_worlds.specs.Worlds.{after, done_on, worlds_in, Fits, Grows, HasLinked, DoesAs, HasActed}
-
-pub grows_same : (names : List (List ℕ)) (start : World) (links : List (Link Doing)) → Fits links → Grows names start links links
-grows_same names start links h = record { fits = h; stay = λ i w e. e }
+use Rattle.mas_mind.specs.declared.mind.Feedback.TheVariants.{Failed}
+use Rattle.mas_explore_worlds.specs.Worlds.{after, done_on, worlds_in, Fits, HasLinked, DoesAs}
 
 pub number_of : (names : List (List ℕ)) (start : World) (links : List (Link Doing)) → Fits links → length (worlds_in names start links) ≡ 1 + length links
 number_of names start links h = values_number (done_on names) (start ∷ []) links h.linked
@@ -87,16 +84,10 @@ module _ (names : List (List ℕ)) (start : World) (links : List (Link Doing)) (
       let P = λ (x : World). StandsAt places x in
       subst P (sym e) (record { number = root; leads = l; at = values_stay (done_on names) (start ∷ []) links root start (subst Q (sym z) refl) })
 
-  pub stands_last : (w : World) → StandsAt [] w → slice_get (worlds_in names start links) n ≡ Some w
-  stands_last w s = (let P = λ (x : ℕ). slice_get (worlds_in names start links) x ≡ Some w in subst P (sym s.leads) s.at)
-
 -- ---- what the code's steps come to
 
 pub item_is : (w v : World) (xs : List World) (n : ℕ) → slice_get xs n ≡ Some w → slice_get xs n ≡ Some v → w ≡ v
 item_is w v xs n e f = same_Some w v (sym e ∙ f)
-
-done-failed : Done ≡ Failed → ⊥
-done-failed e = cc
 
 module _ (names : List (List ℕ)) (start : World) where
   pub does_as : (links : List (Link Doing)) (from : ℕ) (d : Doing) (w v : World) (f : Feedback) → slice_get (worlds_in names start links) from ≡ Some w → (f, v) ≡ after names w d →
@@ -106,24 +97,4 @@ module _ (names : List (List ℕ)) (start : World) where
     still = λ b x q.
         (let same : w ≡ x = same_Some w x (sym at ∙ q) in
         ap (λ (y : World). done_on names y d) (sym same) ∙ sym (ap (λ (p : Feedback × World). p.1) e) ∙ still b ∙ same);
-  }
-
-  pub acted_failed : (links : List (Link Doing)) (from : ℕ) (d : Doing) → Fits links → DoesAs names start links from d Failed →
-      HasActed names start links links from d.agent d.action (record { world = from; feedback = Failed })
-  acted_failed links from d h x = record {
-    grows = grows_same names start links h;
-    feedback = λ w q. x.told w q;
-    leads = λ w q. q ∙ ap Some (sym (x.still refl w q));
-    kept = λ _. refl;
-    unchanged = λ _. refl;
-  }
-
-  pub acted_done : (old new : List (Link Doing)) (from n : ℕ) (d : Doing) → DoesAs names start old from d Done → HasLinked names start old new from d n →
-      HasActed names start old new from d.agent d.action (record { world = n; feedback = Done })
-  acted_done old new from n d x l = record {
-    grows = l.grows;
-    feedback = λ w q. x.told w q;
-    leads = λ w q. l.leads w q;
-    kept = λ e. absurd (done-failed e);
-    unchanged = λ e. absurd (done-failed e);
   }

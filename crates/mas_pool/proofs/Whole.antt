@@ -96,9 +96,6 @@ module _ {V A : Type 0} where
 
 -- ---- a run along numbers is one along its own schedule
 
-pub along_own : {V : Type 0} (k : Kind V) (p : Platform V) (along : List ℕ) (board : Noted) (minds : List V) → RanAlong k p along board minds → RanAlong k p board.schedule board minds
-along_own k p along board minds r = record { thoughts = r.thoughts; schedule = refl; ran = ap (run k p) r.schedule ∙ r.ran; ended = r.ended }
-
 -- ---- all have left
 
 both_true : (x y : Bool) → (x && y) ≡ true → (x ≡ true) × (y ≡ true)

@@ -70,10 +70,6 @@ in_from a k (suc n) l m = dite (ℕ_discrete k a)
 abbrev all_times : List ℕ → List ℕ → ℕ
 all_times ks xs = total (λ a. times a xs) ks
 
-all_times_none : (ks : List ℕ) → all_times ks [] ≡ 0
-all_times_none [] = refl
-all_times_none (k ∷ ks) = let h = all_times_none ks in omega arith
-
 all_times_more : (ks xs : List ℕ) (x : ℕ) → all_times ks (x ∷ xs) ≡ times x ks + all_times ks xs
 all_times_more [] xs x = omega arith
 all_times_more (k ∷ ks) xs x =

@@ -1,12 +1,10 @@
 -- Each step keeps the rule of the queue.
-use Rattle.std.proofs.Common.{◌≡◌, ℕ, zero, suc, ◌+◌, ◌-◌, ◌<◌, Option, Some, None, List, [], ◌∷◌, ◌++◌, length, set, drop, sym, refl, ap, ◌∙◌, subst, length-append, arith}
-use Rattle.std.specs.Prelude.{MatchOption, slice_get}
-use mathlib.Core.Option.{some, some-injective, some-ne-none}
-use lib.ListN.{get_elem?}
-use Rattle.crossbeam_queue.specs.Fifo.{Pushes, Pops, Forks, Merges, Learns, Held}
+use Rattle.std.proofs.Common.{◌≡◌, ℕ, zero, suc, ◌+◌, ◌-◌, ◌<◌, Some, List, [], ◌∷◌, ◌++◌, length, set, drop, sym, refl, ap, ◌∙◌, subst, length-append, arith}
+use Rattle.std.specs.Prelude.{slice_get}
+use Rattle.crossbeam_queue.specs.Fifo.{Pushes, Pops, Forks, Merges, Learns}
 use Rattle.mas_board_lists.specs.Lists.{Each, times, numbers_from}
 use Rattle.mas_pool_ready.specs.declared.rule.ReadyView.{ReadyView}
-use Rattle.mas_pool_ready.specs.Rule.{blank, grown, took, gave, less, one_part, both_of, spent, numbers, CameOf, Knows, Holds, Taken, Tells, IsDry, HasLast}
+use Rattle.mas_pool_ready.specs.Rule.{grown, took, gave, less, one_part, both_of, spent, numbers, CameOf, Knows, Holds, Taken, Tells, HasLast}
 use Rattle.mas_board_lists.proofs.Sums.{total_set, total_snoc, at_total, two_total, all_set, all_snoc, each_append, each_map}
 use Rattle.mas_board_lists.proofs.Times.{times_append}
 use Rattle.mas_pool_ready.proofs.Counts.{total_only, from_snoc, few}
@@ -36,13 +34,6 @@ module _ {T : Type 0} (number : T → ℕ) (became : T → T → Type 0) where
   pub numbers_append : (xs ys : List T) → numbers number (xs ++ ys) ≡ numbers number xs ++ numbers number ys
   numbers_append [] ys = refl
   numbers_append (x ∷ xs) ys = ap (λ (l : List ℕ). number x ∷ l) (numbers_append xs ys)
-
-  one_knows : (port : ℕ) (v : ReadyView T) → get_elem? (blank ∷ []) port ≡ some v → Knows number became [] v
-  one_knows zero v at = subst (Knows number became []) (some-injective blank v at) record { idle = λ z. refl; same = λ _. refl }
-  one_knows (suc port) v at = absurd (some-ne-none v (sym at))
-
-  pub begins : Rule [] (blank ∷ [])
-  begins = record { first = []; once = λ a. refl; waits = tt; parts = refl; knows = one_knows }
 
   once_more : (a n : ℕ) → times a (numbers_from 1 n) + times a (suc n ∷ []) ≡ times a (numbers_from 1 (suc n))
   once_more a n =
@@ -172,17 +163,6 @@ module _ {T : Type 0} (number : T → ℕ) (became : T → T → Type 0) where
 
   pub takes_open : (p : ℕ) (v : ReadyView T) → 0 < v.parts → Pops Rule p v (Taken number became v) × Learns Rule p v (Tells number became v)
   takes_open p v o = (takes p v o, tells p v)
-
-  told : (k m a : ℕ) (items : List T) → length items ≡ 0 → k + times a (numbers number items) ≡ m → k ≡ m
-  told k m a [] e h = omega arith
-  told k m a (x ∷ items) e h = absurd (omega arith)
-
-  no_one : (v : ReadyView T) → Held 0 (Tells number became v) → IsDry v
-  no_one v h whole a = told (times a v.holds) (times a (numbers_from 1 (length v.first))) a h.0 h.1 (h.2 whole a)
-
-  pub dry_open : (r : Option T) (v w : ReadyView T) → MatchOption r ((w ≡ v) × Held 0 (Tells number became v)) (λ x. Taken number became v x w) → MatchOption r ((w ≡ v) × IsDry v) (λ x. Taken number became v x w)
-  dry_open None v w h = (h.0, no_one v h.1)
-  dry_open (Some x) v w h = h
 
   pub grows_again : (n p : ℕ) (u v : ReadyView T) (x y : T) → u ≡ v → x ≡ y → v.parts ≡ 64 → number y ≡ suc (length v.first) → became y y → Pushes Rule n p u x (λ w. w ≡ grown u x)
   grows_again n p u v x y e d whole i b =

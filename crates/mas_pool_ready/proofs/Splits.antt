@@ -1,5 +1,5 @@
 -- The passes for the workers.
-use Rattle.std.proofs.Common.{◌≡◌, ℕ, zero, suc, ◌+◌, ◌<◌, ◌≤◌, List, [], ◌∷◌, ◌++◌, length, sym, refl, ap, ◌∙◌, subst, length-append, append_assoc, append-nil, arith}
+use Rattle.std.proofs.Common.{◌≡◌, ℕ, zero, suc, ◌+◌, ◌<◌, ◌≤◌, List, [], ◌∷◌, ◌++◌, length, sym, ap, ◌∙◌, subst, length-append, append_assoc, append-nil, arith}
 use lib.ListN.{get_or}
 use Rattle.crossbeam_queue.specs.Passes.{view, IsPassOf, IsSamePass}
 use Rattle.mas_board_lists.specs.Lists.{numbers_from}
@@ -57,16 +57,6 @@ module _ {T : Type 0} where
   all_kept_snoc : (ps : List (Pass T)) (p : Pass T) → all_kept (ps ++ p ∷ []) ≡ all_kept ps ++ p.kept.list
   all_kept_snoc [] p = append-nil p.kept.list
   all_kept_snoc (x ∷ ps) p = ap (λ (l : List T). x.kept.list ++ l) (all_kept_snoc ps p) ∙ sym (append_assoc x.kept.list (all_kept ps) p.kept.list)
-
-  pub gathered_none : (q : Ready T) (p : Pass T) (items : List T) → IsOf q p → Gathered q [] p p items items
-  gathered_none q p items i = record {
-    of = i;
-    kept = refl;
-    first = refl;
-    parts = omega arith;
-    holds = sym (append-nil (known p).holds);
-    items_are = sym (append-nil items);
-  }
 
   pub gathered_next : (q : Ready T) (ps : List (Pass T)) (p old now new : Pass T) (items all more : List T) → Gathered q ps old now items all → IsOf q new → new.kept ≡ now.kept → known new ≡ both_of (known now) (known p)
       → more ≡ all ++ p.kept.list → Gathered q (ps ++ p ∷ []) old new items more

@@ -1,30 +1,29 @@
 -- What each call makes of an agent on its way.
-use Rattle.std.proofs.Common.{◌≡◌, ◌≢◌, ℕ, ◌+◌, Bool, true, false, is_some, List, [], ◌∷◌, ◌++◌, Option, sym, refl, ap, ◌∙◌, subst, append-nil, append_assoc, arith}
-use Rattle.std.specs.Prelude.{MatchBool, None}
+use Rattle.std.proofs.Common.{◌≡◌, ℕ, ◌+◌, Bool, true, false, is_some, List, [], ◌∷◌, ◌++◌, Option, sym, refl, ap, ◌∙◌, subst, append_assoc, arith}
+use Rattle.std.specs.Prelude.{MatchBool}
 use Rattle.mas_mind.specs.declared.mind.End.{End}
 use Rattle.mas_mind.specs.declared.mind.End.TheVariants.{Budget}
 use Rattle.mas_mind.specs.declared.mind.Input.{Input}
 use Rattle.mas_mind.specs.declared.mind.Outs.{Outs}
 use Rattle.mas_mind.specs.declared.mind.Feedback.{Feedback}
-use Rattle.mas_mind.specs.declared.mind.Thought.{Thought}
 use Rattle.mas_mind.specs.declared.mind.Thought.TheVariants.{Outs as Acts, Spent}
-use Rattle.mas_mind.specs.Minds.{Kind, Grows, Cycled, AreLawful, asks_feedback}
+use Rattle.mas_mind.specs.Minds.{Kind, Grows}
 use Rattle.mas_board.specs.declared.seats.Phase.{Phase}
-use Rattle.mas_board.specs.declared.seats.Phase.TheVariants.{Idle, Busy}
+use Rattle.mas_board.specs.declared.seats.Phase.TheVariants.{Idle}
 use Rattle.mas_board.specs.declared.seats.Sensed.TheVariants as answer
-use Rattle.mas_board.specs.Boards.{State, Noted, is_gone}
+use Rattle.mas_board.specs.Boards.{State, is_gone}
 use Rattle.mas_board_turns.specs.declared.turn.Turn.{Turn}
 use Rattle.mas_board_turns.specs.declared.turn.Turn.TheVariants as turn
 use Rattle.mas_board_turns.specs.Turns as turns
 use Rattle.mas_board_turns.specs.Turns.{phase_after, cycles_in}
 use Rattle.mas_board_turns.specs.Follows.{Thinking, resting, thinking, told, Follows}
-use Rattle.mas_board_turns.specs.Cycles.{cycled, Belongs, Went}
-use Rattle.mas_board_turns.proofs.Cycles.{phase_snoc, cycles_snoc, acted_some, told_grows, told_awaits, starts, follows_append, went_none, went_one, went_more, belongs_on, is_asked, has_thought}
+use Rattle.mas_board_turns.specs.Cycles.{cycled, Belongs}
+use Rattle.mas_board_turns.proofs.Cycles.{phase_snoc, cycles_snoc, acted_some, told_grows, told_awaits, starts, follows_append, went_one, went_more, belongs_on, is_asked}
 use Rattle.mas_baton.specs.declared.baton.Baton.{Baton}
 use Rattle.mas_baton.specs.declared.seat.Seat.{Seat}
-use Rattle.mas_baton.specs.Seats.{turns_of, first_of, left_halted, phase_of, IsSeatOf, Exchanged, SenseExchanged, IsGiven, EmitExchanged, LeaveExchanged, HaltExchanged, NothingExchanged}
+use Rattle.mas_baton.specs.Seats.{turns_of, first_of, phase_of, IsSeatOf, SenseExchanged, IsGiven, EmitExchanged, LeaveExchanged}
 use Rattle.mas_pool_task.specs.declared.going.Going.{Going}
-use Rattle.mas_pool_task.specs.Goings.{standing, Rests, GoingIsAsked, GoingHasThought, Same, HasHalted, GoingWent, Stopped, Became, Ended}
+use Rattle.mas_pool_task.specs.Goings.{standing, Rests, GoingIsAsked, GoingHasThought, Same, GoingWent, Stopped, Became, Ended}
 
 gone_not : (p : Phase) (e : End) → p ≡ turns.phase_of (turn.Left e) → is_gone p ≡ false → ⊥
 gone_not p e h n = let d : true ≡ false = ap is_gone (sym h) ∙ n in cc
@@ -44,49 +43,6 @@ module _ {V A : Type 0} (k : Kind V) where
   belongs_to : (g : Going V A) (seat : Seat A) (mind : V) → Belongs k (standing g) → seat.number ≡ g.seat.number → first_of seat ≡ first_of g.seat → k.me mind ≡ k.me g.mind → k.agents mind ≡ k.agents g.mind
       → Belongs k (record { number = g.number; right = seat.number; board = first_of seat; phase = phase_of seat; cycles = cycles_in (turns_of seat); mind = mind })
   belongs_to g seat mind h n f m a = belongs_on k (standing g) seat.number (first_of seat) (phase_of seat) (cycles_in (turns_of seat)) mind h n f m a
-
-  -- no turn was made
-  quiet_turns : (s t : Seat A) (after : Noted) → Exchanged s t None after → turns_of t ≡ turns_of s
-  quiet_turns s t after e = e.turns ∙ append-nil (turns_of s)
-
-  quiet_went : (b : Baton A) (g : Going V A) (seat : Seat A) (after : Noted) → Rests k g → IsSeatOf b g.seat → IsSeatOf b seat → Exchanged g.seat seat None after
-      → GoingWent k (resting g.mind) g (record { number = g.number; cycle = g.cycle; seat = seat; mind = g.mind })
-  quiet_went b g seat after r i j e =
-      let t = quiet_turns g.seat seat after e in
-      record {
-        same = same_by b g seat g.cycle g.mind i j e.first;
-        rests = record {
-          belongs = belongs_to g seat g.mind r.belongs e.number e.first refl refl;
-          idle = ap (phase_after Idle) t ∙ r.idle;
-          made = r.made ∙ ap cycles_in (sym t);
-          count = r.count;
-          awaits = r.awaits;
-        };
-        way = went_none k (resting g.mind) (resting g.mind) (turns_of g.seat) (turns_of seat) refl t;
-      }
-
-  -- no turn was made, and there was a halt
-  halted_stopped : (b : Baton A) (start : Thinking V) (g : Going V A) (seat : Seat A) (cycle : ℕ) (mind : V) → Belongs k (standing g) → IsSeatOf b g.seat → IsSeatOf b seat → seat.number ≡ g.seat.number → first_of seat ≡ first_of g.seat
-      → turns_of seat ≡ turns_of g.seat → (phase_of g.seat ≢ Busy → resting mind ≡ start) → HasHalted (record { number = g.number; cycle = cycle; seat = seat; mind = mind })
-      → Stopped k start g (record { number = g.number; cycle = cycle; seat = seat; mind = mind })
-  halted_stopped b start g seat cycle mind r i j n f t s h = record {
-    same = same_by b g seat cycle mind i j f;
-    seat = n ∙ r.right;
-    more = [];
-    turns = t ∙ sym (append-nil (turns_of g.seat));
-    follows = λ p. s (λ e. p (ap (phase_after Idle) t ∙ e));
-    ends = λ _. h;
-  }
-
-  halt_set : (s t : Seat A) → HaltExchanged s t → left_halted t ≡ true
-  halt_set s t h = h.exchanged.halted ∙ ap (λ (x : Noted). x.halted) h.answered
-
-  pub halts : (b : Baton A) (start : Thinking V) (g : Going V A) (mid seat : Seat A) (cycle : ℕ) (mind : V) → Belongs k (standing g) → IsSeatOf b g.seat → IsSeatOf b seat → NothingExchanged g.seat mid → HaltExchanged mid seat
-      → (phase_of g.seat ≢ Busy → resting mind ≡ start) → Stopped k start g (record { number = g.number; cycle = cycle; seat = seat; mind = mind })
-  halts b start g mid seat cycle mind r i j n h s =
-      let e = n.exchanged in
-      let x = h.exchanged in
-      halted_stopped b start g seat cycle mind r i j (x.number ∙ e.number) (x.first ∙ e.first) (quiet_turns mid seat h.after x ∙ quiet_turns g.seat mid n.after e) s (halt_set mid seat h)
 
   -- ---- a Sense
 
@@ -133,43 +89,7 @@ module _ {V A : Type 0} (k : Kind V) where
     ends = λ n. absurd (gone_not (phase_of seat) end (ap (phase_after Idle) e.exchanged.turns ∙ phase_snoc Idle (turns_of g.seat) (turn.Left end)) n);
   }
 
-  pub waits : (b : Baton A) (g : Going V A) (seat : Seat A) (cycle least : ℕ) → Rests k g → IsSeatOf b g.seat → IsSeatOf b seat → SenseExchanged g.seat seat (answer.Ahead cycle least)
-      → GoingWent k (resting g.mind) g (record { number = g.number; cycle = g.cycle; seat = seat; mind = g.mind })
-  waits b g seat cycle least r i j e = quiet_went b g seat e.after r i j e.exchanged
-
-  pub met_halt : (b : Baton A) (g : Going V A) (seat : Seat A) → Rests k g → IsSeatOf b g.seat → IsSeatOf b seat → SenseExchanged g.seat seat answer.Halted
-      → Stopped k (resting g.mind) g (record { number = g.number; cycle = g.cycle; seat = seat; mind = g.mind })
-  met_halt b g seat r i j e =
-      let x = e.exchanged in
-      halted_stopped b (resting g.mind) g seat g.cycle g.mind r.belongs i j x.number x.first (quiet_turns g.seat seat e.after x) (λ _. refl) (x.halted ∙ ap (λ (y : Noted). y.halted) e.leaves.1 ∙ e.leaves.0)
-
   -- ---- a thought
-
-  pub thought_has : ((m : V) (i : Input) → k.awaits (k.cycle m i).mind ≡ asks_feedback (k.cycle m i).thought) → ((m : V) (i : Input) → Grows k m (k.cycle m i).mind 1) → (g : Going V A) (input : Input) (mind : V) (thought : Thought)
-      → GoingIsAsked k input g → k.cycle g.mind input ≡ record { mind = mind; thought = thought } → AreLawful (k.me g.mind) (k.agents g.mind) thought
-      → GoingHasThought k thought (record { number = g.number; cycle = g.cycle + 1; seat = g.seat; mind = mind })
-  thought_has law grow g input mind thought a e l =
-      let grows = subst (λ (c : Cycled V). Grows k g.mind c.mind 1) e (grow g.mind input) in
-      let m = grows.made in
-      let c = a.count in
-      record { thinks = has_thought k law grow (standing g) input mind thought a.asked e l; count = omega arith }
-
-  pub emits : (r : Bool) (g h : Going V A) (input : Input) (mind : V) (thought : Thought) → k.cycle g.mind input ≡ record { mind = mind; thought = thought }
-      → MatchBool r (GoingWent k (thinking mind thought) (record { number = g.number; cycle = g.cycle + 1; seat = g.seat; mind = mind }) h) (Stopped k (thinking mind thought) (record { number = g.number; cycle = g.cycle + 1; seat = g.seat; mind = mind }) h)
-      → MatchBool r (GoingWent k (cycled k g.mind input) g h) (Stopped k (cycled k g.mind input) g h)
-  emits true g h input mind thought e w = record {
-    same = record { number = w.same.number; first = w.same.first; seat = w.same.seat };
-    rests = w.rests;
-    way = subst (λ (s : Thinking V). Went k s (turns_of g.seat) (turns_of h.seat) (resting h.mind)) (starts k g.mind mind input thought e) w.way;
-  }
-  emits false g h input mind thought e w = record {
-    same = record { number = w.same.number; first = w.same.first; seat = w.same.seat };
-    seat = w.seat;
-    more = w.more;
-    turns = w.turns;
-    follows = λ n. subst (λ (s : Thinking V). Follows k s w.more (resting h.mind)) (starts k g.mind mind input thought e) (w.follows n);
-    ends = w.ends;
-  }
 
   pub leaves : (b : Baton A) (g : Going V A) (seat : Seat A) (input : Input) (mind : V) → GoingIsAsked k input g → IsSeatOf b g.seat → IsSeatOf b seat → k.cycle g.mind input ≡ record { mind = mind; thought = Spent } → LeaveExchanged g.seat seat
       → Stopped k (cycled k g.mind input) g (record { number = g.number; cycle = g.cycle + 1; seat = seat; mind = mind })
@@ -183,12 +103,6 @@ module _ {V A : Type 0} (k : Kind V) where
         follows = λ _. subst (λ (s : Thinking V). Follows k s (turn.Gone ∷ []) (resting mind)) (starts k g.mind mind input Spent e) (resting mind, refl, refl);
         ends = λ n. absurd (gone_not (phase_of seat) Budget (ap (phase_after Idle) x.turns ∙ phase_snoc Idle (turns_of g.seat) turn.Gone) n);
       }
-
-  pub starves : (b : Baton A) (g : Going V A) (seat : Seat A) (input : Input) (cycle : ℕ) (mind : V) → GoingIsAsked k input g → IsSeatOf b g.seat → IsSeatOf b seat → HaltExchanged g.seat seat
-      → Stopped k (cycled k g.mind input) g (record { number = g.number; cycle = cycle; seat = seat; mind = mind })
-  starves b g seat input cycle mind a i j h =
-      let x = h.exchanged in
-      halted_stopped b (cycled k g.mind input) g seat cycle mind a.asked.belongs i j x.number x.first (quiet_turns g.seat seat h.after x) (λ n. absurd (n a.asked.busy)) (halt_set g.seat seat h)
 
   -- ---- an Emit
 

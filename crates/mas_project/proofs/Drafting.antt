@@ -52,9 +52,6 @@ few_capped (l ∷ lines) h few =
 saturated_again : (a b : ℕ) → saturated (saturated a + b) ≡ saturated (a + b)
 saturated_again a b = grind arith
 
-abbrev capped_text : ProjectText → ProjectText
-capped_text p = record { name = p.name; world = p.world; agents = map capped p.agents }
-
 push_drafts : (p : ProjectText) (d : Draft) (entry : AgentEntry) → IsDraft p d → IsDraft (with_entry p entry) (entry_drafted d entry)
 push_drafts p d entry h = record {
   text =

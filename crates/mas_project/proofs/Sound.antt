@@ -48,10 +48,6 @@ use Rattle.mas_project.proofs.Machine.{then_run, whole_is}
 same_bytes : (xs ys : List ℕ) → bytes_eq xs ys ≡ true → xs ≡ ys
 same_bytes xs ys e = (bytes_eq-Decides xs ys).0 e
 
-guard_some : (b : Bool) (x y : State) → cond b (Some x) None ≡ Some y → (b ≡ true) × (x ≡ y)
-guard_some true x y e = (refl, cc)
-guard_some false x y e = absurd cc
-
 -- ---- the end of a piece
 
 whole_end : (m n : PieceMeaning) (ts : List ProjectLexeme) → run (state.Whole m) ts ≡ Ok (state.Whole n) → (ts ≡ []) × (m ≡ n)

@@ -6,13 +6,13 @@ use Rattle.std.proofs.Math.Nat.{eq-or-lt_of_le}
 use Rattle.std.proofs.lemmas.List.{take_all, take-append-le}
 use Rattle.std.proofs.lemmas.Slice.Eq.{bytes_eq-Decides}
 use Rattle.asl_term.specs.declared.syntax.Filed.{Filed}
-use Rattle.mas_record_disk.specs.Disk.{Image, FileState, DiskState, bytes_of, written, IsTorn, IsCutTo, OnBytes, Stepped, after_write, after_cut}
+use Rattle.mas_record_disk.specs.Disk.{Image, FileState, DiskState, bytes_of, written, IsTorn, OnBytes, Stepped, after_write, after_cut}
 use Rattle.mas_record_disk.specs.Calls.{GoesOn, IsSameFile, Looks, Changes, IsSynced, Reads, PicksReady, made_where_missing, name_or_none}
 use Rattle.mas_record_files.specs.declared.change.Change.{Change}
 use Rattle.mas_record_files.specs.declared.change.FileChange.{FileChange}
 use Rattle.mas_record_files.specs.declared.change.FileChange.TheVariants.{Made, Wrote, Cut, Synced}
 use Rattle.mas_record_files.specs.Memory.{held, image_after, changed, changed_if, after_all, settled, file_in, AreCurrent, disk_state, is_there}
-use Rattle.mas_record_files.specs.Laws.{torn_none, cut_none, reads_now}
+use Rattle.mas_record_files.specs.Laws.{reads_now}
 use Rattle.mas_record_files.specs.Disks.{HasChanged, change_of}
 
 -- one more change comes last
@@ -64,15 +64,6 @@ module _ (first : List Filed) (changes : List Change) where
 
   -- ---- time
 
-  pub waits : (p q : Option (List ℕ)) (n m : ℕ) → n ≤ m → GoesOn (disk_state first changes p n) (disk_state first changes q m)
-  waits p q n m le = record {
-    told = refl;
-    faults = le;
-    moment = omega arith;
-    since = λ name t c early left. inl left;
-    keeps = λ name t c early left. left;
-  }
-
   early : (c : Change) (k : ℕ) → k ≤ length changes → take k (changes ++ c ∷ []) ≡ take k changes
   early c k le = take-append-le k changes (c ∷ []) le
 
@@ -106,35 +97,6 @@ module _ (first : List Filed) (changes : List Change) where
 
   same_file : (name : List ℕ) → IsSameFile (file_in first changes name) (file_in first changes name)
   same_file name = record { reads = refl; leaves = λ c left. left }
-
-  pub looks : (p : Option (List ℕ)) (n m : ℕ) → n ≤ m → Looks (disk_state first changes p n) (disk_state first changes p m)
-  looks p n m le = record { on = waits p p n m le; picked = refl; files = λ told name other. same_file name }
-
-  -- a refused change may have been made in part, or not at all
-  pub refused_write : (at : ℕ) (bytes : List ℕ) (p : Option (List ℕ)) (n m : ℕ) → n ≤ m
-      → Changes (disk_state first changes p n) (disk_state first changes p m) (after_write at bytes)
-  refused_write at bytes p n m le = record {
-    on = waits p p n m le;
-    picked = refl;
-    leaves = λ told c left. (c, left, still c);
-    others = λ told name other. same_file name;
-  }
-    where
-      still : (c : Image) → OnBytes (IsTorn at (length bytes)) c c
-      still None = tt
-      still (Some old) = torn_none at (length bytes) old
-
-  pub refused_cut : (len : ℕ) (p : Option (List ℕ)) (n m : ℕ) → n ≤ m → Changes (disk_state first changes p n) (disk_state first changes p m) (after_cut len)
-  refused_cut len p n m le = record {
-    on = waits p p n m le;
-    picked = refl;
-    leaves = λ told c left. (c, left, still c);
-    others = λ told name other. same_file name;
-  }
-    where
-      still : (c : Image) → OnBytes (IsCutTo len) c c
-      still None = tt
-      still (Some old) = cut_none len old
 
   -- ---- calls that note one
 

@@ -1,9 +1,9 @@
 -- How what a crash may leave goes on from call to call.
-use Rattle.std.proofs.Common.{inl, inr, ⊎_elim, ◌≡◌, ◌≤◌, ◌⊎◌, ℕ, true, refl, sym, ◌∙◌, ap, subst, arith}
-use Rattle.mas_record_disk.specs.Disk.{Image, FileState, DiskState}
-use Rattle.mas_record_disk.specs.Calls.{name_or_none, picked_file, GoesOn, Looks, Changes}
+use Rattle.std.proofs.Common.{inl, inr, ⊎_elim, ◌≡◌, ◌≤◌, ◌⊎◌, ℕ, true, refl, ◌∙◌, ap, subst, arith}
+use Rattle.mas_record_disk.specs.Disk.{Image, DiskState}
+use Rattle.mas_record_disk.specs.Calls.{name_or_none, picked_file}
 use Rattle.mas_record_disk.specs.PastDisk.{IsOnlyNow}
-use Rattle.mas_record_journal.specs.Moments.{Ran, During}
+use Rattle.mas_record_journal.specs.Moments.{Ran}
 
 -- before the first call
 pub begun : (P : Image → Type 0) (s : DiskState) → IsOnlyNow s → (s.told ≡ true → (c : Image) → (picked_file s).may_leave c → P c) → Ran P s s
@@ -14,27 +14,6 @@ begun P s now has = record {
   moment = omega arith;
   leaves = λ told. record { each = λ c left. has told c (now (name_or_none s.picked) c left); before = λ t c le left. inl left };
 }
-
--- one call
-pub called : (P : Image → Type 0) (old mid new : DiskState) → Ran P old mid → GoesOn mid new → new.picked ≡ mid.picked
-    → (old.told ≡ true → (c : Image) → (picked_file new).may_leave c → P c) → Ran P old new
-called P old mid new so_far on picked has =
-    let name : name_or_none old.picked ≡ name_or_none new.picked = ap name_or_none (sym (picked ∙ so_far.picked)) in
-    let now : old.told ≡ true → (c : Image) → (new.file (name_or_none old.picked)).may_leave c → P c =
-    λ told c left. has told c (subst (λ n. (new.file n).may_leave c) name left) in
-    record {
-      told = on.told ∙ so_far.told;
-      picked = picked ∙ so_far.picked;
-      faults = omega (arith, so_far.faults, on.faults);
-      moment = omega (arith, so_far.moment, on.moment);
-      leaves = λ told.
-          let before = so_far.leaves told in
-          record {
-            each = λ c left. ⊎_elim (before.each c) (now told c) (on.since (name_or_none old.picked) old.moment c so_far.moment left);
-            before = λ t c le left.
-                ⊎_elim (before.before t c le) (λ l. inr (now told c l)) (on.since (name_or_none old.picked) t c (omega (arith, le, so_far.moment)) left);
-          };
-    }
 
 -- some calls, and then some more
 pub went_on : (P Q R : Image → Type 0) (old mid new : DiskState) → Ran P old mid → Ran Q mid new
@@ -71,20 +50,3 @@ weaker P R old new ran p = record {
     before = λ t c le left. ⊎_elim inl (λ x. inr (p told c x)) ((ran.leaves told).before t c le left);
   };
 }
-
-same_file : (s t : DiskState) → t.picked ≡ s.picked → (c : Image) → (picked_file t).may_leave c → (t.file (name_or_none s.picked)).may_leave c
-same_file s t is c left = subst (λ n. (t.file (name_or_none n)).may_leave c) is left
-
--- one change
-pub changed : (step : FileState → FileState) (old new : DiskState) → IsOnlyNow old → Changes old new step → Ran (During step old) old new
-changed step old new now changes =
-    called (During step old) old old new (begun (During step old) old now (λ told c left. inl left)) changes.on changes.picked (λ told c left. inr (changes.leaves told c left))
-
--- and then a sync
-pub synced : (step : FileState → FileState) (old mid new : DiskState) → Ran (During step old) old mid → Changes old mid step → Looks mid new → Ran (During step old) old new
-synced step old mid new ran changes looks =
-    called (During step old) old mid new ran looks.on looks.picked (λ told c left.
-    inr (changes.leaves told c (looked mid new looks (changes.on.told ∙ told) c left)))
-  where
-    looked : (s t : DiskState) → Looks s t → s.told ≡ true → (c : Image) → (picked_file t).may_leave c → (picked_file s).may_leave c
-    looked s t looks told c left = ((looks.files told) (name_or_none s.picked) (λ e. cc e)).leaves c (same_file s t looks.picked c left)

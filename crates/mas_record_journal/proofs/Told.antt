@@ -1,10 +1,8 @@
 -- A file that begins as a journal was read.
-use Rattle.std.proofs.Common.{◌≡◌, ℕ, true, List, ◌∷◌, ◌++◌, length, take, drop, Option, None, Some, refl, sym, ◌∙◌, ap, arith}
-use Rattle.std.proofs.Common.{bytes_eq, append_assoc, take-append-drop}
-use Rattle.std.proofs.lemmas.Slice.Eq.{bytes_eq-Decides}
+use Rattle.std.proofs.Common.{◌≡◌, ℕ, true, List, ◌∷◌, ◌++◌, length, Option, None, Some, refl, sym, ◌∙◌, ap, arith}
 use Rattle.mas_record_disk.specs.Disk.{Image, DiskState, bytes_of}
 use Rattle.mas_record_disk.specs.Calls.{name_or_none, picked_file}
-use Rattle.mas_record_journal.specs.Journals.{header, blocks, front, recovered, recovered_image, HasTurns, HasFront}
+use Rattle.mas_record_journal.specs.Journals.{front, recovered, recovered_image, HasFront}
 use Rattle.mas_record_journal.specs.declared.back.BackWhy.TheVariants as why
 use Rattle.mas_record_journal.specs.Kept.{HasBytes, HasLooked, IsRead, IsNotRead}
 use Rattle.mas_record_journal.proofs.Blocks.{recovered-nothing}
@@ -22,17 +20,6 @@ same_reads s t h told =
 pub told_none : (i : Image) (bytes : List ℕ) → bytes ≡ bytes_of i → None ≡ recovered bytes → recovered_image i ≡ None
 told_none None bytes is none = refl
 told_none (Some all) bytes is none = ap recovered (sym is) ∙ sym none
-
--- bytes that begin with the header, and what they tell
-pub has_front : (bytes rest turns : List ℕ) → bytes_eq (take 8 bytes) header ≡ true → rest ≡ drop 8 bytes → HasTurns turns rest → HasFront turns bytes
-has_front bytes rest turns begins is told =
-    let start = (bytes_eq-Decides (take 8 bytes) header).0 begins in
-    record {
-      end = told.end;
-      split = sym (take-append-drop 8 bytes) ∙ ap (λ (l : List ℕ). l ++ drop 8 bytes) start ∙ ap (λ (l : List ℕ). header ++ l) (sym is ∙ told.split)
-          ∙ sym (append_assoc header (blocks turns) told.end);
-      nothing = told.nothing;
-    }
 
 pub tells : (bytes turns : List ℕ) → HasFront turns bytes → Some turns ≡ recovered bytes
 tells bytes turns h = sym (ap recovered h.split ∙ recovered-nothing turns h.end h.nothing)

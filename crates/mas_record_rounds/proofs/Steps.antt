@@ -1,5 +1,5 @@
 -- What each call makes of a sharer.
-use Rattle.std.proofs.Common.{◌≡◌, ◌≢◌, ℕ, ◌+◌, ◌⊎◌, inl, inr, Bool, true, false, not, is_some, Result, Ok, Err, IfOk, IfErr}
+use Rattle.std.proofs.Common.{◌≡◌, ℕ, ◌+◌, Bool, true, false, not, is_some, Result, Ok, Err, IfOk, IfErr}
 use Rattle.std.proofs.Common.{Option, None, Some, length, sym, refl, ap, ◌∙◌, subst, append-nil, arith}
 use Rattle.mas_mind.specs.declared.mind.End.{End}
 use Rattle.mas_mind.specs.declared.mind.Input.{Input}
@@ -9,7 +9,6 @@ use Rattle.mas_mind.specs.declared.mind.Thought.{Thought}
 use Rattle.mas_mind.specs.declared.mind.Thought.TheVariants.{Outs as Acts, Spent}
 use Rattle.mas_mind.specs.Minds.{Kind, Grows, AreLawful, asks_feedback}
 use Rattle.mas_board.specs.declared.seats.Phase.{Phase}
-use Rattle.mas_board.specs.declared.seats.Phase.TheVariants.{Idle, Busy, Left as Away}
 use Rattle.mas_board.specs.declared.seats.Sensed.TheVariants as answer
 use Rattle.mas_board.specs.Boards.{State, Noted, seat_at, is_gone}
 use Rattle.mas_core.specs.Fits.{ThoughtFits}
@@ -26,8 +25,8 @@ use Rattle.mas_record.specs.declared.deck.DeckFault.TheVariants as fault
 use Rattle.mas_record.specs.declared.recorder.Recorder.{Recorder}
 use Rattle.mas_record.specs.declared.ticket.Ticket.{Ticket}
 use Rattle.mas_record.specs.Entries.{Entered}
-use Rattle.mas_record.specs.Tickets.{IsTicketOf, turns_of, first_of, met_by, phase_of, agents_of, Exchanged, HasFault, WasTorn, SenseRecorded}
-use Rattle.mas_record.specs.Tickets.{SenseRefused, IsGiven, EmitRecorded, LeaveRecorded, TurnRefused}
+use Rattle.mas_record.specs.Tickets.{IsTicketOf, turns_of, first_of, phase_of, agents_of, Exchanged, HasFault, SenseRecorded}
+use Rattle.mas_record.specs.Tickets.{SenseRefused, IsGiven, EmitRecorded, LeaveRecorded}
 use Rattle.mas_record_rounds.specs.declared.sharer.Sharer.{Sharer}
 use Rattle.mas_record_rounds.specs.Sharers.{cycles_of, standing, thinking_of, Shares, SharerRests, SharerIsAsked, SharerHasThought, Stays, SharerWent, GoesOn, IsRefused}
 
@@ -65,23 +64,6 @@ module _ {A D : Type 0} (s t : Ticket A D) (after : Noted) where
       let c = ap cycles_in (still e) in
       omega arith
 
--- ---- minds
-
-module _ {V : Type 0} (k : Kind V) where
-  -- a thought is kept where the agent is busy, and nowhere else
-  pub busy_of : (agents a : ℕ) (m : V) (t : Thought) (p : Phase) → ThoughtFits k agents a p m (Some t) → p ≡ Busy
-  busy_of agents a m t Idle h = cc (h.1)
-  busy_of agents a m t Busy h = refl
-  busy_of agents a m t (Away end) h = cc (h)
-
-  pub not_busy : (agents a : ℕ) (m : V) (t : Option Thought) (p : Phase) → t ≡ None → ThoughtFits k agents a p m t → p ≢ Busy
-  not_busy agents a m t p e h b = subst (λ (x : Option Thought). ThoughtFits k agents a Busy m x) e (subst (λ (q : Phase). ThoughtFits k agents a q m t) b h)
-
-  idle_of : (p : Phase) → p ≢ Busy → is_gone p ≡ false → p ≡ Idle
-  idle_of Idle n g = refl
-  idle_of Busy n g = absurd (n refl)
-  idle_of (Away end) n g = cc (g)
-
 -- ---- answers
 
 pub ok_map : {T E : Type 0} (r : Result T E) (P Q : T → Type 0) → ((x : T) → P x → Q x) → IfOk r P → IfOk r Q
@@ -92,22 +74,11 @@ pub err_map : {T E : Type 0} (r : Result T E) (P Q : E → Type 0) → ((x : E) 
 err_map (Ok x) P Q f h = tt
 err_map (Err e) P Q f h = f e h
 
-not_true : (b : Bool) → true ≡ not b → b ≡ false
-not_true true e = cc (e)
-not_true false e = refl
-
 -- ---- refusals
 
 fault_torn : (made : Option Turn) (e : Entered) (f : DeckFault) → HasFault f made e → f ≡ fault.Disk → is_some e.torn_after ≡ true
 fault_torn None e f h d = cc (h.0, d)
 fault_torn (Some x) e f h d = ap is_some h.2.torn_now
-
-was_torn : (made : Option Turn) (e : Entered) (f : DeckFault) → WasTorn f made e → is_some e.torn_after ≡ true
-was_torn made e f w = ap is_some (w.same.torn ∙ w.torn)
-
-either_torn : (made : Option Turn) (e : Entered) (f : DeckFault) → HasFault f made e ⊎ WasTorn f made e → f ≡ fault.Disk → is_some e.torn_after ≡ true
-either_torn made e f (inl h) d = fault_torn made e f h d
-either_torn made e f (inr w) d = was_torn made e f w
 
 module _ {V A D : Type 0} (k : Kind V) (r : Recorder A D) where
   abbrev having : Sharer V A D → Ticket A D → V → Sharer V A D
@@ -126,12 +97,6 @@ module _ {V A D : Type 0} (k : Kind V) (r : Recorder A D) where
   sense_refused s t m f i h = record {
     stays = stays_by s t m i h.exchanged.number h.exchanged.first;
     torn = λ d. h.exchanged.torn ∙ h.seen.on_exit ∙ fault_torn h.made h.entered f h.cause d;
-  }
-
-  pub turn_refused : (s : Sharer V A D) (t : Ticket A D) (m : V) (f : DeckFault) → IsTicketOf r t → TurnRefused s.ticket t f → IsRefused r s (having s t m) f
-  turn_refused s t m f i h = record {
-    stays = stays_by s t m i h.exchanged.number h.exchanged.first;
-    torn = λ d. h.exchanged.torn ∙ h.seen.on_exit ∙ either_torn h.made h.entered f h.cause d;
   }
 
   -- the mind was starved in its cycle
@@ -193,53 +158,6 @@ module _ {V A D : Type 0} (k : Kind V) (r : Recorder A D) where
       }
 
   -- ---- whether it has left
-
-  pub settled_none : (s : Sharer V A D) (t : Ticket A D) (gone : Bool) → Shares k r s → s.thought ≡ None → IsTicketOf r t → gone ≡ is_gone (phase_of s.ticket)
-      → Exchanged s.ticket t None (met_by t) → GoesOn k r (thinking_of s) s (having s t s.mind) (not gone)
-  settled_none s t gone h none i l e = record {
-    went = quiet_went s t (met_by t) h none i e;
-    here_is = ap not (l ∙ ap is_gone (sym (phase_still s.ticket t (met_by t) e)));
-  }
-
-  -- the sharer without its thought
-  abbrev pub emptied : Sharer V A D → Sharer V A D
-  emptied s = record { number = s.number; ticket = s.ticket; mind = s.mind; thought = None }
-
-  pub settled_some : (s m : Sharer V A D) (t : Thought) → m ≡ emptied s → s.thought ≡ Some t → Shares k r s → SharerHasThought k r t m
-  settled_some s m t is some h =
-      let f = subst (λ (x : Option Thought). ThoughtFits k (agents_of s.ticket) s.number (phase_of s.ticket) s.mind x) some h.thought in
-      let busy = busy_of k (agents_of s.ticket) s.number s.mind t (phase_of s.ticket) f in
-      let b = subst (λ (p : Phase). ThoughtFits k (agents_of s.ticket) s.number p s.mind (Some t)) busy f in
-      subst (SharerHasThought k r t) (sym is) record {
-        ticket = h.ticket;
-        thinks = record {
-          belongs = h.belongs;
-          busy = busy;
-          made = h.made;
-          awaits = b.0;
-          lawful = subst (λ (n : ℕ). AreLawful n (agents_of s.ticket) t) (sym h.belongs.right) b.1;
-        };
-        none = refl;
-      }
-
-  pub settled_more : (s m n : Sharer V A D) (t : Thought) (here : Bool) → m ≡ emptied s → s.thought ≡ Some t → GoesOn k r (thinking m.mind t) m n here
-      → GoesOn k r (thinking_of s) s n here
-  settled_more s m n t here is some g =
-      let w = (subst (λ (x : Sharer V A D). GoesOn k r (thinking x.mind t) x n here) is g).went in
-      record {
-        went = record {
-          stays = record { ticket = w.stays.ticket; number = w.stays.number; agent = w.stays.agent; first = w.stays.first };
-          shares = w.shares;
-          none = w.none;
-          way = subst (λ (x : Option Thought). Went k (record { mind = s.mind; thought = x }) (turns_of s.ticket) (turns_of n.ticket) (resting n.mind)) (sym some) w.way;
-        };
-        here_is = g.here_is;
-      }
-
-  pub settled_refused : (s m n : Sharer V A D) (f : DeckFault) → m ≡ emptied s → IsRefused r m n f → IsRefused r s n f
-  settled_refused s m n f is g =
-      let w = subst (λ (x : Sharer V A D). IsRefused r x n f) is g in
-      record { stays = record { ticket = w.stays.ticket; number = w.stays.number; agent = w.stays.agent; first = w.stays.first }; torn = w.torn }
 
   -- ---- a Sense
 
@@ -383,18 +301,9 @@ module _ {V A D : Type 0} (k : Kind V) (r : Recorder A D) where
 
   -- ---- the whole part
 
-  pub rests_then : (s m : Sharer V A D) → GoesOn k r (thinking_of s) s m true → SharerRests k r m
-  rests_then s m g =
-      let w = g.went in
-      let n = not_busy k (agents_of m.ticket) m.number m.mind m.thought (phase_of m.ticket) w.none w.shares.thought in
-      record { shares = w.shares; idle = idle_of k (phase_of m.ticket) n (not_true (is_gone (phase_of m.ticket)) g.here_is) }
-
   pub goes_more : (s m n : Sharer V A D) (here first : Bool) → GoesOn k r (thinking_of s) s m first → GoesOn k r (resting m.mind) m n here
       → GoesOn k r (thinking_of s) s n here
   goes_more s m n here first a b = record {
     went = way_more (thinking_of s) (resting m.mind) s m n a.went.stays a.went.way b.went;
     here_is = b.here_is;
   }
-
-  pub refused_then : (s m n : Sharer V A D) (f : DeckFault) (first : Bool) → GoesOn k r (thinking_of s) s m first → IsRefused r m n f → IsRefused r s n f
-  refused_then s m n f first a b = refused_more s m n f a.went.stays b

@@ -1,34 +1,32 @@
 -- A file that is picked, read and gone on from.
-use Rattle.std.proofs.Common.{◌≡◌, ◌≢◌, ℕ, ◌+◌, ◌<◌, ◌≤◌, ◌⊎◌, inl, inr, true, false, Bool, is_some, Option, Some, None, Result, Ok, Err, IfOk, IfErr, List, [], ◌∷◌, ◌++◌, length, replicate, sym, refl, ap, ◌∙◌, subst, append-nil, arith}
+use Rattle.std.proofs.Common.{◌≡◌, ◌≢◌, ℕ, ◌+◌, ◌<◌, ◌≤◌, ◌⊎◌, inl, inr, true, false, Bool, is_some, Option, Some, None, Ok, IfOk, IfErr, List, [], ◌∷◌, ◌++◌, length, replicate, sym, refl, ap, ◌∙◌, subst, append-nil, arith}
 use Rattle.std.proofs.Common.{bytes_eq}
 use Rattle.std.proofs.lemmas.Bool.{cases_Bool}
 use Rattle.std.proofs.lemmas.Slice.Eq.{bytes_eq-Decides}
 use Rattle.mas_record_disk.specs.declared.disk.DiskFail.{DiskFail}
-use Rattle.mas_record_disk.specs.declared.disk.DiskFail.TheVariants as fail
-use Rattle.mas_record_disk.specs.declared.disk.Picked.{Picked}
 use Rattle.mas_board_lists.specs.Lists.{StartsWith}
 use Rattle.mas_board_lists.proofs.Starts.{starts_refl}
 use Rattle.mas_io.specs.Causes.{Rose}
 use Rattle.mas_record_disk.specs.Disk.{Image, bytes_of, FileState, DiskState}
 use Rattle.mas_record_disk.specs.PastDisk.{IsOnlyNow}
-use Rattle.mas_record_disk.specs.Calls.{name_or_none, picked_file, picked_bytes, GoesOn, IsSameFile, SameBut, made_where_missing, PicksReady, PicksNone, PicksMissing, HasCause}
+use Rattle.mas_record_disk.specs.Calls.{name_or_none, picked_file, picked_bytes, GoesOn, IsSameFile, SameBut, made_where_missing, PicksReady, PicksNone, PicksMissing}
 use Rattle.mas_record_journal.specs.declared.back.BackWhy.{BackWhy}
 use Rattle.mas_record_journal.specs.declared.back.BackWhy.TheVariants as why
 use Rattle.mas_record_journal.specs.Journals.{recovered_image, Recovers}
 use Rattle.mas_record_journal.specs.Moments.{Ran, LeavesOnly}
-use Rattle.mas_record_journal.specs.Kept.{most_bytes, WasOrTells, HasWhy, IsUntouched, IsOpened, IsRefused, CreateWhy, IsCreated, IsNotCreated, Anything, AllRecover}
+use Rattle.mas_record_journal.specs.Kept.{most_bytes, WasOrTells, HasWhy, IsUntouched, IsOpened, IsRefused, IsCreated, IsNotCreated, Anything, AllRecover}
 use Rattle.mas_record_journal.proofs.Steps.{all_recover}
 use Rattle.mas_mind.specs.declared.mind.Thought.{Thought}
 use Rattle.mas_mind.specs.Minds.{Kind}
 use Rattle.mas_board.specs.Boards.{Noted}
 use Rattle.mas_core.specs.Platform.{Platform, run, and_run, turn}
 use Rattle.mas_record.specs.Rule.{RecoversWithin}
-use Rattle.mas_core.specs.Replay.{RanAlong, IsRewound, follow, Followed, Stuck, Came}
-use Rattle.mas_record_run.specs.Faults.{of_back, of_fail}
+use Rattle.mas_core.specs.Replay.{RanAlong, IsRewound, Followed}
+use Rattle.mas_record_run.specs.Faults.{of_back}
 use Rattle.mas_record_run.specs.declared.fault.RecordFault.{RecordFault}
 use Rattle.mas_record_run.specs.declared.fault.RecordFault.TheVariants.{Memory, Disk, Missing, NoHeader, TooLong, Illegal}
 use Rattle.mas_record_run.specs.Runs.{RanOn, RunCause, RecoversFrom, WentOn, Leaves, HasLeft}
-use Rattle.mas_record_run.specs.Records.{RanFrom, GoCause, IsKeptOn, RecordCause, Tells, IsResumed, IsMissing, HasNoHeader, IsTooLong, IsIllegal, ResumeCause, FromTold, IsCrashSafe}
+use Rattle.mas_record_run.specs.Records.{RanFrom, GoCause, IsKeptOn, Tells, IsResumed, IsMissing, HasNoHeader, IsTooLong, IsIllegal, ResumeCause, FromTold, IsCrashSafe}
 
 -- ---- one run after another
 
@@ -66,52 +64,17 @@ module _ {V : Type 0} (k : Kind V) where
   go_cause p turns old new TooLong h = h
   go_cause p turns old new (Illegal place) h = absurd h
 
-came_stuck : {V : Type 0} (p : Platform V) (n : ℕ) → Came p ≡ Stuck n → ⊥
-came_stuck p n e = cc
-
 -- ---- faults
 
 rose_on : (a b c : ℕ) → a ≤ b → Rose b c → Rose a c
 rose_on a b c l r = omega (arith, l, r)
 
-rose_before : (a b c : ℕ) → Rose a b → b ≤ c → Rose a c
-rose_before a b c r l = omega (arith, l, r)
-
 -- ---- a run from the beginning
-
-module _ {V : Type 0} (k : Kind V) where
-  pub record_cause : (p : Platform V) (turns : List ℕ) (s0 s1 s2 e : DiskState) (f : RecordFault) → turns ≡ [] → s0.faults ≤ s1.faults → s1.faults ≤ s2.faults
-      → GoCause k p turns s2 e f → RecordCause s0 e f
-  record_cause p turns s0 s1 s2 e Memory z l m h = tt
-  record_cause p turns s0 s1 s2 e Disk z l m h = rose_on s0.faults s2.faults e.faults (omega (arith, l, m)) h
-  record_cause p turns s0 s1 s2 e Missing z l m h = h
-  record_cause p turns s0 s1 s2 e NoHeader z l m h = h
-  record_cause p turns s0 s1 s2 e TooLong z l m h = h
-  record_cause p turns s0 s1 s2 e (Illegal place) z l m h = came_stuck p place (sym (ap (follow k p 1) z) ∙ h)
-
-pub create_cause : (s0 s1 e : DiskState) (w : BackWhy) → s0.faults ≤ s1.faults → CreateWhy s1 e w → RecordCause s0 e (of_back w)
-create_cause s0 s1 e why.Memory l h = tt
-create_cause s0 s1 e why.Failed l h = rose_on s0.faults s1.faults e.faults l h
-create_cause s0 s1 e why.NoHeader l h = h
-create_cause s0 s1 e why.TooLong l h = h
-
--- a refusal to pick the file
-pub record_fails : (s0 s1 : DiskState) (r : Result Picked DiskFail) (f : DiskFail) → r ≡ Err f → HasCause s0 s1 r → RecordCause s0 s1 (of_fail f)
-record_fails s0 s1 r fail.Memory e h = tt
-record_fails s0 s1 r fail.Failed e h = h e
-
-pub resume_fails : {V : Type 0} (k : Kind V) (p : Platform V) (name : List ℕ) (s0 s1 : DiskState) (r : Result Picked DiskFail) (f : DiskFail) → r ≡ Err f
-    → HasCause s0 s1 r → ResumeCause k p name s0 s1 (of_fail f)
-resume_fails k p name s0 s1 r fail.Memory e h = tt
-resume_fails k p name s0 s1 r fail.Failed e h = h e
 
 none_some : (name : List ℕ) → None ≢ Some name
 none_some name e = cc
 
 -- ---- a disk that went on
-
-went_same : (s : DiskState) → WentOn s s
-went_same s = record { told = refl; counted = omega arith; later = omega arith }
 
 pub went_by : (s0 s1 : DiskState) → GoesOn s0 s1 → WentOn s0 s1
 went_by s0 s1 on = record { told = on.told; counted = on.faults; later = on.moment }
@@ -174,9 +137,6 @@ module _ (name : List ℕ) (s0 s1 : DiskState) (on : GoesOn s0 s1) (p : PicksRea
 
       apart : (m : List ℕ) → bytes_eq name m ≡ false → name ≡ m → ⊥
       apart m o e = cc (sym o ∙ (bytes_eq-Decides name m).1 e)
-
-  pub same_all : s0.told ≡ true → SameBut None s0 s1
-  same_all told m e = same_one told m
 
   picked_is : picked_file s1 ≡ s1.file name
   picked_is = ap (λ (x : Option (List ℕ)). s1.file (name_or_none x)) p.picked

@@ -53,9 +53,6 @@ unseen k e = record { told = told k e; told_room = told_extent k; rises = rises 
 
 -- ---- opening states
 
-replicate_same : (m n : ℕ) → m ≡ n → {X : Type 0} (x : X) → replicate m x ≡ replicate n x
-replicate_same m n e x = ap (λ j. replicate j x) e
-
 -- the whole scripts, with an entry more for one place
 pub scripts_longer : {V : Type 0} (i : ℕ) (e : Option Message) (scripts : List Script) (minds : List (Seated V)) → length scripts ≡ length minds →
     with_scripts (change i (longer e) scripts) minds ≡ change i (given e) (with_scripts scripts minds)

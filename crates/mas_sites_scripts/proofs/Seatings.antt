@@ -1,9 +1,9 @@
 -- Minds and thoughts fit the board when a stand was given an entry.
-use Rattle.std.proofs.Common.{ℕ, ◌≡◌, ◌-◌, inl, inr, List, length, slice_get, slice_set, IfSome, Option, None, Some, ap, sym, ◌∙◌, subst}
+use Rattle.std.proofs.Common.{ℕ, ◌≡◌, ◌-◌, inl, inr, List, length, slice_get, slice_set, Option, None, Some, ap, sym, ◌∙◌, subst}
 use Rattle.mas_mind.specs.declared.mind.Message.{Message}
 use Rattle.mas_mind.specs.declared.mind.Thought.{Thought}
 use Rattle.std.proofs.lemmas.List.{length-set}
-use Rattle.mas_mind.specs.Minds.{Kind, IsAgent, IsFor}
+use Rattle.mas_mind.specs.Minds.{Kind, IsAgent}
 use Rattle.mas_board.specs.declared.seats.Phase.{Phase}
 use Rattle.mas_board.specs.declared.seats.Phase.TheVariants.{Idle, Busy, Left as Gone}
 use Rattle.mas_board.specs.declared.seats.AgentPlace.{AgentPlace}
@@ -60,15 +60,6 @@ fit_given_by k got put from to seats old new thoughts a message h (inr g) =
     subst P (sym g.minds) (fit_fed k seats old.minds thoughts (a - 1) g.entry h)
 
 -- ---- what the calls of a turn ask for
-
-pub knows_place : {V : Type 0} (k : Kind V) (seats : List AgentPlace) (minds : List V) (thoughts : List (Option Thought)) (a : ℕ) → AllFit k seats minds thoughts → IsAgent (length seats) a →
-    IfSome (slice_get minds (a - 1)) (λ m. (k.me m ≡ a) × (k.agents m ≡ length minds))
-knows_place k seats minds thoughts a h j =
-    let r = agent_fits k seats minds thoughts a h j in
-    subst (λ (o : Option _). IfSome o (λ m. (k.me m ≡ a) × (k.agents m ≡ length minds))) (sym r.mind_is) (r.fits.me, r.fits.agents_are ∙ sym h.minds_are)
-
-pub message_for : (n m a : ℕ) (message : Option Message) → n ≡ m → IfSome message (IsFor a n) → IfSome message (IsFor a m)
-message_for n m a message e h = subst (λ x. IfSome message (IsFor a x)) e h
 
 -- as many scripts as minds
 pub given_lengths : {V C : Type 0} (got : C → ℕ → Option Message → C → Type 0) (put : C → Message → C → Type 0) (from to : C) (old new : Placed V) (a : ℕ) (message : Option Message) →

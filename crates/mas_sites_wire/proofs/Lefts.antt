@@ -1,16 +1,14 @@
 -- What is left on wires.
-use Rattle.std.proofs.Common.{ℕ, ◌≡◌, ◌≢◌, ◌+◌, ◌<◌, ◌⊎◌, inl, inr, arith, Bool, true, not, List, [], ◌∷◌, ◌++◌, append_assoc, append-nil, length, map, reverse, slice_get, Some, refl, ap, sym, ◌∙◌, subst}
-use Rattle.std.proofs.lemmas.List.Elements.{All-push}
+use Rattle.std.proofs.Common.{ℕ, ◌≡◌, ◌≢◌, ◌+◌, ◌<◌, ◌⊎◌, inl, inr, arith, Bool, not, List, [], ◌∷◌, ◌++◌, append-nil, length, map, reverse, slice_get, Some, ap, sym, ◌∙◌, subst}
 use Rattle.std.proofs.lemmas.List.{length-map, length-append, length-reverse, reverse-reverse}
 use Rattle.std.proofs.lemmas.Option.{same_Some, slice_get_within}
 use Rattle.mas_mind.specs.declared.mind.Message.{Message}
-use Rattle.mas_mind.specs.Minds.{IsFrom}
 use Rattle.mas_sites_scripts.proofs.Changes.{same_or}
 use Rattle.mas_sites_wire.specs.declared.wire.Log.{Log}
 use Rattle.mas_sites_wire.specs.declared.wire.Wire.{Wire}
 use Rattle.mas_sites_wire.specs.declared.wire.WireEnd.{WireEnd}
 use Rattle.mas_sites_wire.specs.Ends.{IsEndOf, log_of}
-use Rattle.mas_sites_wire.specs.Wires.{whole, with_got, AreFrom, HasGot}
+use Rattle.mas_sites_wire.specs.Wires.{whole, AreFrom}
 use Rattle.mas_sites_wire.specs.Lines.{IsHere, AreHere, others}
 use Rattle.mas_sites_wire.proofs.Calls.{map_get}
 use Rattle.mas_sites_wire.specs.declared.left.WireParts.{WireParts}
@@ -25,24 +23,6 @@ pub record HasLeft (wire : Wire) (end : WireEnd) (sender agents : ℕ) (put got 
   pub log : log_of end ≡ whole sender agents put (got ++ left)
   pub from : AreFrom sender agents left
 
-pub left_first : (wire : Wire) (end : WireEnd) (sender agents : ℕ) (put got : List Message) → IsEndOf wire end → log_of end ≡ whole sender agents put got → AreFrom sender agents [] → HasLeft wire end sender agents put got []
-left_first wire end sender agents put got o l f = record { end_of = o; log = l ∙ ap (whole sender agents put) (sym (append-nil got)); from = f }
-
-pub left_on : (wire : Wire) (old new : WireEnd) (sender agents : ℕ) (put got left more : List Message) (m : Message) → HasLeft wire old sender agents put got left → IsEndOf wire new →
-    HasGot (log_of old) m (log_of new) → more ≡ left ++ m ∷ [] → HasLeft wire new sender agents put got more
-left_on wire old new sender agents put got left more m h o g e =
-    let all : List Message = left ++ m ∷ [] in
-    let from : IsFrom sender agents m = subst (λ (v : Log). IsFrom v.sender v.agents m) h.log g.from in
-    let log : log_of new ≡ whole sender agents put (got ++ all) =
-    g.view ∙ ap (λ v. with_got v m) h.log ∙ ap (whole sender agents put) (append_assoc got left (m ∷ [])) in
-    let P : List Message → Type 0 = λ x. HasLeft wire new sender agents put got x in
-    subst P (sym e) (record { end_of = o; log = log; from = All-push (IsFrom sender agents) left m h.from from })
-
-pub left_all : (wire : Wire) (end : WireEnd) (sender agents : ℕ) (put got left : List Message) → HasLeft wire end sender agents put got left → ((log_of end).puts ≡ true → (log_of end).put ≡ (log_of end).got) →
-    put ≡ got ++ left
-left_all wire end sender agents put got left h e =
-    sym (ap (λ (v : Log). v.put) h.log) ∙ e (ap (λ (v : Log). v.puts) h.log) ∙ ap (λ (v : Log). v.got) h.log
-
 -- ---- wire by wire
 
 -- of the first n
@@ -50,9 +30,6 @@ pub record AreLeftOf (n : ℕ) (here : List Bool) (one two : List Log) (ways : L
   pub number : length ways ≡ n
   pub each : (i : ℕ) (b : Bool) (v w : Log) (way : List Message) → slice_get here i ≡ Some b → slice_get one i ≡ Some v → slice_get two i ≡ Some w →
       slice_get ways i ≡ Some way → IsLeft (length here) (i + 1) b v w way
-
-pub none_left : (here : List Bool) (one two : List Log) → AreLeftOf 0 here one two []
-none_left here one two = record { number = refl; each = λ i b v w way p q r s. cc }
 
 module _ (n : ℕ) (here : List Bool) (one two : List Log) (ways : List (List Message)) (way : List Message) (b : Bool) (v w : Log) (h : AreLeftOf n here one two ways)
     (b_is : slice_get here n ≡ Some b) (v_is : slice_get one n ≡ Some v) (w_is : slice_get two n ≡ Some w) (left : IsLeft (length here) (n + 1) b v w way) where

@@ -58,9 +58,6 @@ pub record AreNew (agents : ℕ) (wires : List Wire) (ends : List WireEnd) (puts
   pub ends_are : length ends ≡ length wires
   pub each : (i : ℕ) (w : Wire) (e : WireEnd) (b : Bool) → slice_get wires i ≡ Some w → slice_get ends i ≡ Some e → slice_get puts i ≡ Some b → IsNew agents (i + 1) w e b
 
-none_new : (agents : ℕ) (puts : List Bool) → AreNew agents [] [] puts
-none_new agents puts = record { ends_are = refl; each = λ i w e b p q r. cc }
-
 module _ (agents i : ℕ) (wires : List Wire) (ends : List WireEnd) (puts : List Bool) (w : Wire) (e : WireEnd) (b : Bool) (n : length wires ≡ i) (h : AreNew agents wires ends puts)
     (is : slice_get puts i ≡ Some b) (new : IsNew agents (i + 1) w e b) where
   each_by : (j : ℕ) (x : Wire) (y : WireEnd) (c : Bool) → slice_get (wires ++ w ∷ []) j ≡ Some x → slice_get (ends ++ e ∷ []) j ≡ Some y → slice_get puts j ≡ Some c → (j ≡ i) ⊎ (j ≢ i) →
@@ -90,11 +87,6 @@ pub record AreParted (agents i : ℕ) (wires : List Wire) (one two : List WireEn
   pub number : length wires ≡ i
   pub one_new : AreNew agents wires one here
   pub two_new : AreNew agents wires two (others here)
-
-pub none_parted : (agents : ℕ) (here : List Bool) (wires : List Wire) (one two : List WireEnd) → wires ≡ [] → one ≡ [] → two ≡ [] → AreParted agents 0 wires one two here
-none_parted agents here wires one two e f g =
-    let P : List Wire × (List WireEnd × List WireEnd) → Type 0 = λ t. AreParted agents 0 t.0 t.1.0 t.1.1 here in
-    subst P (λ k. (sym e k, (sym f k, sym g k))) (record { number = refl; one_new = none_new agents here; two_new = none_new agents (others here) })
 
 one_part : (agents number : ℕ) (w : Wire) (puts gets : WireEnd) (b : Bool) → IsNew agents number w puts true → IsNew agents number w gets false → IsNew agents number w (if b then puts else gets) b
 one_part agents number w puts gets true p q = p

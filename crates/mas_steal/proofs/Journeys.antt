@@ -5,7 +5,7 @@ use Rattle.mas_board_turns.specs.Follows.{resting}
 use Rattle.mas_baton.specs.declared.baton.Baton.{Baton}
 use Rattle.mas_baton.specs.Seats.{IsSeatOf}
 use Rattle.mas_board_lists.specs.Lists.{Each, times, numbers_from}
-use Rattle.mas_board_lists.proofs.Sums.{each_append, each_map}
+use Rattle.mas_board_lists.proofs.Sums.{each_map}
 use Rattle.mas_pool_ready.specs.Rule.{numbers, CameOf}
 use Rattle.mas_pool_task.specs.declared.going.Going.{Going}
 use Rattle.mas_pool_task.specs.Goings.{Became, GoingWent, Stopped}
@@ -140,23 +140,3 @@ module _ {V A : Type 0} (k : Kind V) where
         omega (arith, a.once c));
     each = subst (λ l. Each (EndedOf k l) (goings_of answered)) e (each_on (EndedOf k first) (λ (j : Journey V A). j.going) answered a.ended);
   }
-
--- ---- lists of journeys
-
-module _ {V A : Type 0} where
-  snoc_goings : (js : List (Journey V A)) (j : Journey V A) → goings_of (js ++ j ∷ []) ≡ goings_of js ++ j.going ∷ []
-  snoc_goings [] j = refl
-  snoc_goings (x ∷ js) j = ap (λ l. x.going ∷ l) (snoc_goings js j)
-
-  pub none_set_out : (b : Baton A) (first : List (Going V A)) → AreSetOut b first [] []
-  none_set_out b first = record { are = refl; from = tt }
-
-  pub set_out_more : (b : Baton A) (first goings : List (Going V A)) (js more : List (Journey V A)) (g : Going V A) (j : Journey V A) → AreSetOut b first goings js → j.going ≡ g → IsFrom b first j → more ≡ js ++ j ∷ []
-      → AreSetOut b first (goings ++ g ∷ []) more
-  set_out_more b first goings js more g j s e f m = subst (λ l. AreSetOut b first (goings ++ g ∷ []) l) (sym m) record {
-    are = snoc_goings js j ∙ (λ i. s.are i ++ e i ∷ []);
-    from = each_append (IsFrom b first) js (j ∷ []) s.from (f, tt);
-  }
-
-  pub arrived_more : (goings more : List (Going V A)) (js : List (Journey V A)) (j : Journey V A) → goings ≡ goings_of js → more ≡ goings ++ j.going ∷ [] → more ≡ goings_of (js ++ j ∷ [])
-  arrived_more goings more js j e m = m ∙ ap (λ l. l ++ j.going ∷ []) e ∙ sym (snoc_goings js j)

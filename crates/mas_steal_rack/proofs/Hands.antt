@@ -4,22 +4,18 @@ use Rattle.std.specs.Prelude.{map, slice_index_or}
 use Rattle.crossbeam_deque.specs.Handles.{Pass, view, worker_view}
 use Rattle.mas_steal_rack.specs.declared.rule.DequeView.{DequeView}
 use Rattle.mas_steal_rack.specs.declared.hand.Hand.{Hand}
-use Rattle.mas_steal_rack.specs.declared.hand.Rack.{Rack}
 use Rattle.mas_board_lists.specs.Lists.{Each, times}
 use Rattle.mas_steal_rack.specs.Rule.{Waits, with_put, Found}
 use Rattle.mas_steal_rack.specs.Turns.{MatchTurned, Went, Ended}
 use Rattle.mas_steal_rack.specs.declared.turns.AgentTurned.{AgentTurned}
 use Rattle.mas_steal_rack.specs.declared.turns.AgentTurned.TheVariants.{Again, Ahead, Ended as Done}
-use Rattle.mas_steal_rack.specs.Hands.{IsHandOf, Moved, Took, Settled, Working, Worked, hand_home, own_view, keys_put, keys_got, puts_of, gets_of, listed}
+use Rattle.mas_steal_rack.specs.Hands.{Moved, Took, Settled, Working, Worked, hand_home, own_view, keys_put, keys_got, puts_of, gets_of, listed}
 use Rattle.mas_board_lists.proofs.Sums.{each_append}
 use Rattle.mas_board_lists.proofs.Times.{times_append}
 use Rattle.mas_steal_rack.proofs.Sums.{times_both}
 use Rattle.mas_steal_rack.proofs.Keys.{total_at}
 
 module _ {T H : Type 0} (number : T → ℕ) (home_of : T → H) (is_ready : T → Type 0) where
-  abbrev Handed : Rack T H → Hand T H → Type 0
-  Handed = IsHandOf number home_of is_ready
-
   abbrev Gave : Option T → DequeView H → DequeView H → Type 0
   Gave = Found number home_of is_ready
 
@@ -123,13 +119,7 @@ module _ {T H : Type 0} (number : T → ℕ) (home_of : T → H) (is_ready : T �
     record { place = n.1.place ∙ m.place; home = n.1.home ∙ m.home; kept = n.1.kept ∙ m.kept; counts = λ y. omega (arith, m.counts y, n.1.counts y) },
   )
 
-  pub still : (h : Hand T H) → Moved number h h [] []
-  still h = record { place = refl; home = refl; kept = refl; counts = λ a. refl }
-
   -- of a worker
-
-  pub waits_again : {home : Option H} {x : T} (y : T) → Waits number home_of is_ready home x → home_of y ≡ home_of x → is_ready y → Waits number home_of is_ready home y
-  waits_again y w e r = record { at = w.at ∙ ap Some (sym e); ready = r }
 
   pub settled_home : (r : AgentTurned T) (old new : Hand T H) → Settled number r old new → hand_home new ≡ hand_home old
   settled_home (Again y) old new s = s.home

@@ -1,5 +1,5 @@
 -- Each step keeps the rule of a deque of agents.
-use Rattle.std.proofs.Common.{true≢false, ◌≡◌, ℕ, zero, suc, ◌+◌, ◌<◌, ◌≤◌, Option, Some, List, [], ◌∷◌, ◌++◌, length, set, sym, refl, ap, ◌∙◌, subst, ⊎_elim, inl, inr, arith}
+use Rattle.std.proofs.Common.{true≢false, ◌≡◌, ℕ, zero, suc, ◌+◌, ◌<◌, ◌≤◌, Option, Some, List, [], ◌∷◌, ◌++◌, length, set, sym, refl, ap, ◌∙◌, subst, ⊎_elim, inr, arith}
 use Rattle.std.specs.Prelude.{map, min, IsSome}
 use mathlib.Core.Option.{some, some-injective, some-ne-none}
 use lib.ListN.{get_elem?}
@@ -22,9 +22,6 @@ module _ {T H : Type 0} (number : T → ℕ) (home_of : T → H) (is_ready : T �
 
   first_view : (views : List (DequeView H)) (p : ℕ) (v : DequeView H) → views ≡ blank ∷ [] → get_elem? views p ≡ some v → (p ≡ 0) × (blank ≡ v)
   first_view views p v e at = only_blank p v (ap (λ (l : List (DequeView H)). get_elem? l p) (sym e) ∙ at)
-
-  pub begins : Rule [] (blank ∷ [])
-  begins = inl (refl, refl)
 
   -- a deque with an open pass was opened
   opened : (items : List T) (views : List (DequeView H)) (p : ℕ) (v : DequeView H) → IsOpen v → Rule items views → get_elem? views p ≡ some v → Opened number home_of is_ready items views

@@ -118,11 +118,6 @@ module _ {A : Type 0} (P : A → A → Type 0) where
   changed_all (suc n) (o ∷ olds) [] h e = absurd h
   changed_all (suc n) (o ∷ olds) (w ∷ news) h e = (h.0, changed_all n olds news h.1 (omega arith))
 
--- what stands behind these is at their number
-pub get_behind : {A : Type 0} (xs ys : List A) (x : A) → slice_get (xs ++ x ∷ ys) (length xs) ≡ Some x
-get_behind [] ys x = refl
-get_behind (a ∷ xs) ys x = get_behind xs ys x
-
 pub map_behind : {A B : Type 0} (f : A → B) (xs ys : List A) (x : A) → slice_get (map f (xs ++ x ∷ ys)) (length xs) ≡ Some (f x)
 map_behind f [] ys x = refl
 map_behind f (a ∷ xs) ys x = map_behind f xs ys x

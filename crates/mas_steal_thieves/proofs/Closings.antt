@@ -8,14 +8,14 @@ use Rattle.mas_steal_rack.specs.declared.rule.DequeView.{DequeView}
 use Rattle.mas_steal_rack.specs.declared.hand.Hand.{Hand}
 use Rattle.mas_steal_rack.specs.Racks.{all_kept}
 use Rattle.mas_board_lists.specs.Lists.{Each, total, times}
-use Rattle.mas_steal_rack.specs.Rule.{whole, both_of, IsDry, IsOpen, Waits, Taken}
+use Rattle.mas_steal_rack.specs.Rule.{whole, both_of, Waits, Taken}
 use Rattle.mas_steal_rack.specs.Hands.{keys_put, keys_got}
 use Rattle.mas_board_lists.proofs.Sums.{total_append, each_append, each_left, each_map}
 use Rattle.mas_board_lists.proofs.Times.{times_append}
 use Rattle.mas_pool_ready.proofs.Counts.{each_right}
 use Rattle.mas_steal_rack.proofs.Sums.{times_both}
 use Rattle.mas_steal_rack.proofs.Keys.{total_at}
-use Rattle.mas_steal_thieves.specs.Closing.{Beside, IsOpenOwner, IsWhole, Fit, AllFit, SameOwners, Joins, JoinsAll, owners_put, owners_got, owners_parts, keys_parts, Drains, DrainsAll}
+use Rattle.mas_steal_thieves.specs.Closing.{Beside, IsOpenOwner, IsWhole, Fit, AllFit, SameOwners, Joins, JoinsAll, owners_put, owners_got, owners_parts, keys_parts, Drains}
 
 -- lists
 
@@ -176,12 +176,6 @@ module _ {T H A P : Type 0} (number : T → ℕ) (home_of : T → H) (is_ready :
     pub got : (a : ℕ) → times a (worker_view own).got + times a (map number before) ≡ times a v.got + times a (map number after)
     pub wait : Each (Waits number home_of is_ready v.home) after
 
-  pub draining_first : (own : Worker T A (DequeView H) P) (before : List T) → IsWhole (worker_view own).home own → Each (Waits number home_of is_ready (worker_view own).home) before → Draining (worker_view own) before own before
-  draining_first own before w h = record { whole = w; put = refl; got = λ a. refl; wait = h }
-
-  pub draining_open : (v : DequeView H) (before after : List T) (own : Worker T A (DequeView H) P) → Draining v before own after → IsOpen (worker_view own)
-  draining_open v before after own d = let p = d.whole.parts in record { begun = subst (λ (z : Option H). IsSome z) (sym d.whole.home_is) d.whole.begun; parts = omega arith }
-
   pub draining_goes : (v : DequeView H) (before after more : List T) (own new : Worker T A (DequeView H) P) (x : T) → Draining v before own after → worker_flavor new ≡ worker_flavor own → Taken number home_of is_ready (worker_view own) (x ∷ []) (worker_view new)
       → more ≡ after ++ x ∷ [] → Draining v before new more
   draining_goes v before after more own new x d f t e = subst (λ l. Draining v before new l) (sym e) record {
@@ -198,29 +192,11 @@ module _ {T H A P : Type 0} (number : T → ℕ) (home_of : T → H) (is_ready :
     wait = each_append (Waits number home_of is_ready v.home) after (x ∷ []) d.wait (subst (λ (z : Option H). Waits number home_of is_ready z x) d.whole.home_is t.waits.0, tt);
   }
 
-  pub draining_ends : (v : DequeView H) (before after : List T) (own : Worker T A (DequeView H) P) → Draining v before own after → IsDry (worker_view own) → Drains number v before after
-  draining_ends v before after own d y a =
-      let n = y d.whole.parts a in
-      let p = ap (λ l. times a l) d.put in
-      omega (arith, d.got a)
-
   -- the deques that are still to be emptied, and what is left so far
   pub record DrainingAll (home : Option H) (all rest : List (Worker T A (DequeView H) P)) (left : List T) : Type 0 where
     pub whole : Each (λ (w : Worker T A (DequeView H) P). IsWhole home w) rest
     pub wait : Each (Waits number home_of is_ready home) left
     pub counts : (a : ℕ) → owners_put a all + owners_got a rest ≡ owners_got a all + owners_put a rest + times a (map number left)
-
-  pub drains_first : (home : Option H) (all : List (Worker T A (DequeView H) P)) → Each (λ (w : Worker T A (DequeView H) P). IsWhole home w) all → DrainingAll home all all []
-  drains_first home all w = record { whole = w; wait = tt; counts = λ a. omega arith }
-
-  -- the last owner
-  pub drains_last : (home : Option H) (all before rest : List (Worker T A (DequeView H) P)) (own : Worker T A (DequeView H) P) (left : List T) → DrainingAll home all before left → before ≡ rest ++ own ∷ []
-      → IsWhole (worker_view own).home own × Each (Waits number home_of is_ready (worker_view own).home) left
-  drains_last home all before rest own left d e =
-      let w = (each_right (λ (w : Worker T A (DequeView H) P). IsWhole home w) rest (own ∷ []) (subst (λ l. Each (λ (w : Worker T A (DequeView H) P). IsWhole home w) l) e d.whole)).0 in (
-        record { fifo = w.fifo; home_is = refl; begun = subst (λ (z : Option H). IsSome z) (sym w.home_is) w.begun; parts = w.parts },
-        subst (λ (z : Option H). Each (Waits number home_of is_ready z) left) (sym w.home_is) d.wait,
-      )
 
   pub drains_go : (home : Option H) (all before rest : List (Worker T A (DequeView H) P)) (own : Worker T A (DequeView H) P) (left more : List T) → DrainingAll home all before left → before ≡ rest ++ own ∷ []
       → Each (Waits number home_of is_ready (worker_view own).home) more → Drains number (worker_view own) left more → DrainingAll home all rest more
@@ -235,12 +211,6 @@ module _ {T H A P : Type 0} (number : T → ℕ) (home_of : T → H) (is_ready :
             let g = ap (λ l. owners_got a l) e in
             omega (arith, d.counts a, c a, total_append (λ (x : Worker T A (DequeView H) P). times a (worker_view x).put) rest (own ∷ []), total_append (λ (x : Worker T A (DequeView H) P). times a (worker_view x).got) rest (own ∷ [])));
       }
-
-  pub drains_end : (home : Option H) (all rest : List (Worker T A (DequeView H) P)) (left : List T) → DrainingAll home all rest left → rest ≡ [] → DrainsAll number all left
-  drains_end home all rest left d e a =
-      let p = ap (λ l. owners_put a l) e in
-      let g = ap (λ l. owners_got a l) e in
-      omega (arith, d.counts a)
 
 -- as the calls need them, at a place that is the number of the keys that are left
 

@@ -1,5 +1,5 @@
 -- What cutting keys off the owners' parts keeps true, and the hands that are made of them.
-use Rattle.std.proofs.Common.{Global, length-append, append_assoc, append-nil, ◌≡◌, ℕ, ◌+◌, ◌-◌, ◌<◌, ◌≤◌, Option, Some, List, [], ◌∷◌, ◌++◌, length, set, sym, refl, ap, ◌∙◌, subst, arith}
+use Rattle.std.proofs.Common.{Global, length-append, append_assoc, ◌≡◌, ℕ, ◌+◌, ◌-◌, ◌<◌, ◌≤◌, Option, Some, List, [], ◌∷◌, ◌++◌, length, set, sym, refl, ap, ◌∙◌, subst, arith}
 use Rattle.std.specs.Prelude.{map, IsSome, slice_get, slice_index_or}
 use Rattle.std.specs.declared.vec.Vec.{Vec}
 use Rattle.crossbeam_deque.specs.declared.handles.Worker.{Worker}
@@ -34,9 +34,6 @@ module _ {T H A P : Type 0} where
   pub record Showing (owners : List (Worker T A (DequeView H) P)) (n : ℕ) (doors : List (Stealer T A (DequeView H) P)) : Type 0 where
     pub are : Beside (λ (w : Worker T A (DequeView H) P) (d : Stealer T A (DequeView H) P). IsDoorOf w d) owners doors
     pub number_is : n ≡ length doors
-
-  pub showing_first : (owners : List (Worker T A (DequeView H) P)) → Showing owners 0 []
-  showing_first owners = record { are = tt; number_is = refl }
 
   pub showing_more : (owners : List (Worker T A (DequeView H) P)) (n : ℕ) (doors more : List (Stealer T A (DequeView H) P)) (own : Worker T A (DequeView H) P) (door : Stealer T A (DequeView H) P) → Showing owners n doors → n < length owners
       → own ≡ slice_index_or owners n own → stealer_deque door ≡ worker_deque own → stealer_flavor door ≡ worker_flavor own → more ≡ doors ++ door ∷ [] → Showing owners (n + 1) more
@@ -79,9 +76,6 @@ module _ {T H A P : Type 0} where
     pub cut : Changed (λ (o w : Worker T A (DequeView H) P). Cut 1 o w) n olds owners
     pub keys_are : Beside (λ (w : Worker T A (DequeView H) P) (k : Pass T (DequeView H) A). Off w k) owners keys
     pub number_is : n ≡ length keys
-
-  pub rowing_first : (olds : List (Worker T A (DequeView H) P)) → Rowing olds 0 olds []
-  rowing_first olds = record { cut = refl; keys_are = tt; number_is = refl }
 
   pub rowing_room : (olds : List (Worker T A (DequeView H) P)) (n : ℕ) (owners : List (Worker T A (DequeView H) P)) (keys : List (Pass T (DequeView H) A)) → Rowing olds n owners keys → length owners ≡ length olds
   rowing_room olds n owners keys r = changed_length (λ (o w : Worker T A (DequeView H) P). Cut 1 o w) n olds owners r.cut
@@ -188,15 +182,6 @@ module _ {T H A P : Type 0} where
   all_cut n home olds news e h =
       both_each (λ (o w : Worker T A (DequeView H) P). Cut n o w) (λ (w : Worker T A (DequeView H) P). Has whole home w) (λ (w : Worker T A (DequeView H) P). Has (whole - n) home w) olds news (cut_has n home) e h
 
-  all_can : (n : ℕ) (home : Option H) (owners : List (Worker T A (DequeView H) P)) → n < whole → Each (λ (w : Worker T A (DequeView H) P). Has whole home w) owners → Each (λ (w : Worker T A (DequeView H) P). CanCut n w) owners
-  all_can n home owners l h =
-      each_map (λ (w : Worker T A (DequeView H) P). Has whole home w) (λ (w : Worker T A (DequeView H) P). CanCut n w) owners
-      (λ w f. let p = f.parts_are in record { begun = subst (λ (z : Option H). IsSome z) (sym f.home_is) f.begun; parts = omega arith }) h
-
-  pub dealt_can : (number : T → ℕ) (home_of : T → H) (agents : List T) (workers : ℕ) (owners : List (Worker T A (DequeView H) P)) → AreDealt number home_of agents workers owners → workers ≤ 64
-      → Each (λ (w : Worker T A (DequeView H) P). CanCut workers w) owners
-  dealt_can number home_of agents workers owners d l = all_can workers (first_home home_of agents) owners (omega arith) d.has
-
   -- the keys of a row are keys of the doors
   pub keys_of_doors : (n : ℕ) (home : Option H) (owners : List (Worker T A (DequeView H) P)) (doors : List (Stealer T A (DequeView H) P)) (keys : List (Pass T (DequeView H) A)) → Each (λ (w : Worker T A (DequeView H) P). Has n home w) owners
       → Both (λ (w : Worker T A (DequeView H) P) (d : Stealer T A (DequeView H) P). IsDoorOf w d) owners doors → Both (λ (w : Worker T A (DequeView H) P) (k : Pass T (DequeView H) A). IsCutOff w k) owners keys → Both (IsKeyOf home) doors keys
@@ -229,14 +214,6 @@ module _ {T H : Type 0} where
     pub number_is : length rows ≡ length left
     pub rows_are : Each (λ r. IsRow all r) rows
 
-  pub handing_first : (all : List (Worker T Global (DequeView H) (DequeRule T))) (rows : List (Vec (Pass T (DequeView H) Global) Global)) → length rows ≡ length all → Each (λ r. IsRow all r) rows → Handing all all rows []
-  handing_first all rows n r = record { done = []; all_are = refl; hands_are = tt; number_is = n; rows_are = r }
-
-  -- there is a row for the next one
-  pub handing_none : (all left after : List (Worker T Global (DequeView H) (DequeRule T))) (rows : List (Vec (Pass T (DequeView H) Global) Global)) (hands : List (Hand T H)) (own : Worker T Global (DequeView H) (DequeRule T)) → Handing all left rows hands
-      → left ≡ own ∷ after → rows ≡ [] → ⊥
-  handing_none all left after rows hands own h e z = let n = h.number_is in let l = ap (λ xs. length xs) e in let k = ap (λ xs. length xs) z in omega arith
-
   pub handing_more : (all left after : List (Worker T Global (DequeView H) (DequeRule T))) (rows fewer : List (Vec (Pass T (DequeView H) Global) Global)) (hands more : List (Hand T H)) (own : Worker T Global (DequeView H) (DequeRule T))
       (keys : Vec (Pass T (DequeView H) Global) Global) (hand : Hand T H) → Handing all left rows hands → left ≡ own ∷ after → rows ≡ fewer ++ keys ∷ [] → hand.place ≡ length hands → hand.own ≡ own → hand.keys ≡ keys
       → hand.list.items ≡ [] → hand.kept.items ≡ [] → more ≡ hands ++ hand ∷ [] → Handing all after fewer more
@@ -261,11 +238,6 @@ module _ {T H : Type 0} where
         number_is = let q = h.number_is in let a = ap (λ xs. length xs) e in let b = ap (λ xs. length xs) r in omega (arith, length-append fewer (keys ∷ []));
         rows_are = front.0;
       }
-
-  pub handing_ends : (all left : List (Worker T Global (DequeView H) (DequeRule T))) (rows : List (Vec (Pass T (DequeView H) Global) Global)) (hands : List (Hand T H)) → Handing all left rows hands → left ≡ [] → Both (IsHandFor all) all hands
-  handing_ends all left rows hands h e =
-      let whole : h.done ≡ all = sym (append-nil h.done) ∙ ap (λ xs. h.done ++ xs) (sym e) ∙ sym h.all_are in
-      subst (λ ws. Both (For all) ws hands) whole h.hands_are
 
   hand_put : (a : ℕ) (all owners : List (Worker T Global (DequeView H) (DequeRule T))) (hands : List (Hand T H)) → Both (For all) owners hands → total (puts_of a) hands ≡ owners_put a owners
   hand_put a all [] [] h = refl

@@ -1,6 +1,6 @@
 -- What the opening of a deque keeps true.
-use Rattle.std.proofs.Common.{length-append, zero-mul, suc-mul, mul_comm, set, ◌*◌, ◌≤◌, ◌≡◌, if◌then◌else◌, eq-eqb, ne_eqb, Bool, ℕ, zero, suc, ◌+◌, ◌-◌, ◌<◌, Option, Some, List, [], ◌∷◌, ◌++◌, length, sym, refl, ap, ◌∙◌, subst, arith}
-use Rattle.std.specs.Prelude.{map, drop, IsSome, slice_index_or}
+use Rattle.std.proofs.Common.{length-append, suc-mul, mul_comm, set, ◌*◌, ◌≤◌, ◌≡◌, if◌then◌else◌, eq-eqb, ne_eqb, Bool, ℕ, zero, suc, ◌+◌, ◌-◌, ◌<◌, Option, Some, List, [], ◌∷◌, ◌++◌, length, sym, refl, ap, ◌∙◌, subst, arith}
+use Rattle.std.specs.Prelude.{map, drop, slice_index_or}
 use Rattle.std.specs.Int.{div_ceil, IsNextPowerOfTwo}
 use Rattle.std.proofs.lemmas.Grind.{div_ceil_times}
 use mathlib.Core.Logic.{dite}
@@ -16,7 +16,7 @@ use Rattle.mas_board_lists.proofs.Times.{times_append}
 use Rattle.mas_steal_rack.proofs.Keys.{total_at}
 use Rattle.mas_steal_thieves.proofs.Closings.{each_set, each_get}
 use Rattle.mas_steal_thieves.specs.Closing.{owners_put, owners_got}
-use Rattle.mas_steal_rack.specs.Racks.{first_home, AllWait}
+use Rattle.mas_steal_rack.specs.Racks.{first_home}
 use Rattle.mas_steal_thieves.specs.Opening.{IsStarted, Has, HasRoom, Deals, DealsAll, Opens, AreDealt}
 
 abbrev bit : Bool → ℕ
@@ -62,16 +62,6 @@ module _ {T H : Type 0} (number : T → ℕ) (home_of : T → H) (is_ready : T �
         omega (arith, times_append a v.got (number y ∷ [])));
   }
 
-  some_same : {A : Type 0} (o : Option A) (p q : A) → o ≡ Some p → o ≡ Some q → p ≡ q
-  some_same o p q d e = cc
-
-  pub went : (x y : T) (v w : DequeView H) → v ≡ with_put number home_of blank (x ∷ []) → Taken number home_of is_ready v (y ∷ []) w → Went number home_of is_ready x y
-  went x y v w e t = record {
-    same = sym (same_number x y v w e t);
-    home = some_same v.home (home_of y) (home_of x) t.waits.0.at (ap (λ (u : DequeView H). u.home) e);
-    ready = t.waits.0.ready;
-  }
-
 module _ {T H A P : Type 0} (number : T → ℕ) (home_of : T → H) (is_ready : T → Type 0) where
   -- after some of a block: the deque, the rest, and how many more may come
   pub record Dealing (block : ℕ) (old : Worker T A (DequeView H) P) (before : List T) (dealt : ℕ) (own : Worker T A (DequeView H) P) (rest : List T) : Type 0 where
@@ -81,17 +71,6 @@ module _ {T H A P : Type 0} (number : T → ℕ) (home_of : T → H) (is_ready :
     pub counts : (a : ℕ) → times a (worker_view own).put + times a (map number rest) ≡ times a (worker_view old).put + times a (map number before)
     pub got : (worker_view own).got ≡ (worker_view old).got
     pub left : length rest ≡ length before - dealt
-
-  pub dealing_first : (block : ℕ) (own : Worker T A (DequeView H) P) (rest : List T) → Has whole (worker_view own).home own → HasRoom block own → Each (Waits number home_of is_ready (worker_view own).home) rest → Dealing block own rest 0 own rest
-  dealing_first block own rest h r w = record { has = h; wait = w; room = omega (arith, r); counts = λ a. refl; got = refl; left = omega arith }
-
-  pub dealing_open : (block : ℕ) (old : Worker T A (DequeView H) P) (before : List T) (dealt : ℕ) (own : Worker T A (DequeView H) P) (rest : List T) → Dealing block old before dealt own rest → IsOpen (worker_view own)
-  dealing_open block old before dealt own rest d = let p = d.has.parts_are in record { begun = subst (λ (z : Option H). IsSome z) (sym d.has.home_is) d.has.begun; parts = omega arith }
-
-  pub dealing_waits : (block : ℕ) (old : Worker T A (DequeView H) P) (before : List T) (dealt : ℕ) (own : Worker T A (DequeView H) P) (rest after : List T) (x : T) → Dealing block old before dealt own rest → rest ≡ x ∷ after
-      → Waits number home_of is_ready (worker_view own).home x
-  dealing_waits block old before dealt own rest after x d e =
-      subst (λ (z : Option H). Waits number home_of is_ready z x) (sym d.has.home_is) (subst (λ l. Each (Waits number home_of is_ready (worker_view old).home) l) e d.wait).0
 
   pub dealing_goes : (block : ℕ) (old : Worker T A (DequeView H) P) (before : List T) (dealt : ℕ) (own new : Worker T A (DequeView H) P) (rest after : List T) (x : T) → Dealing block old before dealt own rest → rest ≡ x ∷ after → dealt < block
       → SameWorker own new → worker_view new ≡ with_put number home_of (worker_view own) (x ∷ []) → worker_index new ≡ worker_index own + 1 → Dealing block old before (dealt + 1) new after
@@ -117,12 +96,6 @@ module _ {T H A P : Type 0} (number : T → ℕ) (home_of : T → H) (is_ready :
         got = ap (λ (u : DequeView H). u.got) v ∙ d.got;
         left = omega arith;
       }
-
-  pub dealing_ends : (block : ℕ) (old : Worker T A (DequeView H) P) (before : List T) (own : Worker T A (DequeView H) P) (rest : List T) → Dealing block old before block own rest → Deals number block old own before rest
-  dealing_ends block old before own rest d = record { counts = d.counts; got = d.got; left = d.left }
-
-  pub dealing_stops : (block : ℕ) (old : Worker T A (DequeView H) P) (before : List T) (dealt : ℕ) (own : Worker T A (DequeView H) P) (rest : List T) → Dealing block old before dealt own rest → rest ≡ [] → dealt ≤ block → Deals number block old own before rest
-  dealing_stops block old before dealt own rest d e l = record { counts = d.counts; got = d.got; left = let n = ap (λ l. length l) e in let m = d.left in omega arith }
 
 -- lists from a place on
 
@@ -155,20 +128,6 @@ module _ {T H A P : Type 0} (number : T → ℕ) (home_of : T → H) (is_ready :
     pub number_is : length owners ≡ length olds
     pub left : length rest ≡ length before - dealt * block
 
-  pub blocks_first : (home : Option H) (block : ℕ) (olds : List (Worker T A (DequeView H) P)) (before : List T) → Each (λ (w : Worker T A (DequeView H) P). Has whole home w) olds → Each (λ (w : Worker T A (DequeView H) P). HasRoom block w) olds
-      → Each (Waits number home_of is_ready home) before → DealingAll home block olds before 0 olds before
-  blocks_first home block olds before h r w = record { has = h; room = r; wait = w; counts = λ a. refl; got = λ a. refl; number_is = refl; left = let z = zero-mul block in omega arith }
-
-  pub blocks_here : (home : Option H) (block : ℕ) (olds : List (Worker T A (DequeView H) P)) (before : List T) (dealt : ℕ) (owners : List (Worker T A (DequeView H) P)) (rest : List T) (own : Worker T A (DequeView H) P)
-      → DealingAll home block olds before dealt owners rest → dealt < length owners → own ≡ slice_index_or owners dealt own
-      → Has whole (worker_view own).home own × HasRoom block own × Each (Waits number home_of is_ready (worker_view own).home) rest
-  blocks_here home block olds before dealt owners rest own d l e =
-      let h = each_get (λ (w : Worker T A (DequeView H) P). Has whole home w) owners dealt own l e d.has in (
-        record { fifo = h.fifo; home_is = refl; begun = subst (λ (z : Option H). IsSome z) (sym h.home_is) h.begun; parts_are = h.parts_are },
-        (each_here (λ (w : Worker T A (DequeView H) P). HasRoom block w) owners dealt own l e d.room).0,
-        subst (λ (z : Option H). Each (Waits number home_of is_ready z) rest) (sym h.home_is) d.wait,
-      )
-
   pub blocks_go : (home : Option H) (block : ℕ) (olds : List (Worker T A (DequeView H) P)) (before : List T) (dealt : ℕ) (owners after : List (Worker T A (DequeView H) P)) (rest more : List T) (own new : Worker T A (DequeView H) P)
       → DealingAll home block olds before dealt owners rest → dealt < length owners → own ≡ slice_index_or owners dealt own → Has whole (worker_view own).home new → Each (Waits number home_of is_ready (worker_view own).home) more
       → Deals number block own new rest more → after ≡ set owners dealt new → DealingAll home block olds before (dealt + 1) after more
@@ -187,10 +146,6 @@ module _ {T H A P : Type 0} (number : T → ℕ) (home_of : T → H) (is_ready :
         number_is = length_set_same owners dealt new ∙ d.number_is;
         left = let k = d.left in let m = s.left in let b = ap (λ k. k * block) (sym (plus_one dealt)) ∙ suc-mul dealt block in omega arith;
       }
-
-  pub blocks_end : (home : Option H) (block : ℕ) (olds : List (Worker T A (DequeView H) P)) (before : List T) (dealt : ℕ) (owners : List (Worker T A (DequeView H) P)) (rest : List T) → DealingAll home block olds before dealt owners rest
-      → dealt ≡ length olds → DealsAll number block olds owners before rest
-  blocks_end home block olds before dealt owners rest d e = record { counts = d.counts; got = d.got; number_is = d.number_is; left = d.left ∙ ap (λ n. length before - n * block) e }
 
 module _ {T H A P : Type 0} where
   pub opens_first : (home : Option H) (block : ℕ) (owners : List (Worker T A (DequeView H) P)) → owners ≡ [] → Opens home 0 block owners
@@ -238,17 +193,6 @@ module _ {T H : Type 0} (number : T → ℕ) (home_of : T → H) (is_ready : T �
   -- the first agent, with which the deques were opened, stands first again
   pub again_home : (agents rest again : List T) (x y : T) → agents ≡ x ∷ rest → again ≡ y ∷ rest → Went number home_of is_ready x y → first_home home_of again ≡ first_home home_of agents
   again_home agents rest again x y e f w = ap (first_home home_of) f ∙ ap Some w.home ∙ sym (ap (first_home home_of) e)
-
-  pub again_waits : (agents rest again : List T) (x y : T) → agents ≡ x ∷ rest → again ≡ y ∷ rest → Went number home_of is_ready x y → AllWait number home_of is_ready agents → AllWait number home_of is_ready again
-  again_waits agents rest again x y e f w a =
-      let k : AllWait number home_of is_ready (x ∷ rest) = subst (AllWait number home_of is_ready) e a in
-      subst (AllWait number home_of is_ready) (sym f) (
-        record { at = refl; ready = w.ready },
-        subst (λ (z : Option H). Each (Waits number home_of is_ready z) rest) (ap Some (sym w.home)) k.1,
-      )
-
-  pub again_ready : (agents rest : List T) (x : T) → agents ≡ x ∷ rest → AllWait number home_of is_ready agents → is_ready x
-  again_ready agents rest x e a = (subst (AllWait number home_of is_ready) e a).0.ready
 
   -- as many blocks hold all
   none_left : (n left workers block : ℕ) → 0 < workers → block ≡ div_ceil n workers → left ≡ n - workers * block → left ≡ 0

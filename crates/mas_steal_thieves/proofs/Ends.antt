@@ -1,12 +1,11 @@
 -- What one worker keeps true that ends the agents that are left.
-use Rattle.std.proofs.Common.{◌≡◌, ℕ, ◌+◌, Option, Some, List, [], ◌∷◌, ◌++◌, sym, refl, ap, ◌∙◌, subst, arith}
+use Rattle.std.proofs.Common.{◌≡◌, ℕ, ◌+◌, Option, Some, List, [], ◌∷◌, ◌++◌, sym, ap, ◌∙◌, subst, arith}
 use Rattle.std.specs.Prelude.{map}
 use Rattle.mas_board_lists.specs.Lists.{Each, times}
 use Rattle.mas_steal_rack.specs.Rule.{Waits}
 use Rattle.mas_steal_rack.specs.Turns.{Went, Ended}
 use Rattle.mas_board_lists.proofs.Sums.{each_append}
 use Rattle.mas_steal_rack.proofs.Sums.{times_both}
-use Rattle.mas_steal_thieves.specs.Running.{Adds}
 
 module _ {T H : Type 0} (number : T → ℕ) (home_of : T → H) (is_ready has_ended : T → Type 0) where
   -- between two turns: what waits and what was kept
@@ -14,9 +13,6 @@ module _ {T H : Type 0} (number : T → ℕ) (home_of : T → H) (is_ready has_e
     pub wait : Each (Waits number home_of is_ready home) left
     pub ended : Each has_ended kept
     pub counts : (a : ℕ) → times a (map number kept) + times a (map number left) ≡ times a (map number kept0) + times a (map number left0)
-
-  pub ending_first : (home : Option H) (kept left : List T) → Each (Waits number home_of is_ready home) left → Each has_ended kept → Ending home kept left kept left
-  ending_first home kept left w e = record { wait = w; ended = e; counts = λ a. refl }
 
   -- an agent waits again
   pub ending_again : (home : Option H) (kept0 left0 kept left before after : List T) (x y : T) → Ending home kept0 left0 kept before → before ≡ x ∷ left → Went number home_of is_ready x y → after ≡ left ++ y ∷ [] → Ending home kept0 left0 kept after
@@ -37,7 +33,3 @@ module _ {T H : Type 0} (number : T → ℕ) (home_of : T → H) (is_ready has_e
         ended = each_append has_ended kept (y ∷ []) k.ended (w.ended, tt);
         counts = λ a. (let n = ap (λ (i : ℕ). times a (i ∷ [])) w.same in omega (arith, times_both a number kept (y ∷ []), k.counts a));
       }
-
-  -- none is left
-  pub ending_ends : (home : Option H) (kept0 left0 kept left : List T) → Ending home kept0 left0 kept left → left ≡ [] → Adds number kept0 left0 kept
-  ending_ends home kept0 left0 kept left g e a = let n = ap (λ l. times a (map number l)) e in omega (arith, g.counts a)

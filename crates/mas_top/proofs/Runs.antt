@@ -15,9 +15,6 @@ use Rattle.mas_top.specs.Headline.{IsRunReport}
 use Rattle.mas_top.specs.Playing.{IsReplayed}
 use Rattle.mas_top.specs.Ways.{alone, shared, way_of, IsScheduled}
 
-true_false : true ≡ false → ⊥
-true_false e = cc
-
 few : (s : boards.State) → IsSound s → length s.seats ≤ 65535
 few s h = let l = h.limits.few in omega arith
 

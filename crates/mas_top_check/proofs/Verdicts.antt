@@ -40,9 +40,6 @@ past source o within e f h = let t = f h.within in absurd cc
 pub many : (o : Options) (within : Bool) → within ≡ true → (within ≡ true → IsWithin o) → o.cycles ≤ 1000000
 many o within t f = (f t).cycles.1
 
-pub allowed_within : (source : Source) (o : Options) → Decided (IsAllowed source o) true → IsWithin o
-allowed_within source o a = a.within
-
 -- ---- bytes that tell nothing, or what is not allowed
 
 pub shows_none : (objects : List Used) (source : Source) (bytes : List ℕ) → ShowsNothing bytes → IsOwn objects source bytes → ⊥

@@ -14,10 +14,6 @@ or_true : (b : Bool) → (b || true) ≡ true
 or_true true = refl
 or_true false = refl
 
-or_false : (b : Bool) → (b || false) ≡ b
-or_false true = refl
-or_false false = refl
-
 any_last : (bs : List ℕ) (b : ℕ) → nat_eq 47 b ≡ false → list_any (nat_eq 47) (bs ++ b ∷ []) ≡ list_any (nat_eq 47) bs
 any_last [] b e = ap (λ x. x || false) e
 any_last (x ∷ bs) b e = ap (λ y. nat_eq 47 x || y) (any_last bs b e)

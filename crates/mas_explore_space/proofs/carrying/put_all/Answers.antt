@@ -1,6 +1,6 @@
 use Rattle.std.proofs.Common.{List, [], ◌∷◌, subst}
 use Rattle.mas_explore_space.specs.Held.{start_of}
-use Rattle.mas_explore_space.proofs.Posts.{puts_none, next_sent, puts_on, puts_done}
+use Rattle.mas_explore_space.proofs.Posts.{puts_none, next_sent, puts_on}
 use Rattle.mas_explore_space.proofs.carrying.put_all.Goals as goal
 
 pub loop-m-init : goal.loop-m-init
