@@ -1,5 +1,5 @@
 -- The seats come back.
-use Rattle.std.proofs.Common.{◌≡◌, ℕ, suc, ◌+◌, Some, None, List, [], ◌∷◌, ◌++◌, length, sym, ap, ◌∙◌, subst, refl, length-append, append_assoc, append-nil, arith}
+use Rattle.std.proofs.Common.{◌≡◌, ℕ, suc, ◌+◌, Some, List, [], ◌∷◌, ◌++◌, length, sym, ap, ◌∙◌, subst, refl, length-append, append_assoc, arith}
 use Rattle.std.specs.Prelude.{remove, slice_get}
 use Rattle.std.proofs.lemmas.Option.{same_Some}
 use Rattle.crossbeam_queue.specs.Fifo.{Merges, Pops, Learns}
@@ -50,12 +50,6 @@ module _ {A : Type 0} where
       is = d ∙ ap (λ (u : SideView). both_of u (known s)) h.is;
       seats = last.0;
     }
-
-  pub gather_first : (b : Baton A) (p : Pass Noted SideView) (ss : List (Seat A)) → IsPassOf b.line p → Each (IsSeatOf b) ss → Gathering b (view p) ss p ss
-  gather_first b p ss i h = record { pass = i; done = []; whole = sym (append-nil ss); is = refl; seats = h }
-
-  pub gather_last : (b : Baton A) (v : SideView) (all left : List (Seat A)) (p : Pass Noted SideView) → Gathering b v all p left → left ≡ [] → view p ≡ joined v all
-  gather_last b v all left p h e = h.is ∙ ap (joined v) (sym (h.whole ∙ ap (λ (l : List (Seat A)). l ++ h.done) e))
 
   -- ---- with all seats the view is whole
 
@@ -129,10 +123,6 @@ module _ {A : Type 0} where
       let k = subst (AllBack b) e h in
       let t = k.each.0.seat in
       record { is = e; pass = t.pass; gathers = record { started = t.sits.started; free = t.sits.held; some = seated t.sits }; others = each_back b 2 rest k.each.1 }
-
-  pub some_there : (b : Baton A) (ss : List (Seat A)) → AllBack b ss → slice_get ss 0 ≡ None → ⊥
-  some_there b [] h e = let l = h.some in omega arith
-  some_there b (s ∷ ss) h e = cc
 
   pub close_pops : (b : Baton A) (ss rest : List (Seat A)) (s : Seat A) (p : ℕ) (v : SideView) → AllBack b ss → Head b ss rest s → v ≡ joined (known s) rest →
       Pops (Holds showing) p v (λ x w. Told showing v x) × Learns (Holds showing) p v (λ items. length items ≡ 1)

@@ -1,19 +1,18 @@
 -- What the calls tell of an exchange, put together.
-use Rattle.std.proofs.Common.{◌≡◌, ℕ, false, Option, Some, None, Result, Ok, Err, IfOk, OnErr, List, [], ◌∷◌, ◌++◌, cond, length, sym, ap, ◌∙◌, subst, append-nil, arith}
+use Rattle.std.proofs.Common.{◌≡◌, ℕ, false, Option, Some, None, Result, Ok, Err, IfOk, List, [], ◌∷◌, ◌++◌, cond, sym, ap, ◌∙◌, subst, append-nil, arith}
 use Rattle.std.specs.Option.{option_to_list}
 use Rattle.asl_term.specs.declared.sequence.Starved.{Starved}
-use Rattle.mas_board_lists.specs.Lists.{StartsWith, Each, times}
+use Rattle.mas_board_lists.specs.Lists.{StartsWith, times}
 use Rattle.mas_mind.specs.declared.mind.Outs.{Outs}
 use Rattle.mas_mind.specs.declared.mind.Feedback.{Feedback}
 use Rattle.mas_mind.specs.declared.mind.End.TheVariants.{Budget}
-use Rattle.mas_mind.specs.Minds.{AreOuts}
 use Rattle.mas_board.specs.declared.seats.Phase.{Phase}
 use Rattle.mas_board.specs.declared.seats.Phase.TheVariants.{Idle, Busy}
 use Rattle.mas_board.specs.declared.seats.Sensed.{Sensed}
 use Rattle.mas_board.specs.declared.seats.Sensed.TheVariants as answer
 use Rattle.mas_board.specs.Boards as board
-use Rattle.mas_board.specs.Boards.{State, Noted}
-use Rattle.mas_board.specs.Seating.{IsAt, HasSensed, SenseLeaves, HasEmitted, HasLeft, IsInputFor, halt}
+use Rattle.mas_board.specs.Boards.{Noted}
+use Rattle.mas_board.specs.Seating.{IsAt, HasSensed, SenseLeaves, HasEmitted, HasLeft, IsInputFor}
 use Rattle.mas_board_turns.specs.declared.turn.Turn.{Turn}
 use Rattle.mas_board_turns.specs.declared.turn.Turn.TheVariants as turn
 use Rattle.mas_board_turns.specs.Turns.{phase_after}
@@ -21,33 +20,9 @@ use Rattle.mas_board_turns.specs.Answers.{sensed, made_by_sense, made_by_emit}
 use Rattle.mas_board_turns.specs.declared.view.SideView.{SideView}
 use Rattle.mas_board_turns.specs.Views.{Turns, noted}
 use Rattle.mas_board_turns.specs.Steps.{of_first, Sits, Made, Stands, took, gave}
-use Rattle.mas_board_turns.specs.Rule.{Taken}
 use Rattle.mas_baton.specs.declared.seat.Seat.{Seat}
-use Rattle.mas_baton.specs.Rule.{showing, IsFresh}
-use Rattle.mas_baton.specs.Seats.{known, turns_of, first_of, met_by, phase_of, agents_of, Met, Exchanged, SenseExchanged, GivenIf, EmitExchanged, LeaveExchanged, HaltExchanged, NothingExchanged}
-
--- ---- what a taking tells
-
-alone : (first board : State) (a : ℕ) (es : Turns) → es ≡ (a, of_first es) ∷ [] → Each (Stands first board) es → Stands first board (a, of_first es)
-alone first board a es e h = (subst (Each (Stands first board)) e h).0
-
-module _ {A : Type 0} where
-  pub met_is : (old new : Seat A) (x : Noted) → Sits old.number false (known old) → new.number ≡ old.number → Taken showing (known old) x (known new) → Met old new x
-  met_is old new x s n t = record {
-    number = n;
-    goes_on = t.sees;
-    stands = alone (first_of old).state x.state old.number (known old).turns s.turns t.stands;
-    latest = (subst (Each (λ (e : ℕ × List Turn). times e.0 x.schedule ≡ times e.0 (known old).seen)) s.turns t.latest).0;
-    taken = t.is;
-  }
-
-  -- the same, where the call began with this seat
-  pub met_from : (old mid new : Seat A) (x : Noted) → Sits mid.number false (known mid) → mid.number ≡ old.number → known mid ≡ known old → new.number ≡ mid.number →
-      Taken showing (known mid) x (known new) → Met old new x
-  met_from old mid new x s m k n t =
-      let h = subst (λ (v : SideView). Taken showing v x (known new)) k t in
-      let i = subst (λ (u : ℕ × SideView). Sits u.0 false u.1) (λ j. (m j, k j)) s in
-      met_is old new x i (n ∙ m) h
+use Rattle.mas_baton.specs.Rule.{IsFresh}
+use Rattle.mas_baton.specs.Seats.{known, turns_of, first_of, met_by, phase_of, Met, Exchanged, SenseExchanged, GivenIf, EmitExchanged, LeaveExchanged}
 
 -- ---- an exchange
 
@@ -85,10 +60,6 @@ sense_made a (answer.Left e) x y at h l = ((at, h.state ∙ ap (λ b. cond b (an
 sense_made a (answer.Ahead c n) x y at h l = (ap (λ (b : Noted). b.state) l.1, ap (λ (b : Noted). b.schedule) l.1)
 sense_made a answer.Halted x y at h l = (ap (λ (b : Noted). b.state) l.1, ap (λ (b : Noted). b.schedule) l.1)
 
-pub sense_makes : (a : ℕ) (r : Result Sensed Starved) (x y : Noted) → IsAt x.state a Idle → IfOk r (HasSensed x y a) → IfOk r (SenseLeaves x y a) → OnErr r (y ≡ x) → Made (made_by_sense r) x a y
-sense_makes a (Ok s) x y at h l e = sense_made a s x y at h l
-sense_makes a (Err r) x y at h l e = (ap (λ (b : Noted). b.state) e, ap (λ (b : Noted). b.schedule) e)
-
 module _ {A : Type 0} (old mid new : Seat A) (x y : Noted) (sits : Sits old.number false (known old)) (m : Met old mid x) (n : new.number ≡ mid.number) where
   given_if : (s : Sensed) → IsFresh (first_of old) → SenseLeaves x y old.number s → GivenIf old s
   given_if (answer.Input i) f l = record {
@@ -115,18 +86,6 @@ module _ {A : Type 0} (old mid new : Seat A) (x y : Noted) (sits : Sits old.numb
       }
   sense_exchanged (Err r) at h l g = tt
 
-  -- nothing came of it
-  pub nothing : y ≡ x → known new ≡ gave None (known mid) y → NothingExchanged old new
-  nothing e g = record {
-    after = y;
-    exchanged = exchanged old mid new x y None m n g sits (ap (λ (b : Noted). b.state) e, ap (λ (b : Noted). b.schedule) e);
-    same = e ∙ sym (met_again old mid new x y None m n g);
-  }
-
-  pub sense_refused : (r : Result Sensed Starved) → OnErr r (y ≡ x) → known new ≡ gave (made_by_sense r) (known mid) y → OnErr r (NothingExchanged old new)
-  sense_refused (Ok s) e g = tt
-  sense_refused (Err r) e g = nothing e g
-
   -- ---- an Emit
 
   pub emit_exchanged : (outs : Outs) (r : Result (Option Feedback) Starved) → IsAt x.state old.number Busy → IfOk r (HasEmitted x y old.number outs) → known new ≡ gave (made_by_emit outs r) (known mid) y →
@@ -140,10 +99,6 @@ module _ {A : Type 0} (old mid new : Seat A) (x y : Noted) (sits : Sits old.numb
       }
   emit_exchanged outs (Err r) at h g = tt
 
-  pub emit_refused : (outs : Outs) (r : Result (Option Feedback) Starved) → OnErr r (y ≡ x) → known new ≡ gave (made_by_emit outs r) (known mid) y → OnErr r (NothingExchanged old new)
-  emit_refused outs (Ok f) e g = tt
-  emit_refused outs (Err r) e g = nothing e g
-
   -- ---- a Leave and a halt
 
   pub leave_exchanged : IsAt x.state old.number Busy → HasLeft x y old.number Budget → known new ≡ gave (Some turn.Gone) (known mid) y → LeaveExchanged old new
@@ -153,17 +108,6 @@ module _ {A : Type 0} (old mid new : Seat A) (x y : Noted) (sits : Sits old.numb
     answered = subst (λ (b : Noted). HasLeft b y old.number Budget) (sym (met_again old mid new x y (Some turn.Gone) m n g)) h;
   }
 
-  pub halt_exchanged : y ≡ halt x → known new ≡ gave None (known mid) y → HaltExchanged old new
-  halt_exchanged e g = record {
-    after = y;
-    exchanged = exchanged old mid new x y None m n g sits (ap (λ (b : Noted). b.state) e, ap (λ (b : Noted). b.schedule) e);
-    answered = e ∙ ap halt (sym (met_again old mid new x y None m n g));
-  }
-
-pub emit_makes : (a : ℕ) (outs : Outs) (r : Result (Option Feedback) Starved) (x y : Noted) → IsAt x.state a Busy → IfOk r (HasEmitted x y a outs) → OnErr r (y ≡ x) → Made (made_by_emit outs r) x a y
-emit_makes a outs (Ok f) x y at h e = ((at, h.state), h.schedule)
-emit_makes a outs (Err r) x y at h e = (ap (λ (b : Noted). b.state) e, ap (λ (b : Noted). b.schedule) e)
-
 -- ---- as the calls need it, for the number that the seat has once the board is taken
 
 module _ {A : Type 0} (old mid : Seat A) (x : Noted) (m : Met old mid x) where
@@ -171,12 +115,6 @@ module _ {A : Type 0} (old mid : Seat A) (x : Noted) (m : Met old mid x) where
   at_phase p f e =
       let q = ap (λ (r : Phase). phase_after r (turns_of old)) (f.idle old.number) ∙ e in
       subst (λ (n : ℕ × Phase). IsAt x.state n.0 n.1) (λ i. (sym m.number i, q i)) m.stands.at
-
-  pub are_outs : (outs : Outs) → AreOuts old.number (agents_of old) outs → AreOuts mid.number (length x.state.seats) outs
-  are_outs outs h = subst (λ (n : ℕ × ℕ). AreOuts n.0 n.1 outs) (λ i. (sym m.number i, sym m.stands.agents i)) h
-
-  pub made_again : (y : Noted) (made : Option Turn) → Made made x mid.number y → Made made (met_by mid) mid.number y
-  made_again y made h = subst (λ (b : Noted). Made made b mid.number y) (sym (ap (λ (v : SideView). v.met) m.taken)) h
 
   module _ (new : Seat A) (y : Noted) (sits : Sits old.number false (known old)) (f : IsFresh (first_of old)) (n : new.number ≡ mid.number) where
     pub told_sense : (r : Result Sensed Starved) → phase_of old ≡ Idle → IfOk r (HasSensed x y mid.number) → IfOk r (SenseLeaves x y mid.number) → known new ≡ gave (made_by_sense r) (known mid) y →
@@ -194,9 +132,3 @@ module _ {A : Type 0} (old mid : Seat A) (x : Noted) (m : Met old mid x) where
 
     pub told_leave : phase_of old ≡ Busy → HasLeft x y mid.number Budget → known new ≡ gave (Some turn.Gone) (known mid) y → LeaveExchanged old new
     told_leave e h g = leave_exchanged old mid new x y sits m n (subst (λ (k : ℕ). IsAt x.state k Busy) m.number (at_phase Busy f e)) (subst (λ (k : ℕ). HasLeft x y k Budget) m.number h) g
-
-pub leave_makes : (a : ℕ) (x y : Noted) → IsAt x.state a Busy → HasLeft x y a Budget → Made (Some turn.Gone) x a y
-leave_makes a x y at h = ((at, h.state), h.schedule)
-
-pub halt_makes : (a : ℕ) (x y : Noted) → y ≡ halt x → Made None x a y
-halt_makes a x y e = (ap (λ (b : Noted). b.state) e, ap (λ (b : Noted). b.schedule) e)

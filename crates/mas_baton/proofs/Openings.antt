@@ -15,7 +15,7 @@ use Rattle.mas_board_turns.proofs.Takes.{opens}
 use Rattle.mas_baton.specs.declared.baton.Baton.{Baton}
 use Rattle.mas_baton.specs.declared.seat.Seat.{Seat}
 use Rattle.mas_baton.specs.Rule.{showing, IsFresh}
-use Rattle.mas_baton.specs.Seats.{IsNew, Opened}
+use Rattle.mas_baton.specs.Seats.{IsNew}
 use Rattle.mas_baton.specs.Gathering.{Handing}
 
 none_there : (n i : ℕ) → seat_or_none (slice_get (replicate n no_seat) i) ≡ no_seat
@@ -82,6 +82,3 @@ module _ {A : Type 0} (b : Baton A) (board : Noted) where
     count = (let c = o.count in let n = length-append seats (record { number = suc k; pass = one } ∷ []) in omega arith);
     made = row_push (IsNew b board) 1 (suc k) seats (record { number = suc k; pass = one }) o.made (let c = o.count in omega arith) (new_seat k p one seats o l i d);
   }
-
-  pub all_opened : (n : ℕ) (p : Pass Noted SideView) (seats : List (Seat A)) → Handing b board n p seats → n ≡ length board.state.seats → Opened board b seats
-  all_opened n p seats o e = record { count = o.count ∙ e; each = o.made }

@@ -1,5 +1,5 @@
 -- The tickets come back.
-use Rattle.std.proofs.Common.{◌≡◌, ℕ, suc, ◌+◌, Some, None, List, [], ◌∷◌, ◌++◌, length, sym, ap, ◌∙◌, subst, refl, length-append, append_assoc, append-nil}
+use Rattle.std.proofs.Common.{◌≡◌, ℕ, suc, ◌+◌, Some, List, [], ◌∷◌, ◌++◌, length, sym, ap, ◌∙◌, subst, refl, length-append, append_assoc}
 use Rattle.std.proofs.Common.{arith}
 use Rattle.std.specs.Prelude.{remove, slice_get}
 use Rattle.std.proofs.lemmas.Option.{same_Some}
@@ -63,14 +63,6 @@ module _ {A D : Type 0} (state : D → DiskState) where
       is = d ∙ ap (λ (u : DeckView D). both_of u (knows s)) h.is;
       tickets = last.0;
     }
-
-  pub gather_first : (b : Recorder A D) (p : Pass (Deck A D) (DeckView D)) (ss : List (Ticket A D)) → IsPassOf b.line p → Each (IsTicketOf b) ss
-      → Gathering b (view p) ss p ss
-  gather_first b p ss i h = record { pass = i; done = []; whole = sym (append-nil ss); is = refl; tickets = h }
-
-  pub gather_last : (b : Recorder A D) (v : DeckView D) (all left : List (Ticket A D)) (p : Pass (Deck A D) (DeckView D)) → Gathering b v all p left → left ≡ []
-      → view p ≡ joined v all
-  gather_last b v all left p h e = h.is ∙ ap (joined v) (sym (h.whole ∙ ap (λ (l : List (Ticket A D)). l ++ h.done) e))
 
   -- ---- with all seats the view is whole
 
@@ -166,10 +158,6 @@ module _ {A D : Type 0} (state : D → DiskState) where
         others = each_back b 2 rest
             k.each.1;
       }
-
-  pub some_there : (b : Recorder A D) (ss : List (Ticket A D)) → AllBack b ss → slice_get ss 0 ≡ None → ⊥
-  some_there b [] h e = let l = h.some in omega arith
-  some_there b (s ∷ ss) h e = cc
 
   pub close_pops : (b : Recorder A D) (ss rest : List (Ticket A D)) (s : Ticket A D) (p : ℕ) (v : DeckView D) → AllBack b ss → Head b ss rest s
       → v ≡ joined (knows s) rest →

@@ -1,25 +1,24 @@
 -- What the calls tell of an exchange, put together.
 use Rattle.std.proofs.Common.{◌≡◌, ℕ, inl, inr, Bool, true, false, true≢false, Option, Some, None, is_some, Result, Ok, Err, IfOk, OnOk, IfErr}
-use Rattle.std.proofs.Common.{OnErr, List, [], ◌∷◌, ◌++◌, cond, length, sym, ap, ◌∙◌, subst, append-nil, refl, arith}
+use Rattle.std.proofs.Common.{OnErr, List, [], ◌∷◌, ◌++◌, cond, length, sym, ap, ◌∙◌, subst, append-nil, refl}
 use Rattle.std.specs.Option.{option_to_list}
 use Rattle.std.proofs.lemmas.Option.{same_Some}
 use Rattle.asl_term.specs.declared.sequence.Starved.{Starved}
-use Rattle.mas_board_lists.specs.Lists.{StartsWith, Each, times}
+use Rattle.mas_board_lists.specs.Lists.{StartsWith, times}
 use Rattle.mas_record_disk.specs.Disk.{DiskState}
 use Rattle.mas_record_disk.specs.declared.disk.DiskFail.{DiskFail}
 use Rattle.mas_record_journal.specs.declared.journal.Journal.{Journal}
-use Rattle.mas_record_journal.specs.Kept.{IsTurn}
 use Rattle.mas_mind.specs.declared.mind.Outs.{Outs}
 use Rattle.mas_mind.specs.declared.mind.Feedback.{Feedback}
 use Rattle.mas_mind.specs.declared.mind.End.TheVariants.{Budget}
-use Rattle.mas_mind.specs.Minds.{AreOuts, IsAgent}
+use Rattle.mas_mind.specs.Minds.{IsAgent}
 use Rattle.mas_board.specs.declared.seats.Phase.{Phase}
 use Rattle.mas_board.specs.declared.seats.Phase.TheVariants.{Idle, Busy}
 use Rattle.mas_board.specs.declared.seats.Sensed.{Sensed}
 use Rattle.mas_board.specs.declared.seats.Sensed.TheVariants as answer
 use Rattle.mas_board.specs.Boards as board
-use Rattle.mas_board.specs.Boards.{State, Noted, seat_at, is_gone}
-use Rattle.mas_board.specs.Seating.{IsAt, IsSound, HasSensed, SenseLeaves, HasEmitted, HasLeft, IsInputFor}
+use Rattle.mas_board.specs.Boards.{Noted, seat_at, is_gone}
+use Rattle.mas_board.specs.Seating.{IsAt, HasSensed, SenseLeaves, HasEmitted, HasLeft}
 use Rattle.mas_board_turns.specs.declared.turn.Turn.{Turn}
 use Rattle.mas_board_turns.specs.declared.turn.Turn.TheVariants as turn
 use Rattle.mas_board_turns.specs.declared.view.SideView.{SideView}
@@ -33,38 +32,15 @@ use Rattle.mas_record.specs.declared.ticket.Ticket.{Ticket}
 use Rattle.mas_record.specs.Faults.{fault_of}
 use Rattle.mas_record.specs.Rule.{IsJournalled, IsKept, shown}
 use Rattle.mas_record.specs.Views as view
-use Rattle.mas_record.specs.Standing.{KeepsStill, DeckTaken, DeckMayGive}
+use Rattle.mas_record.specs.Standing.{KeepsStill, DeckMayGive}
 use Rattle.mas_record.specs.Entries.{Appended, NotedIn, entered, IsWritten, IsTornNow, IsAsItWas, IsSeen}
 use Rattle.mas_board_turns.specs.Answers.{sensed, made_by_sense, made_by_emit}
-use Rattle.mas_record.specs.Tickets.{answered, HasEntry, HasFault, knows, known, turns_of, first_of, met_by, phase_of, agents_of, Met, IsGivenBack, Exchanged}
-use Rattle.mas_record.specs.Tickets.{SenseRecorded, GivenIf, SenseRefused, EmitRecorded, LeaveRecorded, TurnRefused}
+use Rattle.mas_record.specs.Tickets.{answered, HasEntry, HasFault, knows, known, turns_of, first_of, met_by, phase_of, Met, IsGivenBack, Exchanged}
+use Rattle.mas_record.specs.Tickets.{SenseRecorded, SenseRefused, EmitRecorded, LeaveRecorded, TurnRefused}
 use Rattle.mas_record.proofs.RecorderRule.{kept_noted, shown_open}
 use Rattle.mas_record.proofs.Standing.{noted_still}
 
 -- ---- what a taking tells
-
-alone : (first board : State) (a : ℕ) (es : Turns) → es ≡ (a, of_first es) ∷ [] → Each (Stands first board) es → Stands first board (a, of_first es)
-alone first board a es e h = (subst (Each (Stands first board)) e h).0
-
-pub met_is : {A D : Type 0} {state : D → DiskState} (old new : Ticket A D) (x : Deck A D) → Sits old.number false (known old) → new.number ≡ old.number →
-    DeckTaken state (knows old) x (knows new) → Met state old new x
-met_is old new x s n t = record {
-  number = n;
-  goes_on = t.taken.sees;
-  stands = alone (first_of old).board.state x.board.state old.number (known old).turns s.turns t.taken.stands;
-  latest = (subst (Each (λ (e : ℕ × List Turn). times e.0 x.board.schedule ≡ times e.0 (known old).seen)) s.turns t.taken.latest).0;
-  taken = t.is;
-  kept = t.taken.kept;
-}
-
--- the same, where the call began with this ticket
-pub met_from : {A D : Type 0} {state : D → DiskState} (old mid new : Ticket A D) (x : Deck A D) → Sits mid.number false (known mid) → mid.number ≡ old.number
-    → knows mid ≡ knows old →
-    new.number ≡ mid.number → DeckTaken state (knows mid) x (knows new) → Met state old new x
-met_from {A} {D} {state} old mid new x s m k n t =
-    let h = subst (λ (v : DeckView D). DeckTaken state v x (knows new)) k t in
-    let i = subst (λ (u : ℕ × DeckView D). Sits u.0 false u.1.side) (λ j. (m j, k j)) s in
-    met_is old new x i (n ∙ m) h
 
 first_noted : (a : ℕ) (made : Option Turn) (ts : List Turn) (es : Turns) → es ≡ (a, ts) ∷ [] → of_first (noted made es) ≡ of_first es ++ option_to_list made
 first_noted a None ts es e = sym (append-nil (of_first es))
@@ -85,13 +61,6 @@ module _ {A D : Type 0} (state : D → DiskState) (old mid : Ticket A D) (x : De
 
   pub gone_if : (phase : Phase) (left : Bool) → left ≡ is_gone phase → phase ≡ (seat_at x.board.state mid.number).phase → left ≡ is_gone (phase_of old)
   gone_if phase left e d = e ∙ ap is_gone (d ∙ (at_phase (phase_of old) refl).phase_is)
-
-  pub are_outs : (outs : Outs) → AreOuts old.number (agents_of old) outs → AreOuts mid.number (length x.board.state.seats) outs
-  are_outs outs h = subst (λ (n : ℕ × ℕ). AreOuts n.0 n.1 outs) (λ i. (sym m.number i, sym m.stands.agents i)) h
-
-  pub is_turn : IsSound x.board.state → IsTurn mid.number
-  is_turn s = let a = m.stands.at.agent in let n = m.number in
-      record { some = (let l = a.from_one in omega arith); few = (let l = a.named in let f = s.limits.few in omega (arith, l, f, n)) }
 
   on_side : known mid ≡ took (known old) (shown x)
   on_side = ap (λ (v : DeckView D). v.side) m.taken
@@ -246,22 +215,6 @@ module _ {A D : Type 0} (state : D → DiskState) (old mid new : Ticket A D) (x 
     sense_exchanged : knows new ≡ view.gave state (made_by_sense r) (knows mid) z → Exchanged old new (made_by_sense r) (shown z)
     sense_exchanged g =
         exchanged state old mid x m new z (made_by_sense r) n g sits sense_gives.gives.kept.tells (subst (λ (k : ℕ). Made (made_by_sense r) x.board k z.board) m.number sense_is)
-
-  given_if : (s : Sensed) (y : Noted) → SenseLeaves x.board y mid.number s → GivenIf old s
-  given_if (answer.Input i) y l = record {
-    input_for = subst (λ (k : ℕ × ℕ). IsInputFor k.0 k.1 i) (λ j. (m.stands.agents j, m.number j)) l.1.input_for;
-    short = (let c = m.stands.cycle in let d = m.stands.limit in let e = l.1.short in let u = ap (λ (k : ℕ). (seat_at x.board.state k).cycle) m.number in
-        omega arith);
-  }
-  given_if (answer.Left e) y l = tt
-  given_if (answer.Ahead c k) y l = tt
-  given_if answer.Halted y l = tt
-
-  pub sense_given : (r : Result Sensed Starved) (w : Result (Unit {0}) DiskFail) (y : Noted) → IfOk r (SenseLeaves x.board y mid.number)
-      → IfOk (answered r w) (GivenIf old)
-  sense_given (Ok s) (Ok u) y l = given_if s y l
-  sense_given (Ok s) (Err f) y l = tt
-  sense_given (Err q) w y l = tt
 
   entry_of : (s : Sensed) (y : Noted) → SenseLeaves x.board y mid.number s → NotedIn state (sensed s) mid.number x.journal z.journal (Ok tt)
       → HasEntry s (entered state x.journal z.journal)

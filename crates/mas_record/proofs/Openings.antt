@@ -11,7 +11,7 @@ use Rattle.mas_record.specs.declared.ticket.Ticket.{Ticket}
 use Rattle.mas_board_turns.specs.Views.{Opening, silent}
 use Rattle.mas_board_turns.specs.Steps.{of_first}
 use Rattle.mas_record.specs.Views.{opened, rest_of, one_of}
-use Rattle.mas_record.specs.Tickets.{IsNew, Opened}
+use Rattle.mas_record.specs.Tickets.{IsNew}
 use Rattle.mas_record.specs.Rule.{IsKept, opening, shown, showing}
 use Rattle.crossbeam_queue.specs.Fifo.{Pushes}
 use Rattle.mas_record.specs.Standing.{DeckHolds}
@@ -23,17 +23,6 @@ split_silent : (k n : ℕ) → k < n → silent (suc k) (n - k) ≡ (suc k, []) 
 split_silent k n l = let e : n - k ≡ suc (n - suc k) = omega arith in ap (silent (suc k)) e
 
 module _ {A D : Type 0} (b : Recorder A D) (o : Opening) where
-  pub opening_first : (p : Pass (Deck A D) (DeckView D)) → IsPassOf b.line p → view p ≡ opened o → Handing b o 0 p []
-  opening_first p i e = record {
-    pass = i;
-    started = ap (λ (v : DeckView D). v.side.started) e;
-    free = ap (λ (v : DeckView D). v.side.in_hand) e;
-    left = ap (λ (v : DeckView D). v.side.turns) e ∙ ap (silent 1) (let d : length o.board.state.seats ≡ length o.board.state.seats - 0 = omega arith in d);
-    first = ap (λ (v : DeckView D). v.side.first) e;
-    count = refl;
-    made = tt;
-  }
-
   new_seat : (k : ℕ) (p one : Pass (Deck A D) (DeckView D)) (seats : List (Ticket A D)) → Handing b o k p seats → k < length o.board.state.seats → IsPassOf b.line one
       → view one ≡ one_of (view p) →
       IsNew b o (suc k) (record { number = suc k; pass = one })
@@ -66,11 +55,6 @@ module _ {A D : Type 0} (b : Recorder A D) (o : Opening) where
     made = row_push (IsNew b o) 1 (suc k) seats (record { number = suc k; pass = one }) h.made (let c = h.count in omega arith)
         (new_seat k p one seats h l i d);
   }
-
-pub all_opened : {A D : Type 0} (state : D → DiskState) (b : Recorder A D) (x : Deck A D) (n : ℕ) (p : Pass (Deck A D) (DeckView D)) (tickets : List (Ticket A D))
-    → Handing b (opening state x) n p tickets →
-    n ≡ length x.board.state.seats → Opened state x b tickets
-all_opened state b x n p tickets h e = record { count = h.count ∙ e; each = h.made }
 
 -- board and journal come into the queue
 pub opens_deck : {A D : Type 0} (state : D → DiskState) (n p : ℕ) (v : DeckView D) (x y : Deck A D) → v.side.started ≡ false → x ≡ y → shown y ≡ y.board
