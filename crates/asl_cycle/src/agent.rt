@@ -3,6 +3,7 @@
 ghost use Rattle.std.specs.Prelude.{◌≡◌, ◌≤◌, true, IfOk, length};
 ghost use Rattle.asl_beliefs.specs.Bases.{all_ground};
 ghost use Rattle.asl_cycle.specs.Agent.{opening_mind};
+ghost use Rattle.mas_mind.specs.Limits.{most_cycles, most_tries};
 ghost use Rattle.mas_mind.specs.Minds.{asks_feedback};
 
 use crate::cycle::cycle;
@@ -82,7 +83,7 @@ impl Model for Agent {
     } };
 
     ghost invariant = { λ a. (a.parts.number ≤ 1 + 20000002 * a.cycles)
-        × ((a.asks ≤ 1 + a.cycles) × ((a.cycles ≤ 1000000) × ((a.around.budgets.tries ≤ 10000000) × ((a.around.actions ≡ own_name a.peers)
+        × ((a.asks ≤ 1 + a.cycles) × ((a.cycles ≤ most_cycles) × ((a.around.budgets.tries ≤ most_tries) × ((a.around.actions ≡ own_name a.peers)
         × ((a.awaits || is_fed a.parts.agenda.acting a.kept) ≡ true))))) };
 }
 
@@ -99,7 +100,7 @@ pub fn open_agent(
     requires from_one { 1 ≤ me }
     requires named { me ≤ length names.now }
     requires ground { all_ground source.now.beliefs ≡ true }
-    requires tries { budgets.tries ≤ 10000000 }
+    requires tries { budgets.tries ≤ most_tries }
     ensures { IfOk result (λ a. a ≡ opening_mind me names.now source.now budgets level) }
 {
     let lib = Library::of(alloc, copy_plans(alloc, source.plans.as_slice())?)?;

@@ -8,6 +8,7 @@ ghost use Rattle.asl_cycle.specs.Cycle as spec;
 ghost use Rattle.asl_cycle.specs.Steps as steps;
 ghost use Rattle.asl_cycle.specs.Steps.{plans_after};
 ghost use Rattle.asl_cycle.specs.inner.Choosing as choosing;
+ghost use Rattle.mas_mind.specs.Limits.{most_tries};
 
 use crate::config::{After, Applied, Intended, Related};
 use crate::kept::take_kept;
@@ -297,7 +298,7 @@ fn from_rel_pl<B: BeliefBase, A: Actions>(
     sofar: Sofar,
     event: Event,
 ) -> Result<Finished, Starved>
-    requires tries { k.now.budgets.tries ≤ 10000000 }
+    requires tries { k.now.budgets.tries ≤ most_tries }
     requires room { p.old.number ≤ 2 ^ 63 }
     requires asks { sofar.asks < 2 ^ 64 - 1 }
     requires free { p.old.agenda.acting ≡ None }
@@ -353,7 +354,7 @@ fn from_event<B: BeliefBase, A: Actions>(
     sofar: Sofar,
     event: Event,
 ) -> Result<Finished, Starved>
-    requires tries { k.now.budgets.tries ≤ 10000000 }
+    requires tries { k.now.budgets.tries ≤ most_tries }
     requires room { p.old.number ≤ 2 ^ 63 }
     requires asks { sofar.asks < 2 ^ 64 - 1 }
     requires free { p.old.agenda.acting ≡ None }
@@ -387,7 +388,7 @@ fn from_sel_ev<B: BeliefBase, A: Actions>(
     p: &mut Circumstance<B>,
     sofar: Sofar,
 ) -> Result<Finished, Starved>
-    requires tries { k.now.budgets.tries ≤ 10000000 }
+    requires tries { k.now.budgets.tries ≤ most_tries }
     requires room { p.old.number ≤ 2 ^ 63 }
     requires asks { sofar.asks < 2 ^ 64 - 1 }
     requires free { p.old.agenda.acting ≡ None }
@@ -414,7 +415,7 @@ fn from_msg<B: BeliefBase, A: Actions>(
     sofar: Sofar,
     message: &Option<Message>,
 ) -> Result<Finished, Starved>
-    requires tries { k.old.budgets.tries ≤ 10000000 }
+    requires tries { k.old.budgets.tries ≤ most_tries }
     requires room { p.old.number < 2 ^ 63 }
     requires asks { sofar.asks < 2 ^ 64 - 1 }
     requires free { p.old.agenda.acting ≡ None }
@@ -448,7 +449,7 @@ pub fn cycle<B: BeliefBase, A: Actions>(
     input: &Input,
 ) -> Result<Finished, Starved>
     requires ground { all_ground input.now.percepts ≡ true }
-    requires tries { k.old.budgets.tries ≤ 10000000 }
+    requires tries { k.old.budgets.tries ≤ most_tries }
     requires room { p.old.number < 2 ^ 63 }
     requires asks { asks < 2 ^ 63 }
     requires fed { is_fed p.old.agenda.acting kept ≡ true }

@@ -8,6 +8,7 @@ ghost use Rattle.asl_intend.specs.Stacks as stacks;
 use crate::goal::{can_name, some_match};
 use crate::unbuilt::matches_under;
 use asl_term::copying::copy_all;
+use asl_term::limits::{MOST_LEVELS, MOST_NODES};
 use asl_term::measure::{literal_depth, literal_size};
 use asl_term::sequence::Starved;
 use asl_term::syntax::{Formula, Formulas, Literal, Term, Trigger};
@@ -165,7 +166,7 @@ impl StackEntry {
     {
         let rest = log.since(self.since);
         self.own.pairs();
-        match fits_literal(&self.trigger.lit, &self.own, rest, 250, 10_000) {
+        match fits_literal(&self.trigger.lit, &self.own, rest, MOST_LEVELS, MOST_NODES) {
             Some(_) => true,
             None => false,
         }

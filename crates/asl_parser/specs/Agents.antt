@@ -9,7 +9,7 @@ use Rattle.asl_parser.specs.declared.sentence.Sentence.TheVariants as sentence
 use Rattle.asl_parser_expr.specs.declared.fault.TextFault.{TextFault}
 use Rattle.asl_parser_expr.specs.declared.fault.TextFault.TheVariants.{Memory, Lex, Clause, Limit}
 use Rattle.asl_parser_tree.specs.Lexemes.{lexemes}
-use Rattle.asl_parser_tree.specs.Limits.{too_deep}
+use Rattle.asl_parser_tree.specs.Limits.{most_brackets, too_deep}
 use Rattle.asl_parser.specs.Limits.{is_within}
 use Rattle.asl_parser.specs.Sentences.{Says}
 
@@ -19,15 +19,15 @@ use Rattle.asl_parser.specs.Sentences.{Says}
 -- brackets, as no clause, or for its trees.
 pub data Answers : ℕ → List (List Tok) → Result (List Sentence) TextFault → Type 0 where
   all_read : {k : ℕ} → Answers k [] (Ok [])
-  brackets : {k : ℕ} {p : List Tok} {ps : List (List Tok)} → too_deep 250 0 (lexemes p) ≡ true → Answers k (p ∷ ps) (Err (Limit k))
-  no_clause : {k : ℕ} {t : Tok} {ts : List Tok} {ps : List (List Tok)} → too_deep 250 0 (lexemes (t ∷ ts)) ≡ false
+  brackets : {k : ℕ} {p : List Tok} {ps : List (List Tok)} → too_deep most_brackets 0 (lexemes p) ≡ true → Answers k (p ∷ ps) (Err (Limit k))
+  no_clause : {k : ℕ} {t : Tok} {ts : List Tok} {ps : List (List Tok)} → too_deep most_brackets 0 (lexemes (t ∷ ts)) ≡ false
       → ((n : ℕ) (s : Sentence) → Says n (lexemes (t ∷ ts)) s → ⊥) → Answers k ((t ∷ ts) ∷ ps) (Err (Clause k t.line t.column))
-  large : {k : ℕ} {p : List Tok} {ps : List (List Tok)} {s : Sentence} → too_deep 250 0 (lexemes p) ≡ false → Says 250 (lexemes p) s
+  large : {k : ℕ} {p : List Tok} {ps : List (List Tok)} {s : Sentence} → too_deep most_brackets 0 (lexemes p) ≡ false → Says most_brackets (lexemes p) s
       → is_within s ≡ false → Answers k (p ∷ ps) (Err (Limit k))
-  is_read : {k : ℕ} {p : List Tok} {ps : List (List Tok)} {s : Sentence} {ss : List Sentence} → too_deep 250 0 (lexemes p) ≡ false
-      → Says 250 (lexemes p) s → is_within s ≡ true → Answers (suc k) ps (Ok ss) → Answers k (p ∷ ps) (Ok (s ∷ ss))
-  is_later : {k : ℕ} {p : List Tok} {ps : List (List Tok)} {s : Sentence} {fault : TextFault} → too_deep 250 0 (lexemes p) ≡ false
-      → Says 250 (lexemes p) s → is_within s ≡ true → Answers (suc k) ps (Err fault) → Answers k (p ∷ ps) (Err fault)
+  is_read : {k : ℕ} {p : List Tok} {ps : List (List Tok)} {s : Sentence} {ss : List Sentence} → too_deep most_brackets 0 (lexemes p) ≡ false
+      → Says most_brackets (lexemes p) s → is_within s ≡ true → Answers (suc k) ps (Ok ss) → Answers k (p ∷ ps) (Ok (s ∷ ss))
+  is_later : {k : ℕ} {p : List Tok} {ps : List (List Tok)} {s : Sentence} {fault : TextFault} → too_deep most_brackets 0 (lexemes p) ≡ false
+      → Says most_brackets (lexemes p) s → is_within s ≡ true → Answers (suc k) ps (Err fault) → Answers k (p ∷ ps) (Err fault)
 
 -- ---- the whole
 

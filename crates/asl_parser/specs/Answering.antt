@@ -9,7 +9,7 @@ use Rattle.asl_parser_tree.specs.declared.bounded.Bounded.TheVariants.{Within, P
 use Rattle.asl_parser_tree.specs.Holding.{limited}
 use Rattle.asl_parser.specs.Holding.{KeptSentence}
 use Rattle.asl_parser.specs.Speaking.{sentence_by}
-use Rattle.asl_parser_tree.specs.Limits.{too_deep}
+use Rattle.asl_parser_tree.specs.Limits.{most_brackets, too_deep}
 
 -- what a piece says, or why it is refused, where its number is k
 abbrev pub said : ℕ → Tok → Option KeptSentence → Result Sentence TextFault
@@ -18,7 +18,7 @@ said k t (Some (Within s)) = Ok s
 said k t (Some (Past u)) = Err (Limit k)
 
 unfoldable pub piece_by : ℕ → Tok → List Tok → Result Sentence TextFault
-piece_by k first p = if too_deep 250 0 (lexemes p) then Err (Limit k) else said k first (sentence_by limited 250 (lexemes p))
+piece_by k first p = if too_deep most_brackets 0 (lexemes p) then Err (Limit k) else said k first (sentence_by limited most_brackets (lexemes p))
 
 abbrev pub onto : Result Sentence TextFault → Result (List Sentence) TextFault → Result (List Sentence) TextFault
 onto (Err fault) rest = Err fault

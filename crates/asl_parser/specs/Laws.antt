@@ -5,14 +5,14 @@ use Rattle.asl_term.specs.declared.syntax.AgentText.{AgentText}
 use Rattle.asl_term.specs.Exprs.{is_ground_literal}
 use Rattle.asl_parser_expr.specs.declared.fault.TextFault.{TextFault}
 use Rattle.asl_parser_tree.specs.declared.lexeme.Lexeme.{Lexeme}
-use Rattle.asl_parser_tree.specs.Limits.{too_deep}
+use Rattle.asl_parser_tree.specs.Limits.{most_brackets, too_deep}
 use Rattle.asl_parser.specs.declared.sentence.Sentence.{Sentence}
 use Rattle.asl_parser.specs.Sentences.{Says}
 use Rattle.asl_parser.specs.Agents.{IsAgent, IsAnswer}
 
 -- a clause says one thing at most
 abbrev pub OneSentence : Type 0
-OneSentence = (m n : ℕ) (xs : List Lexeme) (r s : Sentence) → too_deep 250 0 xs ≡ false → Says m xs r → Says n xs s → r ≡ s
+OneSentence = (m n : ℕ) (xs : List Lexeme) (r s : Sentence) → too_deep most_brackets 0 xs ≡ false → Says m xs r → Says n xs s → r ≡ s
 
 -- bytes have one answer: what their clauses say, or one fault, and not both
 abbrev pub OneAnswer : Type 0

@@ -16,7 +16,7 @@ use asl_lexer::token::{LexFault, Tok};
 use asl_parser_expr::fault::TextFault;
 use asl_parser_tree::bounded::Bounded;
 use asl_parser_tree::lexeme::lexemes;
-use asl_parser_tree::limits::too_deep;
+use asl_parser_tree::limits::{MOST_BRACKETS, too_deep};
 use asl_term::sequence::{Seq, Starved};
 use asl_term::syntax::AgentText;
 use std::alloc::Global;
@@ -44,7 +44,7 @@ fn piece(alloc: Global, number: u64, first: &Tok, toks: &[Tok]) -> Result<Senten
     if too_deep(&all) {
         return Err(TextFault::Limit { number });
     }
-    match sentence(alloc, &all, 250) {
+    match sentence(alloc, &all, MOST_BRACKETS) {
         Ok(s) => said(number, first, s),
         Err(_) => Err(TextFault::Memory),
     }

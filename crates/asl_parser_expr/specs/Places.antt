@@ -14,7 +14,7 @@ use Rattle.asl_term.specs.Trees as tree
 use Rattle.asl_parser_tree.specs.declared.bounded.Bounded.TheVariants.{Within, Past}
 use Rattle.asl_parser_expr.specs.Grammar.{Reads, disjunction}
 use Rattle.asl_parser_tree.specs.Holding.{Kept, limited, hold}
-use Rattle.asl_parser_tree.specs.Limits.{too_deep, within, within_expr}
+use Rattle.asl_parser_tree.specs.Limits.{most_brackets, too_deep, within, within_expr}
 
 -- a term where it may be one
 abbrev pub raw_of : Meaning → Raw
@@ -27,7 +27,7 @@ raw_of (meaning.Formula e) = Logic e
 
 -- the first so many of these tokens are an expression that means this
 abbrev pub IsFront : List Lexeme → ℕ → Meaning → Type 0
-IsFront ts count m = Reads 250 disjunction (take count ts) [] m
+IsFront ts count m = Reads most_brackets disjunction (take count ts) [] m
 
 -- no more of these tokens are an expression
 abbrev pub NoLonger : List Lexeme → ℕ → Type 0
@@ -57,12 +57,12 @@ IsFound ts (Some x) = IsKeptLongest ts x.1 x.0
 -- all these tokens are an expression, with what is kept of its meaning
 pub record IsKeptWhole (ts : List Lexeme) (h : Kept) : Type 0 where
   pub meaning : Meaning
-  pub reads : Reads 250 disjunction ts [] meaning
+  pub reads : Reads most_brackets disjunction ts [] meaning
   pub kept : hold limited meaning ≡ h
 
 -- whether all these tokens are an expression
 abbrev pub IsWhole : List Lexeme → Option Kept → Type 0
-IsWhole ts None = (m : Meaning) → Reads 250 disjunction ts [] m → ⊥
+IsWhole ts None = (m : Meaning) → Reads most_brackets disjunction ts [] m → ⊥
 IsWhole ts (Some h) = IsKeptWhole ts h
 
 -- ---- limits
@@ -84,17 +84,17 @@ pub record IsAnswer (ts : List Lexeme) (from : ℕ) (answer : Result (Option Fou
   pub meaning : Meaning
   pub count : ℕ
   pub longest : IsLongest ts count meaning
-  pub brackets : too_deep 250 0 ts ≡ false
+  pub brackets : too_deep most_brackets 0 ts ≡ false
   pub answered : found_of meaning (from + count) ≡ answer
 
 -- why a limit is answered
 pub data Passes (ts : List Lexeme) (from : ℕ) : Type 0 where
-  by_brackets : too_deep 250 0 ts ≡ true → Passes ts from
+  by_brackets : too_deep most_brackets 0 ts ≡ true → Passes ts from
   by_tree : IsAnswer ts from (Err (Limit 0)) → Passes ts from
 
 -- what is found in these tokens, the first of which has this place
 abbrev pub FindsIn : List Lexeme → ℕ → Result (Option Found) TextFault → Type 0
-FindsIn ts from (Ok None) = NoFront ts × (too_deep 250 0 ts ≡ false)
+FindsIn ts from (Ok None) = NoFront ts × (too_deep most_brackets 0 ts ≡ false)
 FindsIn ts from (Ok (Some f)) = IsAnswer ts from (Ok (Some f))
 FindsIn ts from (Err Memory) = Unit {0}
 FindsIn ts from (Err (Limit number)) = (number ≡ 0) × Passes ts from

@@ -10,10 +10,8 @@ use crate::reading::expression;
 use asl_lexer::token::Tok;
 use asl_parser_tree::bounded::{Bounded, Held};
 use asl_parser_tree::lexeme::{Lexeme, lexemes};
-use asl_parser_tree::limits::too_deep;
+use asl_parser_tree::limits::{MOST_BRACKETS, too_deep, within_expr, within_term};
 use asl_parser_tree::meaning::Meaning;
-use asl_term::expr_measure::{expr_depth, expr_size};
-use asl_term::measure::{depth, size};
 use asl_term::sequence::Starved;
 use asl_term::syntax::{Expr, Term};
 use std::alloc::Global;
@@ -44,7 +42,7 @@ pub fn raw_of(m: Meaning) -> Raw
 fn whole(alloc: Global, tokens: &[Lexeme]) -> Result<Option<Held>, Starved>
     ensures { IfOk result (IsWhole tokens.now) }
 {
-    let Some((h, rest)) = expression(alloc, tokens, 250)? else {
+    let Some((h, rest)) = expression(alloc, tokens, MOST_BRACKETS)? else {
         return Ok(None);
     };
     if rest.len() == 0 {
@@ -81,8 +79,8 @@ fn within_raw(raw: &Raw) -> bool
     ensures { result ≡ spec.within_raw raw.now }
 {
     match raw {
-        Raw::Plain(t) => size(t) <= 10_000 && depth(t) <= 250,
-        Raw::Logic(e) => expr_size(e) <= 10_000 && expr_depth(e) <= 250,
+        Raw::Plain(t) => within_term(t),
+        Raw::Logic(e) => within_expr(e),
     }
 }
 

@@ -4,10 +4,15 @@ use Rattle.asl_lexer.specs.declared.token.Sign.TheVariants as sign
 use Rattle.asl_term.specs.declared.syntax.LiteralOf.{LiteralOf}
 use Rattle.asl_term.specs.declared.syntax.Term.{Term}
 use Rattle.asl_term.specs.declared.syntax.Expr.{Expr}
+use Rattle.asl_term.specs.Limits.{most_nodes, most_levels}
 use Rattle.asl_term.specs.Trees as tree
 use Rattle.asl_term.specs.Exprs.{size, depth, literal_size, literal_depth}
 use Rattle.asl_parser_tree.specs.declared.lexeme.Lexeme.{Lexeme}
 use Rattle.asl_parser_tree.specs.declared.lexeme.Lexeme.TheVariants.{Sign}
+
+-- so many brackets are open at one place of a clause at most, as many as a term has levels
+abbrev pub most_brackets : ℕ
+most_brackets = most_levels
 
 -- whether more brackets are open at one place, where so many are open before; a closing one closes any
 unfoldable pub too_deep : ℕ → ℕ → List Lexeme → Bool
@@ -18,9 +23,9 @@ too_deep limit count (Sign sign.Close ∷ ts) = too_deep limit (count - 1) ts
 too_deep limit count (Sign sign.CloseSquare ∷ ts) = too_deep limit (count - 1) ts
 too_deep limit count (t ∷ ts) = too_deep limit count ts
 
--- at most 10,000 nodes and 250 levels
+-- no more nodes and no more levels than a tree may have
 abbrev pub within : ℕ → ℕ → Bool
-within nodes levels = leb nodes 10000 && leb levels 250
+within nodes levels = leb nodes most_nodes && leb levels most_levels
 
 abbrev pub within_term : Term → Bool
 within_term t = within (tree.size t) (tree.depth t)

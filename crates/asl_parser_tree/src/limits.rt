@@ -9,29 +9,33 @@ ghost use Rattle.asl_parser_tree.specs.Limits as spec;
 use crate::lexeme::Lexeme;
 use asl_lexer::token::Sign;
 use asl_term::expr_measure::{expr_depth, expr_size};
+use asl_term::limits::{MOST_LEVELS, MOST_NODES};
 use asl_term::measure::{depth, literal_depth, literal_size, size};
 use asl_term::syntax::{Arg, ArgOf, Call, Expr, Literal, Relation, Term};
 
-/// Whether a term has at most 10,000 nodes and at most 250 levels. What is past them is read,
+/// The most brackets that are open at one place of a clause, as many as a term has levels at most.
+pub const MOST_BRACKETS: u32 = MOST_LEVELS as u32;
+
+/// Whether a term has no more nodes and no more levels than it may have. What is past them is read,
 /// and not kept.
 pub fn within_term(t: &Term) -> bool
     ensures { result ≡ spec.within_term t.now }
 {
-    size(t) <= 10_000 && depth(t) <= 250
+    size(t) <= MOST_NODES && depth(t) <= MOST_LEVELS
 }
 
 /// Whether a literal is within the limits of a term. Its annotations count as its arguments do.
 pub fn within_literal(l: &Literal) -> bool
     ensures { result ≡ spec.within_literal l.now }
 {
-    literal_size(l) <= 10_000 && literal_depth(l) <= 250
+    literal_size(l) <= MOST_NODES && literal_depth(l) <= MOST_LEVELS
 }
 
-/// Whether a formula has at most 10,000 nodes and at most 250 levels, the trees in it included.
+/// Whether a formula has no more nodes and no more levels than it may have, the trees in it included.
 pub fn within_expr(e: &Expr) -> bool
     ensures { result ≡ spec.within_expr e.now }
 {
-    expr_size(e) <= 10_000 && expr_depth(e) <= 250
+    expr_size(e) <= MOST_NODES && expr_depth(e) <= MOST_LEVELS
 }
 
 fn args_size(args: &[Arg]) -> u64
@@ -80,7 +84,7 @@ fn call_depth(c: &Call) -> u64
 pub fn within_call(c: &Call) -> bool
     ensures { result ≡ spec.within_expr (expr.Inner c.now) }
 {
-    call_size(c) <= 10_000 && call_depth(c) <= 250
+    call_size(c) <= MOST_NODES && call_depth(c) <= MOST_LEVELS
 }
 
 #[tactic(auto, using(crate::proofs::Sized::size_relation))]
@@ -102,20 +106,20 @@ fn relation_depth(r: &Relation) -> u64
 pub fn within_relation(r: &Relation) -> bool
     ensures { result ≡ spec.within_expr (expr.Rel r.now) }
 {
-    relation_size(r) <= 10_000 && relation_depth(r) <= 250
+    relation_size(r) <= MOST_NODES && relation_depth(r) <= MOST_LEVELS
 }
 
-/// Whether more than 250 brackets are open at one place.
+/// Whether more brackets are open at one place than may be.
 #[tactic(auto, unfolding(crate::specs::Limits::too_deep))]
 pub fn too_deep(tokens: &[Lexeme]) -> bool
-    ensures { result ≡ spec.too_deep 250 0 tokens.now }
+    ensures { result ≡ spec.too_deep spec.most_brackets 0 tokens.now }
 {
     let mut count: u32 = 0;
     let mut rest = tokens;
     'tokens: while let Some((token, after)) = rest.split_first() {
         match token {
             Lexeme::Sign(Sign::Open) | Lexeme::Sign(Sign::OpenSquare) => {
-                if count >= 250 {
+                if count >= MOST_BRACKETS {
                     return true;
                 }
                 count += 1;

@@ -2,6 +2,7 @@ pub mod Kept
 pub mod formers
 pub mod Spare
 pub mod Layers
+pub mod Limits
 pub mod Trees
 pub mod Same
 pub mod Texts

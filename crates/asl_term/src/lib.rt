@@ -10,6 +10,7 @@ pub mod compare;
 pub mod compare_expr;
 pub mod copying;
 pub mod expr_measure;
+pub mod limits;
 pub mod measure;
 pub mod name;
 pub mod names;

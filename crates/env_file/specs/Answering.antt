@@ -4,7 +4,7 @@ use Rattle.asl_lexer.specs.declared.token.Tok.{Tok}
 use Rattle.asl_parser_tree.specs.Lexemes.{lexemes}
 use Rattle.asl_parser_tree.specs.declared.bounded.Bounded.TheVariants.{Within, Past}
 use Rattle.asl_parser_tree.specs.Holding.{limited}
-use Rattle.asl_parser_tree.specs.Limits.{too_deep}
+use Rattle.asl_parser_tree.specs.Limits.{most_brackets, too_deep}
 use Rattle.mas_world.specs.declared.acts.WorldText.{WorldText}
 use Rattle.env_file.specs.declared.fault.WorldFault.{WorldFault}
 use Rattle.env_file.specs.declared.fault.WorldFault.TheVariants.{Memory, Lex, Clause, Limit, Unbound, UnknownArtifact}
@@ -19,7 +19,8 @@ said artifacts w k t (Some (Within s)) = made artifacts w k t s
 said artifacts w k t (Some (Past u)) = Err (Limit k)
 
 unfoldable pub piece_by : List (List ℕ) → WorldText → ℕ → Tok → List Tok → Result WorldText WorldFault
-piece_by artifacts w k first p = if too_deep 250 0 (lexemes p) then Err (Limit k) else said artifacts w k first (statement_by limited 250 (lexemes p))
+piece_by artifacts w k first p =
+    if too_deep most_brackets 0 (lexemes p) then Err (Limit k) else said artifacts w k first (statement_by limited most_brackets (lexemes p))
 
 -- the same of a piece, which is never empty
 abbrev pub piece_at : List (List ℕ) → WorldText → ℕ → List Tok → Result WorldText WorldFault

@@ -5,7 +5,7 @@ use Rattle.asl_term.specs.Exprs.{is_ground_literal}
 use Rattle.asl_term.specs.declared.syntax.LiteralOf.{LiteralOf}
 use Rattle.asl_term.specs.declared.syntax.Term.{Term}
 use Rattle.asl_parser_tree.specs.declared.lexeme.Lexeme.{Lexeme}
-use Rattle.asl_parser_tree.specs.Limits.{too_deep}
+use Rattle.asl_parser_tree.specs.Limits.{most_brackets, too_deep}
 use Rattle.asl_unify.specs.declared.subst.Pair.{Pair}
 use Rattle.mas_world.specs.Acts.{effect, entered}
 use Rattle.mas_world.specs.Guards.{ready, solutions}
@@ -23,7 +23,7 @@ use Rattle.env_file.specs.Worlds.{act_of, has_name, IsAnswer, IsWorld}
 
 -- a clause says one thing at most
 abbrev pub OneStatement : Type 0
-OneStatement = (m n : ℕ) (xs : List Lexeme) (r s : Statement) → too_deep 250 0 xs ≡ false → Says m xs r → Says n xs s → r ≡ s
+OneStatement = (m n : ℕ) (xs : List Lexeme) (r s : Statement) → too_deep most_brackets 0 xs ≡ false → Says m xs r → Says n xs s → r ≡ s
 
 -- no literal of what a clause says has annotations
 abbrev pub NoAnnotations : Type 0

@@ -12,7 +12,7 @@ use Rattle.asl_term.specs.Names.{with_name}
 use Rattle.asl_term.specs.Exprs.{is_ground_literal}
 use Rattle.asl_parser_tree.specs.Plain.{is_plain_literal}
 use Rattle.asl_parser_tree.specs.Lexemes.{lexemes}
-use Rattle.asl_parser_tree.specs.Limits.{too_deep}
+use Rattle.asl_parser_tree.specs.Limits.{most_brackets, too_deep}
 use Rattle.mas_world.specs.declared.acts.Act.{Act}
 use Rattle.mas_world.specs.declared.acts.WorldText.{WorldText}
 use Rattle.mas_world.specs.Facts.{is_fact}
@@ -107,16 +107,17 @@ made artifacts w k t (statement.Act a) = act_made w k a (said_parts a.guard)
 -- What pieces answer behind those that made a world, the first of which has the number k.
 pub data Answers (artifacts : List (List ℕ)) : ℕ → WorldText → List (List Tok) → Result WorldText WorldFault → Type 0 where
   all_read : {k : ℕ} {w : WorldText} → Answers artifacts k w [] (Ok w)
-  brackets : {k : ℕ} {w : WorldText} {p : List Tok} {ps : List (List Tok)} → too_deep 250 0 (lexemes p) ≡ true → Answers artifacts k w (p ∷ ps) (Err (Limit k))
-  no_clause : {k : ℕ} {w : WorldText} {t : Tok} {ts : List Tok} {ps : List (List Tok)} → too_deep 250 0 (lexemes (t ∷ ts)) ≡ false
+  brackets : {k : ℕ} {w : WorldText} {p : List Tok} {ps : List (List Tok)} → too_deep most_brackets 0 (lexemes p) ≡ true
+      → Answers artifacts k w (p ∷ ps) (Err (Limit k))
+  no_clause : {k : ℕ} {w : WorldText} {t : Tok} {ts : List Tok} {ps : List (List Tok)} → too_deep most_brackets 0 (lexemes (t ∷ ts)) ≡ false
       → ((n : ℕ) (s : Statement) → Says n (lexemes (t ∷ ts)) s → ⊥) → Answers artifacts k w ((t ∷ ts) ∷ ps) (Err (Clause k t.line t.column))
-  large : {k : ℕ} {w : WorldText} {p : List Tok} {ps : List (List Tok)} {s : Statement} → too_deep 250 0 (lexemes p) ≡ false
-      → Says 250 (lexemes p) s → is_within s ≡ false → Answers artifacts k w (p ∷ ps) (Err (Limit k))
+  large : {k : ℕ} {w : WorldText} {p : List Tok} {ps : List (List Tok)} {s : Statement} → too_deep most_brackets 0 (lexemes p) ≡ false
+      → Says most_brackets (lexemes p) s → is_within s ≡ false → Answers artifacts k w (p ∷ ps) (Err (Limit k))
   is_refused : {k : ℕ} {w : WorldText} {t : Tok} {ts : List Tok} {ps : List (List Tok)} {s : Statement} {fault : WorldFault}
-      → too_deep 250 0 (lexemes (t ∷ ts)) ≡ false → Says 250 (lexemes (t ∷ ts)) s → is_within s ≡ true → made artifacts w k t s ≡ Err fault
+      → too_deep most_brackets 0 (lexemes (t ∷ ts)) ≡ false → Says most_brackets (lexemes (t ∷ ts)) s → is_within s ≡ true → made artifacts w k t s ≡ Err fault
       → Answers artifacts k w ((t ∷ ts) ∷ ps) (Err fault)
   is_read : {k : ℕ} {w v : WorldText} {t : Tok} {ts : List Tok} {ps : List (List Tok)} {s : Statement} {r : Result WorldText WorldFault}
-      → too_deep 250 0 (lexemes (t ∷ ts)) ≡ false → Says 250 (lexemes (t ∷ ts)) s → is_within s ≡ true → made artifacts w k t s ≡ Ok v
+      → too_deep most_brackets 0 (lexemes (t ∷ ts)) ≡ false → Says most_brackets (lexemes (t ∷ ts)) s → is_within s ≡ true → made artifacts w k t s ≡ Ok v
       → Answers artifacts (suc k) v ps r → Answers artifacts k w ((t ∷ ts) ∷ ps) r
 
 -- ---- the whole

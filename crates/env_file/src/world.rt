@@ -17,7 +17,7 @@ use asl_lexer::pieces::{ClausePieces, cut};
 use asl_lexer::token::{LexFault, Tok};
 use asl_parser_tree::bounded::Bounded;
 use asl_parser_tree::lexeme::lexemes;
-use asl_parser_tree::limits::too_deep;
+use asl_parser_tree::limits::{MOST_BRACKETS, too_deep};
 use asl_term::names::Names;
 use asl_term::sequence::{Seq, Starved};
 use mas_world::acts::WorldText;
@@ -61,7 +61,7 @@ fn piece(
     if too_deep(&all) {
         return Err(WorldFault::Limit { number });
     }
-    match statement(alloc, &all, 250) {
+    match statement(alloc, &all, MOST_BRACKETS) {
         Ok(s) => said(alloc, artifacts, text, number, first, s),
         Err(_) => Err(WorldFault::Memory),
     }

@@ -6,7 +6,7 @@ use asl_parser::clauses::sentence;
 use asl_parser::sentence::Sentence;
 use asl_parser_tree::bounded::Bounded;
 use asl_parser_tree::lexeme::lexemes;
-use asl_parser_tree::limits::too_deep;
+use asl_parser_tree::limits::{MOST_BRACKETS, too_deep};
 use asl_term::copying::copy_text;
 use asl_term::sequence::{Seq, Starved};
 use asl_term::syntax::Text;
@@ -43,7 +43,7 @@ fn said(alloc: Global, toks: &[Tok]) -> Result<Option<Sentence>, Starved> {
     let said = if too_deep(&all) {
         Ok(None)
     } else {
-        sentence(alloc, &all, 250)
+        sentence(alloc, &all, MOST_BRACKETS)
     };
     drop(all);
     match said {

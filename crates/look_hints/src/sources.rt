@@ -15,13 +15,14 @@ use asl_term::syntax::Text;
 use look_reasons::bytes::{Mended, mended_of};
 use look_reasons::mark::{Mark, marks_of};
 use look_reasons::phrase::{Phrase, sentence};
-use look_where::files::{FileKind, FileTold, MOST_BYTES};
+use look_where::files::{FileKind, FileTold};
 use look_where::leads::{Entry, lead_in, stop_of};
 use mas_io::shelf::Shelf;
+use mas_project::names::MOST_AGENTS;
 use mas_project::piece::NextPiece;
 use mas_project::project::ProjectPieces;
 use mas_project::syntax::ProjectText;
-use mas_top_files::files::bytes_of;
+use mas_top_files::files::{MOST_BYTES, bytes_of};
 use mas_top_files::folder::folder;
 use mas_top_files::project as whole;
 use mas_top_status::status::Status;
@@ -48,9 +49,6 @@ impl Drop for Draft {
         } = self;
     }
 }
-
-/// The most agents of an entry.
-const MOST_AGENTS: u64 = 1024;
 
 /// The agents of a source: of each of its entries one of this name, or as many as counted, with numbers behind it.
 fn agents_of(alloc: Global, entries: &[Entry], file: &Text) -> Result<Seq<Text>, Starved> {

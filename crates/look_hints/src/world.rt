@@ -5,7 +5,7 @@ use crate::reading::pieces_of;
 use asl_lexer::token::{Tok, Toks};
 use asl_parser_tree::bounded::Bounded;
 use asl_parser_tree::lexeme::lexemes;
-use asl_parser_tree::limits::too_deep;
+use asl_parser_tree::limits::{MOST_BRACKETS, too_deep};
 use asl_term::copying::copy_text;
 use asl_term::names::{Names, find};
 use asl_term::sequence::{Seq, Starved};
@@ -86,7 +86,7 @@ fn take(alloc: Global, known: &Names, made: &mut WorldText, toks: &[Tok]) -> Res
     let said = if too_deep(&all) {
         Ok(None)
     } else {
-        statement(alloc, &all, 250)
+        statement(alloc, &all, MOST_BRACKETS)
     };
     drop(all);
     match said {

@@ -15,7 +15,7 @@ use asl_lexer::token::{LexFault, Tok};
 use asl_parser::clauses::sentence;
 use asl_parser_tree::bounded::Bounded;
 use asl_parser_tree::lexeme::lexemes;
-use asl_parser_tree::limits::too_deep;
+use asl_parser_tree::limits::{MOST_BRACKETS, too_deep};
 use asl_term::sequence::{Seq, Starved};
 use look_reasons::bytes::{Mended, byte_at, mended_of};
 use look_reasons::flaws::limit_reason;
@@ -43,7 +43,7 @@ fn why_refused(alloc: Global, number: u64, toks: &[Tok]) -> Result<Option<Refusa
     if too_deep(&all) {
         return Ok(Some(Refusal::Limit));
     }
-    match sentence(alloc, &all, 250)? {
+    match sentence(alloc, &all, MOST_BRACKETS)? {
         None => Ok(Some(Refusal::Clause)),
         Some(Bounded::Past(())) => Ok(Some(Refusal::Limit)),
         Some(Bounded::Within(s)) => {

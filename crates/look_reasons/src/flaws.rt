@@ -7,6 +7,7 @@ use crate::phrase::Phrase;
 use crate::reading::read;
 use crate::reason::{Reason, reason_of};
 use asl_lexer::token::{Sign, Word};
+use asl_parser_tree::limits::MOST_BRACKETS;
 use asl_term::sequence::Starved;
 use std::alloc::Global;
 
@@ -272,9 +273,6 @@ pub fn byte_reason(alloc: Global, bytes: &[u8], x: &Spoilt) -> Result<Reason, St
     )
 }
 
-/// The most brackets that may be open.
-const MOST_BRACKETS: usize = 250;
-
 /// The token with which too many brackets are open.
 fn too_deep<'a>(marks: &[Mark<'a>]) -> Option<Mark<'a>> {
     let mut depth: usize = 0;
@@ -285,7 +283,7 @@ fn too_deep<'a>(marks: &[Mark<'a>]) -> Option<Mark<'a>> {
         if is_sign(m.word, Sign::Close) || is_sign(m.word, Sign::CloseSquare) {
             depth = depth.saturating_sub(1);
         }
-        if depth > MOST_BRACKETS {
+        if depth > MOST_BRACKETS as usize {
             return Some(*m);
         }
     }

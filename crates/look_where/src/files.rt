@@ -26,14 +26,11 @@ use look_reasons::excerpt::shown;
 use look_reasons::phrase::{Phrase, sentence};
 use mas_io::shelf::Shelf;
 use mas_project::syntax::ProjectText;
-use mas_top_files::files::bytes_of;
+use mas_top_files::files::{MOST_BYTES, bytes_of};
 use mas_top_files::folder::folder;
 use mas_top_files::project::project_of;
 use mas_top_status::status::Status;
 use std::alloc::Global;
-
-/// The most bytes of a file.
-pub const MOST_BYTES: u64 = 1_048_576;
 
 #[derive(Clone, Copy)]
 pub enum FileKind {

@@ -10,7 +10,7 @@ use asl_lexer::pieces::{ClausePieces, cut};
 use asl_lexer::token::{LexFault, Tok};
 use asl_parser_tree::bounded::Bounded;
 use asl_parser_tree::lexeme::{Lexeme, lexemes};
-use asl_parser_tree::limits::too_deep;
+use asl_parser_tree::limits::{MOST_BRACKETS, too_deep};
 use asl_term::names::Names;
 use asl_term::sequence::{Seq, Starved};
 use asl_term::syntax::Text;
@@ -41,7 +41,7 @@ fn made_by(
     if too_deep(all) {
         return Err(WorldFault::Limit { number });
     }
-    match statement(alloc, all, 250) {
+    match statement(alloc, all, MOST_BRACKETS) {
         Ok(Some(Bounded::Within(s))) => {
             let answer = make(alloc, known, made, number, first, &s);
             drop(s);

@@ -1,6 +1,7 @@
 -- What a call of the board asks for, what it leaves, and what holds of every board.
 use Rattle.std.specs.Prelude.{ℕ, ◌≡◌, ◌+◌, ◌<◌, ◌≤◌, ◌^◌, Bool, true, false, if◌then◌else◌, All, IfSome}
 use Rattle.std.specs.Prelude.{List, [], ◌∷◌, ◌++◌, length, Option}
+use Rattle.mas_mind.specs.Limits.{most_cycles}
 use Rattle.mas_mind.specs.declared.mind.Message.{Message}
 use Rattle.mas_mind.specs.declared.mind.Input.{Input}
 use Rattle.mas_mind.specs.declared.mind.Outs.{Outs}
@@ -24,7 +25,7 @@ pub record AreLimits (agents cycles lead : ℕ) : Type 0 where
   pub some : 1 ≤ agents
   pub few : agents < 2 ^ 16
   pub cycle : 1 ≤ cycles
-  pub short : cycles ≤ 1000000
+  pub short : cycles ≤ most_cycles
   pub ahead : 1 ≤ lead
   pub close : lead ≤ 1000
 

@@ -1,5 +1,6 @@
 -- An agent between two of its turns, and what a cycle asks of it, over any meaning V of minds.
 use Rattle.std.specs.Prelude.{ℕ, ◌≡◌, ◌+◌, ◌<◌, ◌≤◌, false, List, ◌++◌, length}
+use Rattle.mas_mind.specs.Limits.{most_cycles}
 use Rattle.mas_mind.specs.declared.mind.Input.{Input}
 use Rattle.mas_mind.specs.declared.mind.Thought.{Thought}
 use Rattle.mas_mind.specs.Minds.{Kind, AreLawful, asks_feedback}
@@ -30,7 +31,7 @@ module _ {V : Type 0} where
     pub right : a.right ≡ a.number
     pub me : k.me a.mind ≡ a.number
     pub agents : k.agents a.mind ≡ length a.board.state.seats
-    pub limit : a.board.state.cycles ≤ 1000000
+    pub limit : a.board.state.cycles ≤ most_cycles
 
   -- it was given this input, on which its mind has to think
   pub record IsAsked (k : Kind V) (input : Input) (a : Standing V) : Type 0 where
@@ -38,7 +39,7 @@ module _ {V : Type 0} where
     pub busy : a.phase ≡ Busy
     pub made : k.made a.mind + 1 ≡ a.cycles
     pub awaits : k.awaits a.mind ≡ false
-    pub short : k.made a.mind < 1000000
+    pub short : k.made a.mind < most_cycles
     pub input_for : IsInputFor (k.agents a.mind) (k.me a.mind) input
 
   -- its mind has thought so, and the turn of that thought is to come

@@ -1,10 +1,15 @@
 -- What a search of the free machine's states promises, over any meaning V of minds. States have numbers from 0.
 use Rattle.std.specs.Prelude.{ℕ, ◌≡◌, ◌<◌, ◌≤◌, Bool, true, false, if◌then◌else◌, List, [], ◌∷◌, ◌++◌, length, slice_get, Option, None, Some, MatchBool}
+use Rattle.mas_mind.specs.Limits.{most_cycles}
 use Rattle.mas_mind.specs.Minds.{Kind, IsAgent}
 use Rattle.mas_free.specs.declared.view.View.{View}
 use Rattle.mas_free.specs.Outcome.{outcome}
 use Rattle.mas_free.specs.Free.{Free, move, AtRest, at_end}
 use Rattle.mas_free.specs.Covers.{IsMember, IsLike, HasLike}
+
+-- at most so many states are followed, so that no mind has made more cycles than a mind can make
+abbrev pub most_states : ℕ
+most_states = most_cycles
 
 -- the free machine comes from its first state to this one, where after each move a state that is like the one to which it led may be taken for that
 pub data IsReached {V : Type 0} (k : Kind V) (v : View) (first : Free V) : Free V → Type 0 where

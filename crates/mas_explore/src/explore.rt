@@ -3,6 +3,7 @@
 ghost use Rattle.std.specs.Prelude.{◌≡◌, ◌∷◌, ◌&&◌, [], All, IfOk, IfSome, length, ◌<◌, ◌≤◌};
 ghost use Rattle.std.specs.List.{list_any};
 ghost use Rattle.std.specs.Str.{bytes_eq};
+ghost use Rattle.mas_explore.specs.Searches.{most_states};
 ghost use Rattle.mas_free.specs.Covers.{IsStart, free_opening};
 ghost use Rattle.mas_explore.specs.Listings as spec;
 
@@ -161,7 +162,7 @@ pub fn explore<M: Steady, S: Space<M>, R: Runs<M>>(
     view: View,
     most: u64,
 ) -> Result<Listing, Starved>
-    requires short { most ≤ 1000000 }
+    requires short { most ≤ most_states }
     requires start { IsStart M.kind (R.start runs.now) }
     requires first { S.met space.old ≡ free_opening (R.start runs.now) ∷ [] }
     ensures sound { IfOk result (λ f. spec.AreShown M.kind view (R.start runs.now) f.list) }

@@ -2,6 +2,7 @@
 
 ghost use Rattle.std.specs.Prelude.{◌≡◌, ◌<◌, ◌≤◌, ◌||◌, [], length, IfOk, OnOk};
 ghost use Rattle.mas_explore.specs.Searches as spec;
+ghost use Rattle.mas_explore.specs.Searches.{most_states};
 
 use crate::space::Space;
 use asl_term::sequence::{Seq, Starved};
@@ -31,7 +32,7 @@ fn follow_state<M: Steady, S: Space<M>>(
     state: u64,
 ) -> Result<bool, Starved>
     requires there { state < length (S.met space.old) }
-    requires short { state < 1000000 }
+    requires short { state < most_states }
     ensures { IfOk result (spec.HasFollowedAll M.kind view (S.met space.old) (S.met space.new) state) }
 {
     let agents = space.agents();
@@ -52,7 +53,7 @@ pub fn follow_all<M: Steady, S: Space<M>>(
     most: u64,
     rests: &mut Seq<u64>,
 ) -> Result<bool, Starved>
-    requires short { most ≤ 1000000 }
+    requires short { most ≤ most_states }
     requires none { rests.old ≡ [] }
     ensures { IfOk result (spec.HasSearched M.kind view (S.met space.old) (S.met space.new) rests.new most) }
 {

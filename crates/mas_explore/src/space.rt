@@ -11,7 +11,11 @@ use asl_term::sequence::Starved;
 use asl_term::syntax::Text;
 use mas_free::steady::Steady;
 use mas_free::view::View;
+use mas_mind::limits::MOST_CYCLES;
 use std::alloc::Global;
+
+/// The most states that are followed, so that no mind has made more cycles than a mind can make.
+pub const MOST_STATES: u64 = MOST_CYCLES;
 
 /// States by their numbers, from 0 in the order in which they were met. How they are held, and how one is known again, is left open.
 pub trait Space<M: Steady> {
@@ -30,10 +34,10 @@ pub trait Space<M: Steady> {
         ensures { result ≡ length (met self.now) };
 
     /// Follows the move of an agent from a state, where it has one: what it leads to, or a state that is like it in this view, is one of those that were
-    /// met, now or before. Tells whether it has one. No more than a million states are followed, so that no mind has made more cycles than a mind can make.
+    /// met, now or before. Tells whether it has one. Of no more states than may be followed.
     fn follow(&mut self, alloc: Global, state: u64, a: u32, view: View) -> Result<bool, Starved>
         requires there { state < length (met self.old) }
-        requires short { state < 1000000 }
+        requires short { state < spec.most_states }
         requires agent { IsAgent (length (start self.old).names) a }
         ensures start { start self.new ≡ start self.old }
         ensures followed { IfOk result (spec.HasFollowed M.kind view (met self.old) (met self.new) state a) };

@@ -5,6 +5,7 @@ ghost use Rattle.asl_beliefs.specs.Bases.{all_ground};
 ghost use Rattle.asl_cycle.specs.Agent.{agent_kind, opening_mind};
 ghost use Rattle.asl_cycle.specs.Trace.{shows_rules};
 ghost use Rattle.mas_free.specs.Alike.{IsPlain};
+ghost use Rattle.mas_mind.specs.Limits.{most_tries};
 
 use crate::same::{mix_agent, same_agent};
 use asl_cycle::agent::{Agent, open_agent};
@@ -56,7 +57,7 @@ pub fn open_steady(
     requires from_one { 1 ≤ me }
     requires named { me ≤ length names.now }
     requires ground { all_ground source.now.beliefs ≡ true }
-    requires tries { budgets.tries ≤ 10000000 }
+    requires tries { budgets.tries ≤ most_tries }
     ensures opened { IfOk result (λ a. a ≡ opening_mind me names.now source.now budgets level) }
     ensures plain { shows_rules level ≡ false → IfOk result (IsPlain agent_kind) }
 {

@@ -2,6 +2,7 @@
 
 ghost use Rattle.std.specs.Prelude.{◌≡◌, ◌≤◌, ◌∷◌, [], length, IfOk};
 ghost use Rattle.std.specs.List.Sorted.{IsPermutation, IsSortedByKey};
+ghost use Rattle.mas_explore.specs.Searches.{most_states};
 ghost use Rattle.mas_free.specs.Covers.{IsStart, free_opening};
 ghost use Rattle.mas_explore.specs.Listings.{AreDistinct, AreShown, Reaches};
 ghost use Rattle.mas_explore.specs.declared.listing.Shown.{Shown};
@@ -35,7 +36,7 @@ pub fn sorted_outcomes<M: Steady, S: Space<M>, R: Runs<M>>(
     view: View,
     most: u64,
 ) -> Result<Listing, Starved>
-    requires short { most ≤ 1000000 }
+    requires short { most ≤ most_states }
     requires start { IsStart M.kind (R.start runs.now) }
     requires first { S.met space.old ≡ free_opening (R.start runs.now) ∷ [] }
     ensures sound { IfOk result (λ f. AreShown M.kind view (R.start runs.now) f.list) }

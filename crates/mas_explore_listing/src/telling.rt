@@ -1,6 +1,7 @@
 //! What is told of all runs.
 
 ghost use Rattle.std.specs.Prelude.{◌≡◌, ◌≤◌, ◌∷◌, [], option_copied, IfOk};
+ghost use Rattle.mas_explore.specs.Searches.{most_states};
 ghost use Rattle.mas_free.specs.Covers.{IsStart, free_opening};
 ghost use Rattle.mas_explore_listing.specs.Told as spec;
 
@@ -68,7 +69,7 @@ pub fn told_of_runs<M: Steady, S: Space<M>, R: Runs<M>>(
     o: &Options,
     question: Option<&Question>,
 ) -> Result<Told, Starved>
-    requires short { most ≤ 1000000 }
+    requires short { most ≤ most_states }
     requires start { IsStart M.kind (R.start runs.now) }
     requires first { S.met space.old ≡ free_opening (R.start runs.now) ∷ [] }
     ensures { IfOk result (spec.IsTold M.kind view (R.start runs.now) most o.now (option_copied question.entry)) }

@@ -2,6 +2,7 @@
 use Rattle.std.specs.Prelude.{ℕ, ◌≡◌, ◌<◌, Bool, true, false, not, ◌&&◌, is_some, IfSome, List, [], length, slice_get, Option, None, Some}
 use Rattle.asl_term.specs.declared.syntax.LiteralOf.{LiteralOf}
 use Rattle.asl_term.specs.declared.syntax.Term.{Term}
+use Rattle.mas_mind.specs.Limits.{most_cycles}
 use Rattle.mas_mind.specs.declared.mind.Input.{Input}
 use Rattle.mas_mind.specs.declared.mind.Message.{Message}
 use Rattle.mas_mind.specs.declared.mind.Thought.{Thought}
@@ -38,7 +39,7 @@ minds_in k first t = all_from (heard k t.sights t.boxes) first t.links
 
 pub record MayThink {V : Type 0} (k : Kind V) (sights : List (List (LiteralOf Term))) (boxes : List (List Message)) (m : V) (sight front : ℕ) : Type 0 where
   pub free : k.awaits m ≡ false
-  pub short : k.made m < 1000000
+  pub short : k.made m < most_cycles
   pub percepts : List (LiteralOf Term)
   pub sight_at : slice_get sights sight ≡ Some percepts
   pub ground : are_ground percepts ≡ true

@@ -9,6 +9,7 @@ use asl_term::sequence::{Seq, Starved};
 use mas_board::board::{Board, open_board};
 use mas_explore::origin::Origin;
 use mas_free::steady::Steady;
+use mas_mind::limits::MOST_CYCLES;
 use mas_world::artifact::Artifact;
 use std::alloc::Global;
 
@@ -18,7 +19,7 @@ pub fn are_limits(agents: u32, cycles: u64, lead: u64) -> bool
     ensures no { AreLimits agents cycles lead → result ≡ true }
 {
     let some = 1 <= agents && agents <= 65_535;
-    let short = 1 <= cycles && cycles <= 1_000_000;
+    let short = 1 <= cycles && cycles <= MOST_CYCLES;
     let close = 1 <= lead && lead <= 1000;
     some && short && close
 }

@@ -2,6 +2,7 @@
 
 ghost use Rattle.std.specs.Prelude.{◌≡◌, ◌<◌, ◌+◌, ◌-◌, true, length, slice_get, Some, All, IfOk};
 ghost use Rattle.asl_term.specs.Exprs.{is_ground_literal};
+ghost use Rattle.mas_explore.specs.Searches.{most_states};
 ghost use Rattle.mas_mind.specs.Minds.{IsAgent, IsFrom};
 ghost use Rattle.mas_explore_minds.specs.Minds.{MayFollow, HasLinked};
 ghost use Rattle.mas_explore_minds.specs.declared.heard.Heard.TheVariants.{Told};
@@ -253,7 +254,7 @@ pub fn follow_outs<M: Mind, A: Artifact, F: Fresh<M> + FreshWorld<A>>(
 ) -> Result<Row, Starved>
     requires mover { rows.IsMover M.kind (start_of (F.agents fresh.now) (F.start fresh.now) (F.first fresh.now)) held.old state row a seat }
     requires busy { seat.stance ≡ Busy thought }
-    requires short { state < 1000000 }
+    requires short { state < most_states }
     ensures { let s = start_of (F.agents fresh.now) (F.start fresh.now) (F.first fresh.now) in
         IfOk result (λ r. rows.HasMoved M.kind s held.old held.new state row a (Some r)) }
 {

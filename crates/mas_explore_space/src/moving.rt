@@ -1,6 +1,7 @@
 //! The moves of agents.
 
 ghost use Rattle.std.specs.Prelude.{◌≡◌, ◌<◌, Some, length, IfOk};
+ghost use Rattle.mas_explore.specs.Searches.{most_states};
 ghost use Rattle.mas_mind.specs.Minds.{IsAgent};
 ghost use Rattle.mas_explore_space.specs.declared.row.Stance.TheVariants.{Idle, Busy, Left};
 ghost use Rattle.mas_explore_space.specs.Held.{start_of, Fits};
@@ -37,7 +38,7 @@ fn follow_idle<M: Mind, A: Artifact, F: Fresh<M> + FreshWorld<A>>(
     seat: Seat,
 ) -> Result<Option<Row>, Starved>
     requires mover { rows.IsMover M.kind (start_of (F.agents fresh.now) (F.start fresh.now) (F.first fresh.now)) held.old state row a seat }
-    requires short { state < 1000000 }
+    requires short { state < most_states }
     requires idle { seat.stance ≡ Idle }
     ensures { let s = start_of (F.agents fresh.now) (F.start fresh.now) (F.first fresh.now) in
         IfOk result (rows.HasMoved M.kind s held.old held.new state row a) }
@@ -60,7 +61,7 @@ fn follow_busy<M: Mind, A: Artifact, F: Fresh<M> + FreshWorld<A>>(
     thought: u64,
 ) -> Result<Option<Row>, Starved>
     requires mover { rows.IsMover M.kind (start_of (F.agents fresh.now) (F.start fresh.now) (F.first fresh.now)) held.old state row a seat }
-    requires short { state < 1000000 }
+    requires short { state < most_states }
     requires busy { seat.stance ≡ Busy thought }
     ensures { let s = start_of (F.agents fresh.now) (F.start fresh.now) (F.first fresh.now) in
         IfOk result (rows.HasMoved M.kind s held.old held.new state row a) }
@@ -80,7 +81,7 @@ fn follow_seat<M: Mind, A: Artifact, F: Fresh<M> + FreshWorld<A>>(
     seat: Seat,
 ) -> Result<Option<Row>, Starved>
     requires mover { rows.IsMover M.kind (start_of (F.agents fresh.now) (F.start fresh.now) (F.first fresh.now)) held.old state row a seat }
-    requires short { state < 1000000 }
+    requires short { state < most_states }
     ensures { let s = start_of (F.agents fresh.now) (F.start fresh.now) (F.first fresh.now) in
         IfOk result (rows.HasMoved M.kind s held.old held.new state row a) }
 {
@@ -109,7 +110,7 @@ pub fn follow_row<M: Mind, A: Artifact, F: Fresh<M> + FreshWorld<A>>(
     requires fits { Fits M.kind (start_of (F.agents fresh.now) (F.start fresh.now) (F.first fresh.now)) held.old }
     requires stands { rows.Stands M.kind (start_of (F.agents fresh.now) (F.start fresh.now) (F.first fresh.now)) held.old state row }
     requires agent { IsAgent (length (F.agents fresh.now)) a }
-    requires short { state < 1000000 }
+    requires short { state < most_states }
     ensures { let s = start_of (F.agents fresh.now) (F.start fresh.now) (F.first fresh.now) in
         IfOk result (rows.HasMoved M.kind s held.old held.new state row a) }
 {

@@ -8,6 +8,7 @@ use asl_term::syntax::Numbers;
 use mas_explore::listing::Plan;
 use mas_explore_minds::copies::copy_message;
 use mas_explore_minds::heard::{Cycle, Thinking};
+use mas_mind::limits::{MOST_CYCLES, MOST_CYCLES_TOGETHER};
 use mas_mind::mind::{Feedback, Messages, Thought};
 use std::alloc::Global;
 
@@ -224,11 +225,11 @@ fn plan_state(alloc: Global, met: &Met, course: &mut Course, state: u64) -> Resu
 
 /// What each agent may make of this many turns, and a cycle more, so that none ends at its limit; but no more than a run allows all of them together.
 fn cycles_for(turns: u64, agents: u32) -> u64 {
-    let wanted = turns.saturating_add(1).min(1_000_000);
+    let wanted = turns.saturating_add(1).min(MOST_CYCLES);
     if agents == 0 {
         return wanted;
     }
-    wanted.min(2_000_000 / agents as u64)
+    wanted.min(MOST_CYCLES_TOGETHER / agents as u64)
 }
 
 /// The plan of a run that may come to a state at rest, under limits that it does not meet, as far as a run allows them.

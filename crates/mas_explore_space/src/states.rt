@@ -1,6 +1,7 @@
 //! The states that a search has met.
 
 ghost use Rattle.std.specs.Prelude.{◌≡◌, ◌<◌, ◌+◌, ◌-◌, ◌∷◌, [], length, slice_get, Some, IfOk, OnOk};
+ghost use Rattle.mas_explore.specs.Searches.{most_states};
 ghost use Rattle.mas_mind.specs.Minds.{IsAgent};
 ghost use Rattle.mas_free.specs.Covers.{free_opening};
 ghost use Rattle.mas_explore.specs.Origins.{IsOrigin};
@@ -92,7 +93,7 @@ fn step<M: Likened, A: Artifact, F: Fresh<M> + FreshWorld<A>>(
     requires met { spec.IsMet M.kind (start_of (F.agents fresh.now) (F.start fresh.now) (F.first fresh.now)) met.old }
     requires likes { AreMet M.kind (F.first fresh.now) met.old.held.minds likes.old }
     requires there { state < length met.old.rows }
-    requires short { state < 1000000 }
+    requires short { state < most_states }
     requires agent { IsAgent (length (F.agents fresh.now)) a }
     ensures likes { OnOk result (AreMet M.kind (F.first fresh.now) met.new.held.minds likes.new) }
     ensures stepped { let s = start_of (F.agents fresh.now) (F.start fresh.now) (F.first fresh.now) in

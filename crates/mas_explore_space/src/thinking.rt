@@ -1,6 +1,7 @@
 //! Cycles of agents.
 
 ghost use Rattle.std.specs.Prelude.{◌≡◌, ◌<◌, ◌+◌, ◌-◌, length, slice_get, Some, IfOk, IfSome};
+ghost use Rattle.mas_explore.specs.Searches.{most_states};
 ghost use Rattle.mas_explore_minds.specs.Minds.{MayCycle, ThinksTo};
 ghost use Rattle.mas_explore_space.specs.declared.row.Stance.TheVariants.{Idle};
 ghost use Rattle.mas_explore_space.specs.Held as spec;
@@ -89,7 +90,7 @@ fn cycle_of<M: Mind, A: Artifact, F: Fresh<M> + FreshWorld<A>>(
     seat: Seat,
 ) -> Result<Thinking, Starved>
     requires mover { rows.IsMover M.kind (start_of (F.agents fresh.now) (F.start fresh.now) (F.first fresh.now)) held.old state row.now a seat }
-    requires short { state < 1000000 }
+    requires short { state < most_states }
     requires idle { seat.stance ≡ Idle }
     ensures { let s = start_of (F.agents fresh.now) (F.start fresh.now) (F.first fresh.now) in
         IfOk result (rows.HasCycled M.kind s held.old held.new row.now.world a seat) }
@@ -166,7 +167,7 @@ pub fn follow_cycle<M: Mind, A: Artifact, F: Fresh<M> + FreshWorld<A>>(
     seat: Seat,
 ) -> Result<Option<Row>, Starved>
     requires mover { rows.IsMover M.kind (start_of (F.agents fresh.now) (F.start fresh.now) (F.first fresh.now)) held.old state row a seat }
-    requires short { state < 1000000 }
+    requires short { state < most_states }
     requires idle { seat.stance ≡ Idle }
     requires running { row.stop ≡ false }
     ensures { let s = start_of (F.agents fresh.now) (F.start fresh.now) (F.first fresh.now) in

@@ -6,7 +6,9 @@ use Rattle.std.specs.Str.{bytes_eq}
 use Rattle.clap.specs.Faults.{fault_of}
 use Rattle.clap.specs.Simple.{matches_of}
 use Rattle.clap.specs.Walk.{Row, first_of, is_empty}
-use Rattle.mas_report.specs.Limits.{IsFrom, defaults}
+use Rattle.mas_explore.specs.Searches.{most_states}
+use Rattle.mas_mind.specs.Limits.{most_tries}
+use Rattle.mas_report.specs.Limits.{IsFrom, defaults, most_depth}
 use Rattle.mas_top_words.specs.Asked.{number_for}
 use Rattle.mas_explore_listing.specs.declared.answers.Claim.{Claim}
 use Rattle.mas_explore_listing.specs.declared.answers.Claim.TheVariants.{Never, Always}
@@ -36,9 +38,9 @@ pub data Asked : Type 0 where
 
 -- the numbers are those that the options permit
 pub record IsPermitted (e : Exploring) : Type 0 where
-  pub depth : IsFrom 1 10000 e.depth
-  pub tries : IsFrom 1 10000000 e.tries
-  pub states : IsFrom 1 1000000 e.states
+  pub depth : IsFrom 1 most_depth e.depth
+  pub tries : IsFrom 1 most_tries e.tries
+  pub states : IsFrom 1 most_states e.states
 
 abbrev pub ArePermitted : Asked → Type 0
 ArePermitted help = Unit {0}
@@ -96,9 +98,9 @@ abbrev pub exploring_by : (List ℕ → Option (List ℕ)) → Option Exploring
 exploring_by text = exploring_with
     (text (codes "project"))
     (detail_for (text (codes "level")))
-    (number_for defaults.depth 1 10000 (text (codes "depth")))
-    (number_for defaults.tries 1 10000000 (text (codes "tries")))
-    (number_for 1000000 1 1000000 (text (codes "states")))
+    (number_for defaults.depth 1 most_depth (text (codes "depth")))
+    (number_for defaults.tries 1 most_tries (text (codes "tries")))
+    (number_for most_states 1 most_states (text (codes "states")))
     (claimed_for (text (codes "never")) (text (codes "always")))
     (is_set (text (codes "progress")))
 

@@ -10,11 +10,13 @@ ghost use Rattle.mas_explore_top.specs.Asked as spec;
 
 use crate::app::explore_app;
 use crate::values::{claimed_for, detail_for, is_set, number_for};
-use crate::words::{ExploreAsked, ExploreWords, MOST_STATES};
+use crate::words::{ExploreAsked, ExploreWords};
 use asl_term::sequence::Starved;
 use clap::error::ErrorKind;
 use clap::{ArgMatches, Command};
-use mas_report::options::default_options;
+use mas_explore::space::MOST_STATES;
+use mas_mind::limits::MOST_TRIES;
+use mas_report::options::{MOST_DEPTH, default_options};
 use std::alloc::Global;
 
 /// The text of an argument.
@@ -35,8 +37,8 @@ fn exploring_among<'a>(matches: &ArgMatches<'a>) -> Option<ExploreWords<'a>>
     let usual = default_options();
     let project = text_of(matches, "project")?;
     let detail = detail_for(text_of(matches, "level"))?;
-    let depth = number_for(usual.depth, 1, 10_000, text_of(matches, "depth"))?;
-    let tries = number_for(usual.tries, 1, 10_000_000, text_of(matches, "tries"))?;
+    let depth = number_for(usual.depth, 1, MOST_DEPTH, text_of(matches, "depth"))?;
+    let tries = number_for(usual.tries, 1, MOST_TRIES, text_of(matches, "tries"))?;
     let states = number_for(MOST_STATES, 1, MOST_STATES, text_of(matches, "states"))?;
     let claimed = claimed_for(text_of(matches, "never"), text_of(matches, "always"))?;
     Some(ExploreWords {

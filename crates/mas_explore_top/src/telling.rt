@@ -3,6 +3,7 @@
 ghost use Rattle.std.specs.Prelude.{◌≡◌, ◌≤◌, false, option_copied, option_map, IfOk, MatchResult};
 ghost use Rattle.asl_cycle.specs.Agent.{agent_kind};
 ghost use Rattle.asl_cycle.specs.Trace.{shows_rules};
+ghost use Rattle.mas_explore.specs.Searches.{most_states};
 ghost use Rattle.mas_report.specs.Limits.{IsWithin, defaults};
 ghost use Rattle.mas_top_files.specs.Known.{known};
 ghost use Rattle.mas_top_files.specs.Sources.{AreRefused};
@@ -95,7 +96,7 @@ fn told_of_origin<A: Artifact, K: Kinds<A>, W: Watch>(
     question: Option<&Question>,
     watch: W,
 ) -> Result<Told, Starved>
-    requires { words.now.states ≤ 1000000 }
+    requires { words.now.states ≤ most_states }
     ensures { IfOk result (IsTold agent_kind (spec.view_of words.now.detail) origin.now words.now.states o.now (option_copied question.entry)) }
 {
     let _names = origin.names();

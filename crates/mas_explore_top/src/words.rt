@@ -3,9 +3,6 @@
 use crate::detail::Detail;
 use mas_explore_listing::answers::Claim;
 
-/// The most states that are followed.
-pub const MOST_STATES: u64 = 1_000_000;
-
 /// A claim of a line, without its line feed.
 #[derive(Clone, Copy)]
 pub struct Claimed<'a> {

@@ -5,5 +5,6 @@
 //! Must not: know how a mind thinks, take memory of its own, start a thread, wait.
 #![tactic(auto)]
 
+pub mod limits;
 pub mod mind;
 pub mod thinking;

@@ -1,6 +1,7 @@
 //! A mind, by what its cycles make of it.
 
 ghost use Rattle.std.specs.Prelude.{◌≡◌, ◌<◌, ◌+◌, true, false, None, IfOk, IfSome, OnErr};
+ghost use Rattle.mas_mind.specs.Limits.{most_cycles};
 ghost use Rattle.mas_mind.specs.declared.mind.Input.{Input};
 ghost use Rattle.mas_mind.specs.declared.mind.Feedback.{Feedback};
 ghost use Rattle.mas_mind.specs.Minds.{Kind, are_ground, IsFor, AreLawful, is_quiet, SendsNothing, asks_feedback, Grows};
@@ -20,7 +21,7 @@ pub trait Mind: Drop {
     /// told what became of it.
     fn think(&mut self, alloc: Global, input: Input) -> Result<Thought, Starved>
         requires free { kind.awaits self.old ≡ false }
-        requires short { kind.made self.old < 1000000 }
+        requires short { kind.made self.old < most_cycles }
         requires ground { are_ground input.percepts ≡ true }
         requires sent { IfSome input.message (IsFor (kind.me self.old) (kind.agents self.old)) }
         ensures made { IfOk result (λ thought. kind.cycle self.old input ≡ record { mind = self.new; thought = thought }) }

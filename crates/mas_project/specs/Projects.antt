@@ -52,6 +52,7 @@ pub record SayProject (ps : List (List Tok)) (p : ProjectText) : Type 0 where
 
 -- ---- the tests of the agents
 
+-- there are at most so many
 abbrev pub most_agents : ℕ
 most_agents = 1024
 

@@ -13,7 +13,7 @@ use mas_record_disk::disk::{Disk, DiskFail};
 use std::alloc::Global;
 
 /// The most bytes of a journal that is opened.
-const MOST_BYTES: u64 = 15_000_009;
+pub const MOST_BYTES: u64 = 15_000_009;
 
 /// The turns up to the first whose gate is not open or that is cut short.
 #[tactic(auto, using(crate::proofs::Blocks::one_more))]

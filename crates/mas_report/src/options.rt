@@ -3,6 +3,7 @@
 ghost use Rattle.std.specs.Prelude.{◌≡◌, true};
 ghost use Rattle.mas_report.specs.Limits.{IsWithin, defaults};
 
+use mas_mind::limits::{MOST_CYCLES, MOST_TRIES};
 use mas_mind::mind::Level;
 
 /// The cycles of each agent, by how many cycles one may be ahead of another, the rules one inside another
@@ -15,6 +16,9 @@ pub struct Options {
     pub tries: u64,
     pub level: Level,
 }
+
+/// The most rules one inside another in a search.
+pub const MOST_DEPTH: u64 = 10_000;
 
 /// The options of a run that names none.
 pub fn default_options() -> Options
@@ -35,9 +39,9 @@ pub fn is_within(o: &Options) -> bool
     ensures yes { result ≡ true → IsWithin o.now }
     ensures no { IsWithin o.now → result ≡ true }
 {
-    let cycles = 1 <= o.cycles && o.cycles <= 1_000_000;
+    let cycles = 1 <= o.cycles && o.cycles <= MOST_CYCLES;
     let lead = 1 <= o.lead && o.lead <= 1000;
-    let depth = 1 <= o.depth && o.depth <= 10_000;
-    let tries = 1 <= o.tries && o.tries <= 10_000_000;
+    let depth = 1 <= o.depth && o.depth <= MOST_DEPTH;
+    let tries = 1 <= o.tries && o.tries <= MOST_TRIES;
     cycles && lead && depth && tries
 }

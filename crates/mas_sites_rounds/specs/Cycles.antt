@@ -1,5 +1,6 @@
 -- What always holds of a site during its run, and a cycle of one of its minds.
 use Rattle.std.specs.Prelude.{ℕ, ◌≡◌, ◌-◌, ◌<◌, true, IfSome, List, length, slice_set, Option, Some}
+use Rattle.mas_mind.specs.Limits.{most_cycles}
 use Rattle.mas_mind.specs.declared.mind.Input.{Input}
 use Rattle.mas_mind.specs.declared.mind.Message.{Message}
 use Rattle.mas_mind.specs.declared.mind.Thought.{Thought}
@@ -25,7 +26,7 @@ pub record MayCycle {V : Type 0} (k : Kind V) (old : Placed V) (thoughts : List 
   pub number : length old.scripts ≡ length old.minds
   pub agent : IsAgent (length seats) a
   pub idle : (seat_of seats a).phase ≡ Idle
-  pub short : (seat_of seats a).cycle < 1000000
+  pub short : (seat_of seats a).cycle < most_cycles
   pub percepts : are_ground input.percepts ≡ true
   pub message : IfSome input.message (IsFor a (length seats))
 

@@ -1,6 +1,7 @@
 //! A site during its run: a turn a call.
 
 ghost use Rattle.std.specs.Prelude.{◌≡◌, ◌<◌, ◌≤◌, ◌^◌, length, IfOk, OnOk};
+ghost use Rattle.mas_mind.specs.Limits.{most_cycles};
 ghost use Rattle.mas_mind.specs.Minds.{IsAgent};
 ghost use Rattle.mas_board.specs.Boards.{is_gone, seat_at};
 ghost use Rattle.mas_board.specs.declared.seats.Phase.TheVariants.{Idle, Busy};
@@ -273,7 +274,7 @@ impl<M: Mind, A: Artifact> SiteState<M, A> {
     /// How many cycles an agent may make.
     pub fn cycles(&self) -> u64
         ensures number { result ≡ self.now.platform.board.cycles }
-        ensures short { result ≤ 1000000 }
+        ensures short { result ≤ most_cycles }
     {
         self.board.holds();
         self.board.cycles()

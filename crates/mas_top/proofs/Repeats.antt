@@ -4,6 +4,7 @@ use Rattle.std.proofs.Math.Nat.{suc-mul}
 use Rattle.std.proofs.lemmas.List.{length-replicate}
 use Rattle.asl_term.specs.declared.syntax.Filed.{Filed}
 use Rattle.asl_cycle.specs.Agent.{Mindset, agent_kind}
+use Rattle.mas_mind.specs.Limits.{most_cycles_together}
 use Rattle.mas_mind.specs.Minds.{Kind}
 use Rattle.mas_board.specs.Boards.{no_seat}
 use Rattle.mas_core.specs.Platform.{Platform, run, ended}
@@ -19,7 +20,6 @@ use Rattle.mas_report.specs.Report.{latest, front_text, report_text, is_spent, I
 use Rattle.mas_report.proofs.Backs.{told, shown, words_within}
 use Rattle.mas_report.proofs.Numbered.{run_numbers}
 use Rattle.mas_top_files.specs.declared.sources.Source.{Source}
-use Rattle.mas_top_files.specs.Projects.{most_cycles}
 use Rattle.mas_top_opening.specs.Opening.{Setup, opening, opening_minds, opening_world}
 use Rattle.mas_top.specs.Runs.{Wanted, Given, given, HasGiven}
 use Rattle.mas_top.specs.Ways.{along}
@@ -69,8 +69,8 @@ record AreTurns (names : List ℕ) : Type 0 where
   each : AllFromOne 65535 names
 
 -- the cycles of all agents are few
-named_few : (u : Setup) (files : List Filed) (wanted : Wanted) (g : Given) → HasGiven u (Some files) wanted g → length g.source.names * u.options.cycles ≤ most_cycles
-named_few u files wanted g h = subst (λ n. length n * u.options.cycles ≤ most_cycles) (sym h.source.describe.names) h.source.asked.few
+named_few : (u : Setup) (files : List Filed) (wanted : Wanted) (g : Given) → HasGiven u (Some files) wanted g → length g.source.names * u.options.cycles ≤ most_cycles_together
+named_few u files wanted g h = subst (λ n. length n * u.options.cycles ≤ most_cycles_together) (sym h.source.describe.names) h.source.asked.few
 
 are_turns : RunsEnd agent_kind → (u : Setup) (files : List Filed) (wanted : Wanted) (g : Given) (version : ℕ) (spent : Bool) (w : List ℕ) → HasGiven u (Some files) wanted g →
     IsReport agent_kind version u.options (opening u g.source) spent w → AreTurns (printed w)

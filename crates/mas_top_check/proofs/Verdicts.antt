@@ -4,6 +4,7 @@ use Rattle.std.specs.Prelude.{Result, Ok, Err, IfOk, MatchOption}
 use Rattle.std.proofs.lemmas.Grind.{common_steps}
 use Rattle.asl_term.specs.declared.syntax.Filed.{Filed}
 use Rattle.asl_cycle.specs.Agent.{agent_kind}
+use Rattle.mas_mind.specs.Limits.{most_cycles_together}
 use Rattle.mas_world.specs.Worlds.{Used}
 use Rattle.mas_io.specs.declared.shelf.Fetched.TheVariants.{Bytes}
 use Rattle.mas_report_schedule.specs.Schedule.{IsVersion, printed}
@@ -17,7 +18,6 @@ use Rattle.mas_top_files.specs.declared.sources.Source.{Source}
 use Rattle.mas_top_status.specs.declared.status.Status.{Status}
 use Rattle.mas_top_files.specs.Files.{Has, HasFile, IsRefusal, unfetched, IsUnfetched, most_report_bytes}
 use Rattle.mas_top_files.specs.Known.{known}
-use Rattle.mas_top_files.specs.Projects.{most_cycles}
 use Rattle.mas_top_files.specs.Sources.{HasSource, FirstRefused, AreRefused, UnlessMemory}
 use Rattle.mas_top_files.proofs.Fetched.{refusal_from}
 use Rattle.mas_top_files.proofs.Unless.{unless, unless_as}
@@ -26,11 +26,11 @@ use Rattle.mas_top_opening.specs.Opening.{setup, opening}
 
 -- ---- what is allowed
 
-decided_few : (source : Source) (o : Options) (b : Bool) → IsWithin o → nat_le (length source.names * o.cycles) most_cycles ≡ b → Decided (IsAllowed source o) b
+decided_few : (source : Source) (o : Options) (b : Bool) → IsWithin o → nat_le (length source.names * o.cycles) most_cycles_together ≡ b → Decided (IsAllowed source o) b
 decided_few source o true w e = record { within = w; few = grind (arith, common_steps) }
 decided_few source o false w e = λ h. let l = h.few in absurd (grind (arith, common_steps))
 
-pub few : (source : Source) (o : Options) (within : Bool) (b : Bool) → within ≡ true → (within ≡ true → IsWithin o) → b ≡ nat_le (length source.names * o.cycles) most_cycles →
+pub few : (source : Source) (o : Options) (within : Bool) (b : Bool) → within ≡ true → (within ≡ true → IsWithin o) → b ≡ nat_le (length source.names * o.cycles) most_cycles_together →
     Decided (IsAllowed source o) b
 few source o within b t f e = decided_few source o b (f t) (sym e)
 

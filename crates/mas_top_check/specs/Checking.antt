@@ -2,6 +2,7 @@
 use Rattle.std.specs.Prelude.{ℕ, ◌≡◌, ◌≤◌, ◌*◌, ◌⊎◌, List, length, Option, None, Some, MatchOption, codes}
 use Rattle.asl_term.specs.declared.syntax.Filed.{Filed}
 use Rattle.asl_cycle.specs.Agent.{agent_kind}
+use Rattle.mas_mind.specs.Limits.{most_cycles_together}
 use Rattle.mas_mind.specs.Minds.{Kind}
 use Rattle.mas_world.specs.Worlds.{Used}
 use Rattle.mas_core.specs.Platform.{Platform}
@@ -20,7 +21,6 @@ use Rattle.mas_top_status.specs.declared.status.Status.TheVariants.{Ok, No, Usag
 use Rattle.mas_top_files.specs.Files.{HasFile, Reader, IsRefusal, most_report_bytes}
 use Rattle.mas_top_files.specs.Known.{known}
 use Rattle.mas_top_files.specs.Laws.{Surely}
-use Rattle.mas_top_files.specs.Projects.{most_cycles}
 use Rattle.mas_top_files.specs.Sources.{HasSource, FirstRefused}
 use Rattle.mas_top_check.specs.declared.checking.ReportClaim as code
 use Rattle.mas_top_check.specs.declared.checking.ReportClaim.TheVariants as code_variant
@@ -29,7 +29,7 @@ use Rattle.mas_top_opening.specs.Opening.{setup, opening}
 -- The options are within their limits, and so are the cycles that the agents of the source may make together.
 pub record IsAllowed (source : Source) (o : Options) : Type 0 where
   pub within : IsWithin o
-  pub few : length source.names * o.cycles ≤ most_cycles
+  pub few : length source.names * o.cycles ≤ most_cycles_together
 
 -- The bytes tell this of a run that the source may have: its options are allowed.
 pub record TellsRun (source : Source) (bytes : List ℕ) (told : Told) : Type 0 where

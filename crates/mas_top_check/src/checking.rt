@@ -5,11 +5,11 @@ ghost use Rattle.asl_cycle.specs.Agent.{agent_kind};
 ghost use Rattle.mas_core.specs.Fits.{Start};
 ghost use Rattle.mas_core.specs.Platform.{opening_platform};
 ghost use Rattle.mas_io.specs.Told.{told_of, IsKept};
+ghost use Rattle.mas_mind.specs.Limits.{most_cycles, most_cycles_together};
 ghost use Rattle.mas_report.specs.Limits.{IsWithin};
 ghost use Rattle.mas_report.specs.Report.{Decided, IsAnyReport};
 ghost use Rattle.mas_report_schedule.specs.Schedule.{IsVersion, printed};
 ghost use Rattle.mas_top_files.specs.Files.{HasFile, IsRefusal, most_report_bytes};
-ghost use Rattle.mas_top_files.specs.Projects.{most_cycles};
 ghost use Rattle.mas_top_files.specs.Sources.{UnlessMemory};
 ghost use Rattle.mas_top_check.specs.Checking as spec;
 ghost use Rattle.mas_top_opening.specs.Fits.{CanRun};
@@ -21,6 +21,7 @@ use asl_term::syntax::Text;
 use mas_io::shelf::Shelf;
 use mas_io::sink::Sink;
 use mas_io::writing::write_all;
+use mas_mind::limits::MOST_CYCLES_TOGETHER;
 use mas_mind::thinking::Mind;
 use mas_report::checking::{is_report_along, renewal_along};
 use mas_report::options::{Options, default_options, is_within};
@@ -40,15 +41,12 @@ pub enum ReportClaim {
     Anew,
 }
 
-/// The most cycles that all agents of a project may make together.
-const MOST_CYCLES: u64 = 2_000_000;
-
 /// Whether so many agents may make so many cycles each.
 fn are_few(agents: u32, cycles: u64) -> bool
-    requires { cycles ≤ 1000000 }
-    ensures { result ≡ nat_le (agents * cycles) most_cycles }
+    requires { cycles ≤ most_cycles }
+    ensures { result ≡ nat_le (agents * cycles) most_cycles_together }
 {
-    agents as u64 * cycles <= MOST_CYCLES
+    agents as u64 * cycles <= MOST_CYCLES_TOGETHER
 }
 
 /// Whether the options are within their limits, and so the cycles of all agents of the source.

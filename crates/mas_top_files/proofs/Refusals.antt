@@ -6,6 +6,7 @@ use Rattle.asl_parser_expr.specs.declared.fault.TextFault.{TextFault}
 use Rattle.asl_parser.specs.declared.sentence.Sentence.{Sentence}
 use Rattle.asl_parser.specs.Agents.{IsAgent}
 use Rattle.asl_parser.proofs.Single.{one_answer}
+use Rattle.mas_mind.specs.Limits.{most_cycles_together}
 use Rattle.mas_world.specs.declared.acts.WorldText.{WorldText}
 use Rattle.env_file.specs.declared.fault.WorldFault.{WorldFault}
 use Rattle.env_file.proofs.Single.{one_world}
@@ -21,7 +22,7 @@ use Rattle.mas_top_files.specs.declared.sources.Role.{Role}
 use Rattle.mas_top_status.specs.declared.status.What.TheVariants as what
 use Rattle.mas_top_status.specs.declared.status.Status.{Status}
 use Rattle.mas_top_status.specs.declared.status.Status.TheVariants.{Missing, Limit, Memory}
-use Rattle.mas_top_files.specs.Projects.{is_agent_file, all_cycles, most_cycles}
+use Rattle.mas_top_files.specs.Projects.{is_agent_file, all_cycles}
 use Rattle.mas_top_files.specs.Files.{Reader, agents, worlds, projects, HasFault, IsRefusal, unfetched, faulty, missing, too_long, failed, starved}
 use Rattle.mas_top_files.specs.Sources.{HasProject, HasRole, HasRoles, LineRefused, PartRefused, ProjectRefused, FirstRefused, project_refused, cycles_refused, part_refused}
 use Rattle.mas_top_files.specs.Laws.{Surely, OneRefusal}
@@ -160,10 +161,10 @@ module _ (known : List (List ℕ)) (cycles : ℕ) (files : List Filed) (word : L
   first_one (cycles_refused h) (cycles_refused g) =
       h.status_is ∙ ap (λ p. Limit what.Cycles (all_cycles p cycles)) (same_project files word h.project g.project h.stands g.stands) ∙ sym g.status_is
   first_one (cycles_refused h) (part_refused q m g) =
-      absurd (too_many (all_cycles h.project cycles) (subst (λ p. all_cycles p cycles ≤ most_cycles) (same_project files word q h.project m.stands h.stands) m.few) h.past)
+      absurd (too_many (all_cycles h.project cycles) (subst (λ p. all_cycles p cycles ≤ most_cycles_together) (same_project files word q h.project m.stands h.stands) m.few) h.past)
   first_one (part_refused p l h) (project_refused g) = absurd (project_stands files word p d e t k l.stands g)
   first_one (part_refused p l h) (cycles_refused g) =
-      absurd (too_many (all_cycles g.project cycles) (subst (λ p. all_cycles p cycles ≤ most_cycles) (same_project files word p g.project l.stands g.stands) l.few) g.past)
+      absurd (too_many (all_cycles g.project cycles) (subst (λ p. all_cycles p cycles ≤ most_cycles_together) (same_project files word p g.project l.stands g.stands) l.few) g.past)
   first_one (part_refused p l h) (part_refused q m g) =
       part_one files b a d e s t c k known p h (subst (λ x. PartRefused known x (Some files) d e t) (same_project files word q p m.stands l.stands) g)
 

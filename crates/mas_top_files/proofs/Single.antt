@@ -8,6 +8,7 @@ use Rattle.asl_parser_expr.specs.declared.fault.TextFault.TheVariants as fault
 use Rattle.asl_parser.specs.declared.sentence.Sentence.{Sentence}
 use Rattle.asl_parser.specs.Agents.{IsAgent, IsAnswer}
 use Rattle.asl_parser.proofs.Single.{one_answer, one_agent}
+use Rattle.mas_mind.specs.Limits.{most_cycles_together}
 use Rattle.mas_world.specs.declared.acts.WorldText.{WorldText}
 use Rattle.env_file.specs.declared.fault.WorldFault.{WorldFault}
 use Rattle.env_file.specs.declared.fault.WorldFault.TheVariants as world
@@ -27,7 +28,7 @@ use Rattle.mas_top_files.specs.declared.sources.Source.{Source}
 use Rattle.mas_top_status.specs.declared.status.Status.{Status}
 use Rattle.mas_top_status.specs.declared.status.Status.TheVariants.{Ok, No, Usage, Missing, ReadFault, WriteFault, Refused, Limit, Budget, Memory, DiskFault}
 use Rattle.mas_top_files.specs.Faults.{text_status, world_status, project_status}
-use Rattle.mas_top_files.specs.Projects.{folder, project_in, is_agent_file, all_cycles, most_cycles}
+use Rattle.mas_top_files.specs.Projects.{folder, project_in, is_agent_file, all_cycles}
 use Rattle.mas_top_files.specs.Files.{HasFile, Reader, agents, worlds, projects, IsRefusal, unfetched, faulty, missing, too_long, failed, starved, most_bytes}
 use Rattle.mas_top_files.specs.Sources.{
   ProjectBy,
@@ -243,7 +244,7 @@ part_not : (known : List (List ℕ)) (files : List Filed) (p : ProjectText) (sou
 part_not known files p source before after status d f (inl w) = world_not known files w.name p.world source.world before after status w.named_is d.world f w.why
 part_not known files p source before after status d f (inr a) = line_not files p.agents source.roles before after status d.roles f a.why
 
-pub too_many : (n : ℕ) → n ≤ most_cycles → most_cycles < n → ⊥
+pub too_many : (n : ℕ) → n ≤ most_cycles_together → most_cycles_together < n → ⊥
 too_many n h g = omega arith
 
 first_not : (known : List (List ℕ)) (cycles : ℕ) (files : List Filed) (word : List ℕ) (source : Source) (before after : ℕ) (status : Status) → HasSource known cycles (Some files) word source →
@@ -252,7 +253,7 @@ first_not known cycles files word source before after status h f (project_refuse
     project_not (is_agent_file word) files word h.project before after status h.asked.stands r.file f r.why
 first_not known cycles files word source before after status h f (cycles_refused r) =
     let e = same_project files word h.project r.project h.asked.stands r.stands in
-    absurd (too_many (all_cycles r.project cycles) (subst (λ p. all_cycles p cycles ≤ most_cycles) e h.asked.few) r.past)
+    absurd (too_many (all_cycles r.project cycles) (subst (λ p. all_cycles p cycles ≤ most_cycles_together) e h.asked.few) r.past)
 first_not known cycles files word source before after status h f (part_refused p a r) =
     let e = same_project files word h.project p h.asked.stands a.stands in
     part_not known files p source before after status (subst (λ q. Describe known (Some files) q source) e h.describe) f r

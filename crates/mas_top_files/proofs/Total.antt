@@ -15,6 +15,7 @@ use Rattle.asl_parser_expr.specs.declared.fault.TextFault.TheVariants as fault
 use Rattle.asl_parser.specs.declared.sentence.Sentence.{Sentence}
 use Rattle.asl_parser.specs.Agents.{IsAgent, all_added, nothing, IsAnswer}
 use Rattle.asl_parser.proofs.Total as agent_files
+use Rattle.mas_mind.specs.Limits.{most_cycles_together}
 use Rattle.mas_world.specs.declared.acts.WorldText.{WorldText}
 use Rattle.env_file.specs.declared.fault.WorldFault.{WorldFault}
 use Rattle.env_file.specs.declared.fault.WorldFault.TheVariants as world
@@ -40,7 +41,7 @@ use Rattle.mas_top_files.specs.declared.sources.Source.{Source}
 use Rattle.mas_top_status.specs.declared.status.What.TheVariants as what
 use Rattle.mas_top_status.specs.declared.status.Status.{Status}
 use Rattle.mas_top_status.specs.declared.status.Status.TheVariants.{Missing, Limit, Memory}
-use Rattle.mas_top_files.specs.Projects.{folder, project_in, is_agent_file, solo_project, all_cycles, most_cycles}
+use Rattle.mas_top_files.specs.Projects.{folder, project_in, is_agent_file, solo_project, all_cycles}
 use Rattle.mas_top_files.specs.Faults.{lex_status, text_status, world_status, project_status}
 use Rattle.mas_top_files.specs.Files.{Has, HasFile, Reader, agents, worlds, projects, most_bytes, IsRefusal, unfetched, missing, too_long}
 use Rattle.mas_top_files.specs.Sources.{ProjectBy, HasProject, HasWorld, HasRole, HasRoles, IsAsked, HasSource, LineRefused, FirstRefused, project_refused, cycles_refused, part_refused}
@@ -286,7 +287,7 @@ module _ (files : List Filed) where
 
       cycles_told : (p : ProjectText) → HasProject (Some files) word p → Told
       cycles_told p stands =
-          elim (project_files.few_or_many most_cycles (all_cycles p cycles)) [
+          elim (project_files.few_or_many most_cycles_together (all_cycles p cycles)) [
             | inr past ↦ refused (Limit what.Cycles (all_cycles p cycles)) (λ m. absurd cc) (cycles_refused (record { project = p; stands = stands; past = past; status_is = refl }))
             | inl few ↦ parts_told p (record { stands = stands; few = few })
           ]

@@ -28,10 +28,7 @@ solo = codes "solo"
 abbrev pub solo_project : List ℕ → ProjectText
 solo_project word = record { name = solo; world = None; agents = record { name = solo; file = word; count = 1; numbered = false } ∷ [] }
 
--- ---- the limit of its cycles
-
-abbrev pub most_cycles : ℕ
-most_cycles = 2000000
+-- ---- its cycles
 
 -- how many cycles its agents may make together, where each may make so many
 abbrev pub all_cycles : ProjectText → ℕ → ℕ

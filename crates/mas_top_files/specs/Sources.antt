@@ -4,6 +4,7 @@ use Rattle.std.specs.List.{flat_map}
 use Rattle.asl_term.specs.declared.syntax.AgentText.{AgentText}
 use Rattle.asl_term.specs.declared.syntax.Filed.{Filed}
 use Rattle.asl_parser.specs.Agents.{IsAgent}
+use Rattle.mas_mind.specs.Limits.{most_cycles_together}
 use Rattle.mas_world.specs.declared.acts.WorldText.{WorldText}
 use Rattle.env_file.specs.Worlds.{IsWorld}
 use Rattle.mas_project.specs.declared.syntax.AgentLine.{AgentLine}
@@ -15,7 +16,7 @@ use Rattle.mas_top_files.specs.declared.sources.Source.{Source}
 use Rattle.mas_top_status.specs.declared.status.Status.{Status}
 use Rattle.mas_top_status.specs.declared.status.Status.TheVariants.{Limit, Memory}
 use Rattle.mas_top_status.specs.declared.status.What.TheVariants as what
-use Rattle.mas_top_files.specs.Projects.{folder, project_in, is_agent_file, solo_project, most_cycles, all_cycles}
+use Rattle.mas_top_files.specs.Projects.{folder, project_in, is_agent_file, solo_project, all_cycles}
 use Rattle.mas_top_files.specs.Files.{most_bytes, HasFile, agents, worlds, projects, IsRefusal}
 
 -- ---- what the files describe
@@ -56,7 +57,7 @@ HasRoles held (line ∷ lines) [] = ⊥
 -- The word stands for this project, whose agents may make no more cycles together than the limit, where each may make so many.
 pub record IsAsked (cycles : ℕ) (held : Option (List Filed)) (word : List ℕ) (p : ProjectText) : Type 0 where
   pub stands : HasProject held word p
-  pub few : all_cycles p cycles ≤ most_cycles
+  pub few : all_cycles p cycles ≤ most_cycles_together
 
 -- the files of the project describe this: the agents' names, the source of each line, and the world
 pub record Describe (known : List (List ℕ)) (held : Option (List Filed)) (p : ProjectText) (source : Source) : Type 0 where
@@ -84,7 +85,7 @@ pub record ProjectRefused (held : Option (List Filed)) (word : List ℕ) (before
 pub record CyclesRefused (cycles : ℕ) (held : Option (List Filed)) (word : List ℕ) (status : Status) : Type 0 where
   pub project : ProjectText
   pub stands : HasProject held word project
-  pub past : most_cycles < all_cycles project cycles
+  pub past : most_cycles_together < all_cycles project cycles
   pub status_is : status ≡ Limit what.Cycles (all_cycles project cycles)
 
 -- the file of the world of this name is refused
@@ -129,5 +130,5 @@ AreRefused known cycles held word before after status = UnlessMemory (FirstRefus
 
 -- whether the agents of a project may make too many cycles together, and its status then
 abbrev pub CyclesTold : ProjectText → ℕ → Option Status → Type 0
-CyclesTold p cycles None = all_cycles p cycles ≤ most_cycles
-CyclesTold p cycles (Some status) = (most_cycles < all_cycles p cycles) × (status ≡ Limit what.Cycles (all_cycles p cycles))
+CyclesTold p cycles None = all_cycles p cycles ≤ most_cycles_together
+CyclesTold p cycles (Some status) = (most_cycles_together < all_cycles p cycles) × (status ≡ Limit what.Cycles (all_cycles p cycles))

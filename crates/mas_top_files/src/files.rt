@@ -21,7 +21,7 @@ use mas_world::acts::WorldText;
 use std::alloc::Global;
 
 /// The most bytes of the file of a project, a world or an agent.
-const MOST_BYTES: u64 = 1_048_576;
+pub const MOST_BYTES: u64 = 1_048_576;
 
 /// The most bytes of the file of a report or of a schedule.
 pub const MOST_REPORT_BYTES: u64 = 268_435_456;

@@ -1,10 +1,11 @@
 //! What the files of a project describe.
 
 ghost use Rattle.std.specs.Prelude.{◌≡◌, ◌≤◌, length, IfOk, MatchResult, option_copied};
+ghost use Rattle.mas_mind.specs.Limits.{most_cycles, most_cycles_together};
 ghost use Rattle.mas_project.specs.Names.{names_in, names_of};
 ghost use Rattle.mas_project.specs.Projects.{most_agents};
 ghost use Rattle.mas_top_files.specs.Files as files;
-ghost use Rattle.mas_top_files.specs.Projects.{all_cycles, most_cycles};
+ghost use Rattle.mas_top_files.specs.Projects.{all_cycles};
 ghost use Rattle.mas_top_files.specs.Sources as spec;
 
 use crate::files::{agent_of, world_of};
@@ -13,14 +14,12 @@ use asl_term::names::Names;
 use asl_term::sequence::Seq;
 use asl_term::syntax::{AgentText, Text};
 use mas_io::shelf::Shelf;
+use mas_mind::limits::MOST_CYCLES_TOGETHER;
 use mas_project::names::agent_names;
 use mas_project::syntax::{AgentLine, ProjectText};
 use mas_top_status::status::{Status, What};
 use mas_world::acts::WorldText;
 use std::alloc::Global;
-
-/// The most cycles of all agents together.
-pub const MOST_CYCLES: u64 = 2_000_000;
 
 /// The source of as many agents as a line of a project counts.
 #[derive(Drop)]
@@ -181,11 +180,11 @@ pub fn described<S: Shelf>(
 fn too_many(p: &ProjectText, agents: u32, cycles: u64) -> Option<Status>
     requires agents { agents ≡ length (names_of p.now.agents) }
     requires few { agents ≤ most_agents }
-    requires cycles { cycles ≤ 1000000 }
+    requires cycles { cycles ≤ most_cycles }
     ensures { spec.CyclesTold p.now cycles result }
 {
     let all = agents as u64 * cycles;
-    if all > MOST_CYCLES {
+    if all > MOST_CYCLES_TOGETHER {
         return Some(Status::Limit {
             what: What::Cycles,
             count: all,
@@ -204,7 +203,7 @@ pub fn sources<S: Shelf>(
     word: &Text,
     shelf: &mut S,
 ) -> Result<Source, Status>
-    requires { cycles ≤ 1000000 }
+    requires { cycles ≤ most_cycles }
     ensures same { S.holds shelf.new ≡ S.holds shelf.old }
     ensures later { S.faults shelf.old ≤ S.faults shelf.new }
     ensures answer { let held = S.holds shelf.old in

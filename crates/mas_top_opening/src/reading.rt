@@ -1,6 +1,7 @@
 //! What the files describe that a word asks for.
 
 ghost use Rattle.std.specs.Prelude.{◌≡◌, ◌≤◌, MatchResult};
+ghost use Rattle.mas_mind.specs.Limits.{most_cycles};
 ghost use Rattle.mas_top_files.specs.Known.{known};
 ghost use Rattle.mas_top_files.specs.Sources.{AreRefused, HasSource};
 ghost use Rattle.mas_top_opening.specs.Opening.{objects_of};
@@ -21,7 +22,7 @@ pub fn read_source<S: Shelf, A: Artifact>(
     artifacts: &Vec<A>,
     shelf: &mut S,
 ) -> Result<Source, Status>
-    requires { cycles ≤ 1000000 }
+    requires { cycles ≤ most_cycles }
     ensures same { S.holds shelf.new ≡ S.holds shelf.old }
     ensures later { S.faults shelf.old ≤ S.faults shelf.new }
     ensures answer { let held = S.holds shelf.old in

@@ -14,6 +14,7 @@ use asl_term::syntax::Text;
 use mas_board::board::Board;
 use mas_mind::thinking::Mind;
 use mas_record_disk::disk::Disk;
+use mas_record_journal::reading::MOST_BYTES;
 use mas_record_run::fault::RecordFault;
 use mas_report::options::Options;
 use mas_report::output::Output;
@@ -22,9 +23,6 @@ use mas_world::artifact::Artifact;
 use std::alloc::Global;
 use std::sync::Wait;
 use std::thread::Threads;
-
-/// The most bytes of a file from which a run goes on.
-pub const MOST_BYTES: u64 = 15_000_009;
 
 /// How a run is kept: from its beginning, or on from what the file tells.
 #[derive(Clone, Copy, Debug, PartialEq, Eq)]

@@ -1,6 +1,7 @@
 -- What the files of two projects describe, and which refusal comes first.
 use Rattle.std.proofs.Common.{ℕ, ◌≡◌, ◌≤◌, ◌<◌, ◌+◌, ◌*◌, inl, inr, true, List, Option, length, sym, subst, ap, ◌∙◌}
 use Rattle.asl_term.specs.declared.syntax.Filed.{Filed}
+use Rattle.mas_mind.specs.Limits.{most_cycles_together}
 use Rattle.mas_world.specs.Worlds.{Used, taken}
 use Rattle.mas_project.specs.declared.syntax.ProjectText.{ProjectText}
 use Rattle.mas_project.specs.Names.{names_of}
@@ -12,7 +13,6 @@ use Rattle.mas_top_status.specs.declared.status.Status.TheVariants.{Refused, Lim
 use Rattle.mas_top_status.specs.declared.status.What.TheVariants as what
 use Rattle.mas_top_files.specs.Files.{projects}
 use Rattle.mas_top_files.specs.Known.{known}
-use Rattle.mas_top_files.specs.Projects.{most_cycles}
 use Rattle.mas_top_files.specs.Sources.{HasProject, Describe, ProjectRefused, PartRefused, UnlessMemory}
 use Rattle.mas_top_files.proofs.Fetched.{refusal_from}
 use Rattle.mas_top_files.proofs.Stands.{refused_from}
@@ -50,25 +50,25 @@ module _ (second : List ℕ) (cycles : ℕ) (one two : List (List ℕ)) where
   agents_fail agents e l =
       subst (λ n. FailsTest second cycles one two (Limit what.Agents n)) (sym e) (many_agents (subst (λ n. most_agents < n) e l))
 
-  pub cycles_fail : (agents all : ℕ) → agents ≡ length one + length two → all ≡ agents * cycles → agents ≤ most_agents → most_cycles < all →
+  pub cycles_fail : (agents all : ℕ) → agents ≡ length one + length two → all ≡ agents * cycles → agents ≤ most_agents → most_cycles_together < all →
       FailsTest second cycles one two (Limit what.Cycles all)
   cycles_fail agents all e f s l =
       let g : all ≡ (length one + length two) * cycles = f ∙ ap (λ n. n * cycles) e in
       subst (λ n. FailsTest second cycles one two (Limit what.Cycles n)) (sym g)
-      (many_cycles (subst (λ n. n ≤ most_agents) e s) (subst (λ n. most_cycles < n) g l))
+      (many_cycles (subst (λ n. n ≤ most_agents) e s) (subst (λ n. most_cycles_together < n) g l))
 
-  pub name_fails : (agents all place : ℕ) (name file : List ℕ) → agents ≡ length one + length two → all ≡ agents * cycles → agents ≤ most_agents → all ≤ most_cycles →
+  pub name_fails : (agents all place : ℕ) (name file : List ℕ) → agents ≡ length one + length two → all ≡ agents * cycles → agents ≤ most_agents → all ≤ most_cycles_together →
       IsTaken one two place name → file ≡ second → FailsTest second cycles one two (Refused file place (reason.Name name))
   name_fails agents all place name file e f s l h c =
       let g : all ≡ (length one + length two) * cycles = f ∙ ap (λ n. n * cycles) e in
       subst (λ x. FailsTest second cycles one two (Refused x place (reason.Name name))) (sym c)
-      (taken_name (subst (λ n. n ≤ most_agents) e s) (subst (λ n. n ≤ most_cycles) g l) h)
+      (taken_name (subst (λ n. n ≤ most_agents) e s) (subst (λ n. n ≤ most_cycles_together) g l) h)
 
-  pub all_fit : (agents all : ℕ) → agents ≡ length one + length two → all ≡ agents * cycles → agents ≤ most_agents → all ≤ most_cycles → are_new one two ≡ true →
+  pub all_fit : (agents all : ℕ) → agents ≡ length one + length two → all ≡ agents * cycles → agents ≤ most_agents → all ≤ most_cycles_together → are_new one two ≡ true →
       Fit cycles one two
   all_fit agents all e f s l n =
       let g : all ≡ (length one + length two) * cycles = f ∙ ap (λ n. n * cycles) e in
-      record { few = subst (λ n. n ≤ most_agents) e s; short = subst (λ n. n ≤ most_cycles) g l; new = n }
+      record { few = subst (λ n. n ≤ most_agents) e s; short = subst (λ n. n ≤ most_cycles_together) g l; new = n }
 
 -- ---- what a project brings
 

@@ -1,6 +1,7 @@
 -- Files of two projects are refused in one way.
 use Rattle.std.proofs.Common.{ℕ, ◌≡◌, ◌≤◌, ◌<◌, ◌+◌, ◌*◌, inl, inr, Bool, true, false, not, ◌&&◌, suc, List, [], ◌∷◌, ◌++◌, length, Some, refl, ap, ap₂, sym, ◌∙◌, subst, arith}
 use Rattle.asl_term.specs.declared.syntax.Filed.{Filed}
+use Rattle.mas_mind.specs.Limits.{most_cycles_together}
 use Rattle.mas_world.specs.Worlds.{Used}
 use Rattle.mas_project.specs.declared.syntax.ProjectText.{ProjectText}
 use Rattle.mas_project.specs.Names.{names_of}
@@ -11,7 +12,7 @@ use Rattle.mas_top_status.specs.declared.status.Status.{Status}
 use Rattle.mas_top_status.specs.declared.status.Status.TheVariants.{Refused}
 use Rattle.mas_top_files.specs.Known.{known}
 use Rattle.mas_top_files.specs.Laws.{Surely}
-use Rattle.mas_top_files.specs.Projects.{is_agent_file, most_cycles}
+use Rattle.mas_top_files.specs.Projects.{is_agent_file}
 use Rattle.mas_top_files.specs.Sources.{HasProject, Describe, IsAsked, ProjectRefused, PartRefused, FirstRefused, project_refused, part_refused, AreRefused}
 use Rattle.mas_top_files.proofs.Single.{one_source, same_project, project_not, not_refused}
 use Rattle.mas_top_files.proofs.Refusals as single
@@ -106,7 +107,7 @@ module _ (second : List ℕ) (cycles : ℕ) (one two : List (List ℕ)) where
   -- agents that fit together fail no test
   fit_fails : (status : Status) → Fit cycles one two → FailsTest second cycles one two status → ⊥
   fit_fails status f (many_agents l) = over most_agents agents f.few l
-  fit_fails status f (many_cycles s l) = over most_cycles (agents * cycles) f.short l
+  fit_fails status f (many_cycles s l) = over most_cycles_together (agents * cycles) f.short l
   fit_fails status f (taken_name s l t) = not_new one t.before t.behind _ t.taken (subst (λ ns. are_new one ns ≡ true) t.parts f.new)
 
   fails_one : (s t : Status) → FailsTest second cycles one two s → FailsTest second cycles one two t → s ≡ t
@@ -115,9 +116,9 @@ module _ (second : List ℕ) (cycles : ℕ) (one two : List (List ℕ)) where
   fails_one s t (many_agents l) (taken_name f c x) = absurd (over most_agents agents f l)
   fails_one s t (many_cycles f l) (many_agents m) = absurd (over most_agents agents f m)
   fails_one s t (many_cycles f l) (many_cycles e m) = refl
-  fails_one s t (many_cycles f l) (taken_name e c x) = absurd (over most_cycles (agents * cycles) c l)
+  fails_one s t (many_cycles f l) (taken_name e c x) = absurd (over most_cycles_together (agents * cycles) c l)
   fails_one s t (taken_name f c x) (many_agents m) = absurd (over most_agents agents f m)
-  fails_one s t (taken_name f c x) (many_cycles e m) = absurd (over most_cycles (agents * cycles) c m)
+  fails_one s t (taken_name f c x) (many_cycles e m) = absurd (over most_cycles_together (agents * cycles) c m)
   fails_one s t (taken_name {number = k} {name = name} f c x) (taken_name {number = n} {name = other} e d y) =
       let r = taken_one one two k n name other x y in
       ap₂ (λ i w. Refused second i (reason.Name w)) r.0 r.1

@@ -1,11 +1,12 @@
 -- Files of two projects describe one pair.
 use Rattle.std.proofs.Common.{ℕ, ◌≤◌, ◌*◌, List, Some, ap, sym, ◌∙◌, subst, arith}
 use Rattle.asl_term.specs.declared.syntax.Filed.{Filed}
+use Rattle.mas_mind.specs.Limits.{most_cycles_together}
 use Rattle.mas_project.specs.declared.syntax.ProjectText.{ProjectText}
 use Rattle.mas_project.specs.Names.{agents_of}
 use Rattle.mas_top_files.specs.declared.sources.Source.{Source}
 use Rattle.mas_top_files.specs.Known.{known}
-use Rattle.mas_top_files.specs.Projects.{all_cycles, most_cycles}
+use Rattle.mas_top_files.specs.Projects.{all_cycles}
 use Rattle.mas_top_files.specs.Sources.{HasProject, Describe, HasSource}
 use Rattle.mas_top_files.proofs.Single.{one_source}
 use Rattle.mas_top_sites.specs.Artifacts.{left_by}
@@ -14,10 +15,10 @@ use Rattle.mas_top_sites.specs.Laws.{OnePair}
 
 -- ---- a project of two, as one whose agents make no cycles
 
-none_few : (n : ℕ) → n * 0 ≤ most_cycles
+none_few : (n : ℕ) → n * 0 ≤ most_cycles_together
 none_few n = omega arith
 
-pub no_cycles : (p : ProjectText) → all_cycles p 0 ≤ most_cycles
+pub no_cycles : (p : ProjectText) → all_cycles p 0 ≤ most_cycles_together
 no_cycles p = none_few (agents_of p.agents)
 
 pub source_of : (names : List (List ℕ)) (files : List Filed) (word : List ℕ) (p : ProjectText) (source : Source) → HasProject (Some files) word p →

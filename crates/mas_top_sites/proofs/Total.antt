@@ -1,6 +1,7 @@
 -- Files of two projects describe a pair, or one of them is refused.
 use Rattle.std.proofs.Common.{ℕ, ◌≡◌, ◌≢◌, ◌+◌, ◌*◌, ◌⊎◌, inl, inr, Bool, true, false, not, ◌&&◌, suc, List, [], ◌∷◌, length, Some, refl, ap, ◌∙◌, arith}
 use Rattle.asl_term.specs.declared.syntax.Filed.{Filed}
+use Rattle.mas_mind.specs.Limits.{most_cycles_together}
 use Rattle.mas_world.specs.Worlds.{Used}
 use Rattle.mas_project.specs.declared.syntax.ProjectText.{ProjectText}
 use Rattle.mas_project.specs.Names.{names_of}
@@ -13,7 +14,7 @@ use Rattle.mas_top_status.specs.declared.status.Status.TheVariants.{Refused, Lim
 use Rattle.mas_top_status.specs.declared.status.What.TheVariants as what
 use Rattle.mas_top_files.specs.Known.{known}
 use Rattle.mas_top_files.specs.Laws.{Surely}
-use Rattle.mas_top_files.specs.Projects.{all_cycles, most_cycles}
+use Rattle.mas_top_files.specs.Projects.{all_cycles}
 use Rattle.mas_top_files.specs.Sources.{HasProject, Describe, ProjectRefused, PartRefused, FirstRefused, project_refused, cycles_refused, part_refused}
 use Rattle.mas_top_files.proofs.Single.{too_many}
 use Rattle.mas_top_files.proofs.Total.{some_source}
@@ -102,7 +103,7 @@ fit_told second cycles one two =
     let agents = length one + length two in
     elim (few_or_many most_agents agents) [
       | inr many ↦ inr (record { status = Limit what.Agents agents; no_lack = λ m. absurd cc; fails = many_agents many })
-      | inl few ↦ elim (few_or_many most_cycles (agents * cycles)) [
+      | inl few ↦ elim (few_or_many most_cycles_together (agents * cycles)) [
         | inr past ↦ inr (record { status = Limit what.Cycles (agents * cycles); no_lack = λ m. absurd cc; fails = many_cycles few past })
         | inl short ↦ elim (new_told one two) [
           | inr t ↦ inr (record { status = Refused second t.0.0 (reason.Name t.0.1); no_lack = λ m. absurd cc; fails = taken_name few short t.1 })

@@ -3,6 +3,7 @@ use Rattle.std.specs.Prelude.{ℕ, ◌≡◌, ◌⊎◌, ◌≤◌, ◌<◌, ◌
 use Rattle.std.specs.List.{list_all, list_any}
 use Rattle.std.specs.Str.{bytes_eq}
 use Rattle.asl_term.specs.declared.syntax.Filed.{Filed}
+use Rattle.mas_mind.specs.Limits.{most_cycles_together}
 use Rattle.mas_world.specs.Worlds.{Used, taken}
 use Rattle.mas_project.specs.declared.syntax.ProjectText.{ProjectText}
 use Rattle.mas_project.specs.Names.{names_of}
@@ -14,7 +15,6 @@ use Rattle.mas_top_status.specs.declared.status.Status.TheVariants.{Refused, Lim
 use Rattle.mas_top_status.specs.declared.status.What.TheVariants as what
 use Rattle.mas_top_files.specs.Known.{known}
 use Rattle.mas_top_files.specs.Laws.{Surely}
-use Rattle.mas_top_files.specs.Projects.{most_cycles}
 use Rattle.mas_top_files.specs.Sources.{HasProject, Describe, ProjectRefused, PartRefused, UnlessMemory}
 use Rattle.mas_top_sites.specs.Artifacts.{uses_of, left_by}
 
@@ -41,7 +41,7 @@ are_new earlier names = list_all (λ name. not (has_name earlier name)) names
 -- the agents of these names are not too many together, nor are their cycles, and no two have one name
 pub record Fit (cycles : ℕ) (one two : List (List ℕ)) : Type 0 where
   pub few : length one + length two ≤ most_agents
-  pub short : (length one + length two) * cycles ≤ most_cycles
+  pub short : (length one + length two) * cycles ≤ most_cycles_together
   pub new : are_new one two ≡ true
 
 -- the first of these names that is among the earlier ones, and its number, counted from 1
@@ -61,9 +61,9 @@ TellsTaken earlier names (Some x) = IsTaken earlier names x.0 x.1
 -- the first test that fails, and its status: a name that an agent of the second project's file has again
 pub data FailsTest (second : List ℕ) (cycles : ℕ) (one two : List (List ℕ)) : Status → Type 0 where
   many_agents : most_agents < length one + length two → FailsTest second cycles one two (Limit what.Agents (length one + length two))
-  many_cycles : length one + length two ≤ most_agents → most_cycles < (length one + length two) * cycles
+  many_cycles : length one + length two ≤ most_agents → most_cycles_together < (length one + length two) * cycles
       → FailsTest second cycles one two (Limit what.Cycles ((length one + length two) * cycles))
-  taken_name : {number : ℕ} {name : List ℕ} → length one + length two ≤ most_agents → (length one + length two) * cycles ≤ most_cycles
+  taken_name : {number : ℕ} {name : List ℕ} → length one + length two ≤ most_agents → (length one + length two) * cycles ≤ most_cycles_together
       → IsTaken one two number name → FailsTest second cycles one two (Refused second number (reason.Name name))
 
 -- ---- what the files describe

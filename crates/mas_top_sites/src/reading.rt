@@ -1,6 +1,7 @@
 //! What the files of two projects describe.
 
 ghost use Rattle.std.specs.Prelude.{◌≡◌, ◌≤◌, MatchResult};
+ghost use Rattle.mas_mind.specs.Limits.{most_cycles};
 ghost use Rattle.mas_top_opening.specs.Opening.{objects_of};
 ghost use Rattle.mas_project.specs.Names.{names_of};
 ghost use Rattle.mas_top_files.specs.Known.{known};
@@ -14,11 +15,12 @@ use asl_term::copying::copy_text;
 use asl_term::names::Names;
 use asl_term::syntax::Text;
 use mas_io::shelf::Shelf;
+use mas_mind::limits::MOST_CYCLES_TOGETHER;
 use mas_project::names::{MOST_AGENTS, agent_names};
 use mas_project::syntax::ProjectText;
 use mas_top_files::known::known_names;
 use mas_top_files::project::project_of;
-use mas_top_files::sources::{MOST_CYCLES, Source, described};
+use mas_top_files::sources::{Source, described};
 use mas_top_status::status::{Reason, Status, What};
 use mas_world::artifact::Artifact;
 use mas_world::world::Artifacts;
@@ -74,7 +76,7 @@ fn test_together(
     one: &Names,
     two: &Names,
 ) -> Result<(), Status>
-    requires { cycles ≤ 1000000 }
+    requires { cycles ≤ most_cycles }
     ensures { MatchResult result (λ _. spec.Fit cycles one.now two.now) (UnlessMemory (spec.FailsTest second.now cycles one.now two.now)) }
 {
     let agents = one.len() as u64 + two.len() as u64;
@@ -85,7 +87,7 @@ fn test_together(
         });
     }
     let all = agents * cycles;
-    if all > MOST_CYCLES {
+    if all > MOST_CYCLES_TOGETHER {
         return Err(Status::Limit {
             what: What::Cycles,
             count: all,
@@ -164,7 +166,7 @@ pub fn read_pair<S: Shelf, A: Artifact>(
     artifacts: Vec<A>,
     shelf: &mut S,
 ) -> Result<Sides<A>, Status>
-    requires { cycles ≤ 1000000 }
+    requires { cycles ≤ most_cycles }
     ensures same { S.holds shelf.new ≡ S.holds shelf.old }
     ensures later { S.faults shelf.old ≤ S.faults shelf.new }
     ensures answer { let objects = objects_of A.named A.table A.facts artifacts.items in

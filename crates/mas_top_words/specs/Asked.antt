@@ -1,10 +1,11 @@
 -- What a command asks for, given its names and the texts of its options.
 use Rattle.std.specs.Prelude.{◌≡◌, ℕ, Bool, true, false, List, [], ◌∷◌, codes, if◌then◌else◌, Option, None, Some, option_map}
 use Rattle.std.specs.Str.{bytes_eq}
+use Rattle.mas_mind.specs.Limits.{most_cycles, most_tries}
 use Rattle.mas_mind.specs.declared.mind.Level.{Level}
 use Rattle.mas_mind.specs.declared.mind.Level.TheVariants as level
 use Rattle.mas_report.specs.declared.options.Options.{Options}
-use Rattle.mas_report.specs.Limits.{IsFrom, IsWithin, defaults}
+use Rattle.mas_report.specs.Limits.{IsFrom, IsWithin, defaults, most_depth}
 use Rattle.mas_top_words.specs.declared.table.Command.{Command}
 use Rattle.mas_top_words.specs.declared.table.Command.TheVariants.{Run, Replay, Check, Demo, Renew, Record, Resume, Sites, Lint}
 use Rattle.mas_top_words.specs.declared.table.Setting.{Setting}
@@ -52,10 +53,10 @@ options_with _ _ _ _ _ = None
 
 abbrev pub options_for : (Setting → Option (List ℕ)) → Option Options
 options_for text = options_with
-    (number_for defaults.cycles 1 1000000 (text Cycles))
+    (number_for defaults.cycles 1 most_cycles (text Cycles))
     (number_for defaults.lead 1 1000 (text Lead))
-    (number_for defaults.depth 1 10000 (text Depth))
-    (number_for defaults.tries 1 10000000 (text Tries))
+    (number_for defaults.depth 1 most_depth (text Depth))
+    (number_for defaults.tries 1 most_tries (text Tries))
     (level_for defaults.level (text OfLevel))
 
 abbrev pub workers_for : (Setting → Option (List ℕ)) → Option ℕ

@@ -10,8 +10,9 @@ use crate::asked::{Asked, Pool};
 use crate::numbers::number_in;
 use crate::said::{GivenSettings, WordsSoFar};
 use crate::table::Command;
+use mas_mind::limits::{MOST_CYCLES, MOST_TRIES};
 use mas_mind::mind::Level;
-use mas_report::options::{Options, default_options};
+use mas_report::options::{MOST_DEPTH, Options, default_options};
 
 /// The number that is given, from `low` to `high`, or the usual one where none is.
 fn number_for(usual: u64, low: u64, high: u64, given: Option<&[u8]>) -> Option<u64>
@@ -54,10 +55,10 @@ fn options_for(given: &GivenSettings<'_>) -> Option<Options>
     ensures { result ≡ spec.options_for (text_for (given_of given.now)) }
 {
     let usual = default_options();
-    let cycles = number_for(usual.cycles, 1, 1_000_000, given.cycles)?;
+    let cycles = number_for(usual.cycles, 1, MOST_CYCLES, given.cycles)?;
     let lead = number_for(usual.lead, 1, 1000, given.lead)?;
-    let depth = number_for(usual.depth, 1, 10_000, given.depth)?;
-    let tries = number_for(usual.tries, 1, 10_000_000, given.tries)?;
+    let depth = number_for(usual.depth, 1, MOST_DEPTH, given.depth)?;
+    let tries = number_for(usual.tries, 1, MOST_TRIES, given.tries)?;
     let level = level_for(usual.level, given.level)?;
     Some(Options {
         cycles,
