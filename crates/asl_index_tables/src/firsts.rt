@@ -43,14 +43,6 @@ fn may_agree(a: u64, b: u64) -> bool
     }
 }
 
-/// Whether a literal may match another one, by their first arguments.
-pub fn may_match(p: &Literal, q: &Literal) -> bool
-    ensures value { result ≡ spec.may_agree (spec.first_print p.now) (spec.first_print q.now) }
-    ensures apart { result ≡ false → spec.AreApart p.now q.now }
-{
-    may_agree(first_print(p), first_print(q))
-}
-
 /// Whether the number that is noted of a place may agree, or none is noted.
 fn may_be(firsts: &[u64], place: u64, first: u64) -> bool
     ensures { result ≡ false → IsOther first firsts.now place }

@@ -1,6 +1,6 @@
 //! Places by a number.
 
-ghost use Rattle.std.specs.Prelude.{◌≡◌, ◌∷◌, [], ℕ, None, length, nat_eq, slice_get, OnOk, OnErr};
+ghost use Rattle.std.specs.Prelude.{◌≡◌, [], ℕ, None, length, nat_eq, slice_get, OnOk, OnErr};
 ghost use Rattle.std.specs.HashMap.{get};
 ghost use Rattle.asl_index_tables.specs.Keys.{listed, IsSame, IsPut, IsTaken};
 

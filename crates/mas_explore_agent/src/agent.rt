@@ -79,14 +79,6 @@ impl SteadyAgent {
     {
         &self.agent
     }
-
-    /// The agent itself.
-    pub fn into_agent(self) -> Agent
-        ensures { result ≡ self }
-    {
-        let SteadyAgent { agent } = self;
-        agent
-    }
 }
 
 impl Mind for SteadyAgent {

@@ -6,7 +6,7 @@ use Rattle.asl_term.specs.declared.syntax.LiteralOf.{LiteralOf}
 use Rattle.asl_term.specs.declared.syntax.Term.{Term}
 use Rattle.mas_mind.specs.declared.mind.Feedback.{Feedback}
 use Rattle.mas_mind.specs.declared.mind.Feedback.TheVariants.{Failed, Done}
-use Rattle.mas_world.specs.Worlds.{World, acted, facts}
+use Rattle.mas_world.specs.Worlds.{World, acted}
 use Rattle.mas_world.specs.Seen.{seen}
 use Rattle.mas_explore_tables.specs.Histories.{all_from, AreLinked}
 use Rattle.mas_explore_tables.specs.declared.history.Link.{Link}
@@ -65,6 +65,3 @@ pub record HasActed (names : List (List ℕ)) (start : World) (old new : List (L
 
 abbrev pub IsSeen : List (List ℕ) → World → List (Link Doing) → ℕ → ℕ → List (LiteralOf Term) → Type 0
 IsSeen names start links n agent percepts = (w : World) → slice_get (worlds_in names start links) n ≡ Some w → percepts ≡ seen w (name_of names agent)
-
-abbrev pub AreFactsIn : List (List ℕ) → World → List (Link Doing) → ℕ → List (LiteralOf Term) → Type 0
-AreFactsIn names start links n fs = (w : World) → slice_get (worlds_in names start links) n ≡ Some w → fs ≡ facts w

@@ -1,6 +1,6 @@
 //! Worlds by their numbers.
 
-ghost use Rattle.std.specs.Prelude.{◌≡◌, ◌<◌, ◌+◌, true, length, slice_get, Some, IfOk, OnOk};
+ghost use Rattle.std.specs.Prelude.{◌≡◌, ◌<◌, ◌+◌, true, length, slice_get, Some, IfOk};
 ghost use Rattle.asl_term.specs.Exprs.{is_ground_literal};
 ghost use Rattle.mas_mind.specs.Minds.{are_ground};
 ghost use Rattle.mas_mind.specs.declared.mind.Feedback.TheVariants.{Failed};
@@ -114,22 +114,6 @@ pub fn percepts_in<A: Artifact, F: FreshWorld<A>>(
     let name = name_of(alloc, fresh.names(), agent)?;
     let percepts = world.percepts(alloc, &name)?;
     Ok(percepts)
-}
-
-/// The facts of the world of this number.
-pub fn facts_in<A: Artifact, F: FreshWorld<A>>(
-    alloc: Global,
-    fresh: &F,
-    worlds: &Worlds,
-    n: u64,
-) -> Result<Literals, Starved>
-    requires fits { spec.Fits worlds.now }
-    requires there { n < 1 + length worlds.now }
-    ensures { IfOk result (spec.AreFactsIn (F.agents fresh.now) (F.start fresh.now) worlds.now n) }
-{
-    let world = world_of(alloc, fresh, worlds, n)?;
-    let facts = world.facts(alloc)?;
-    Ok(facts)
 }
 
 /// What the world did, and the number of the world after it.
