@@ -1,6 +1,6 @@
 //! What the rows look at and change.
 
-ghost use Rattle.std.specs.Prelude.{◌≡◌, ◌++◌, IfOk, OnOk, option_to_list};
+ghost use Rattle.std.specs.Prelude.{◌≡◌, IfOk, OnOk, option_to_list};
 ghost use Rattle.asl_beliefs.specs.Changes as changes;
 ghost use Rattle.asl_intend.specs.Agendas as agendas;
 ghost use Rattle.asl_exec_circumstance.specs.Circumstance as spec;

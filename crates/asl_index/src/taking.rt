@@ -1,6 +1,6 @@
 //! Beliefs of a store that lose annotations, and beliefs that go.
 
-ghost use Rattle.std.specs.Prelude.{◌≡◌, ◌↔◌, ◌<◌, ◌+◌, Some, None, true, MatchOption, IfOk, OnOk, OnErr, slice_set};
+ghost use Rattle.std.specs.Prelude.{◌≡◌, ◌↔◌, ◌<◌, ◌+◌, Some, None, true, IfOk, OnOk, OnErr, slice_set};
 ghost use Rattle.std.specs.Option.{is_some};
 ghost use Rattle.asl_term.specs.declared.syntax.LiteralOf.{LiteralOf};
 ghost use Rattle.asl_term.specs.declared.syntax.Term.{Term};

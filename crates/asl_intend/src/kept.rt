@@ -1,6 +1,6 @@
 //! A trigger that is not built: kept as that of an entry without formulas, with what is bound in a log.
 
-ghost use Rattle.std.specs.Prelude.{◌≡◌, [], ◌++◌, None, IfOk, OnOk};
+ghost use Rattle.std.specs.Prelude.{◌≡◌, [], None, IfOk};
 ghost use Rattle.asl_unify.specs.Logs.{later};
 
 use crate::entry::StackEntry;

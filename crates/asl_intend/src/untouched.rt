@@ -1,6 +1,6 @@
 //! What substitutions leave as it is, since nothing that they bind stands in it.
 
-ghost use Rattle.std.specs.Prelude.{◌≡◌, ◌∷◌, [], map, true, None, IfOk};
+ghost use Rattle.std.specs.Prelude.{◌≡◌, ◌∷◌, map, true, None, IfOk};
 ghost use Rattle.std.specs.List.{AllByRecursion};
 ghost use Rattle.asl_unify.specs.Applied.{put_formula, put_trigger};
 ghost use Rattle.asl_unify.specs.Logs.{later};

@@ -1,6 +1,6 @@
 //! All tokens of bytes, or the first fault.
 
-ghost use Rattle.std.specs.Prelude.{◌≡◌, ℕ, ◌+◌, ◌<◌, ◌≤◌, ◌^◌, length, drop, IfOk, IfErr};
+ghost use Rattle.std.specs.Prelude.{◌≡◌, ◌+◌, ◌<◌, ◌≤◌, ◌^◌, length, drop, IfOk, IfErr};
 ghost use Rattle.asl_lexer.specs.Lexing as spec;
 ghost use Rattle.asl_lexer.specs.Lexing.{AreTokens, IsFault, OneAnswer};
 ghost use Rattle.asl_lexer.specs.Scan as scan;

@@ -1,6 +1,6 @@
 //! The source of an agent, piece by piece.
 
-ghost use Rattle.std.specs.Prelude.{◌≡◌, ◌++◌, [], ◌∷◌, ◌<◌, length, IfOk, IfErr, OnOk};
+ghost use Rattle.std.specs.Prelude.{◌≡◌, [], ◌<◌, IfOk, IfErr, OnOk};
 ghost use Rattle.asl_lexer.specs.Words.{pieces, is_end};
 ghost use Rattle.asl_lexer.specs.Lexing.{AreTokens};
 ghost use Rattle.asl_parser.specs.Agents as spec;

@@ -1,7 +1,6 @@
 //! Literals and terms without arithmetic.
 
 ghost use Rattle.std.specs.Prelude.{◌≡◌, map};
-ghost use Rattle.std.specs.List.{list_all};
 ghost use Rattle.asl_term.specs.Trees as tree;
 ghost use Rattle.asl_parser_tree.specs.Plain as spec;
 

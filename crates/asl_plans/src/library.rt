@@ -1,6 +1,6 @@
 //! Plans in order, each with those who it is from, found by their triggers.
 
-ghost use Rattle.std.specs.Prelude.{◌≡◌, ◌++◌, ◌-◌, [], None, Some, MatchOption, IfOk, OnOk, OnErr, length, not, option_to_list, slice_get};
+ghost use Rattle.std.specs.Prelude.{◌≡◌, ◌++◌, ◌-◌, [], None, Some, IfOk, OnOk, OnErr, length, not, option_to_list, slice_get};
 ghost use Rattle.std.specs.Option.{option_copied};
 ghost use Rattle.asl_index_tables.specs.Frames.{filed};
 ghost use Rattle.asl_plans.specs.FiledPlaces.{AreOf, chosen, filed_plans, way_at};

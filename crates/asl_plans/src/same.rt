@@ -1,7 +1,6 @@
 //! Whether two plans are the same, and which plans are meant.
 
 ghost use Rattle.std.specs.Prelude.{◌≡◌};
-ghost use Rattle.std.specs.Str.{bytes_eq};
 ghost use Rattle.asl_plans.specs.Same as spec;
 ghost use Rattle.asl_plans.specs.Libraries as libraries;
 

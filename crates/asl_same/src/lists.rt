@@ -1,6 +1,6 @@
 //! Lists and queues that are compared item by item.
 
-ghost use Rattle.std.specs.Prelude.{ℕ, ◌≡◌, ◌<◌, ◌≤◌, true, length, slice_get, IfOk};
+ghost use Rattle.std.specs.Prelude.{ℕ, ◌≡◌, ◌<◌, true, length, slice_get, IfOk};
 ghost use Rattle.std.specs.Option.{option_copied};
 
 use asl_term::sequence::Starved;

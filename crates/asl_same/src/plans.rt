@@ -1,7 +1,5 @@
 //! Plans with those who they are from, and rules.
 
-ghost use Rattle.std.specs.Prelude.{◌≡◌, true, IfOk};
-
 use crate::lists::{Same, same_all};
 use asl_plans::entry::OwnedPlan;
 use asl_term::compare_expr::{equal_expr, equal_literal, equal_plan};

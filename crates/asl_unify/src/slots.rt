@@ -1,6 +1,6 @@
 //! The slots of bound variables, by which the pair of a variable is found without a look at all pairs.
 
-ghost use Rattle.std.specs.Prelude.{◌≡◌, ◌<◌, ◌+◌, ◌++◌, [], length, take, ◌≤◌, MatchOption, IfOk, IfSome, OnOk};
+ghost use Rattle.std.specs.Prelude.{◌≡◌, ◌<◌, ◌+◌, [], length, take, ◌≤◌, MatchOption, IfOk, IfSome, OnOk};
 ghost use Rattle.asl_unify.specs.Compare.{find};
 ghost use Rattle.asl_unify.specs.Puts.{IsSubst};
 ghost use Rattle.asl_unify.specs.inner.Slots as spec;

@@ -1,6 +1,6 @@
 //! What changed in the minds of agents, as rows of a page below the lines of each cycle.
 
-ghost use Rattle.std.specs.Prelude.{◌≡◌, ◌≤◌, ◌<◌, length, take, IfOk, OnOk};
+ghost use Rattle.std.specs.Prelude.{◌≤◌, ◌<◌, length, take, IfOk, OnOk};
 ghost use Rattle.chart_page.specs.Minds.{texts_of};
 ghost use Rattle.chart_page.specs.Texts.{Adds, Grew, HoldsAll};
 

@@ -1,6 +1,6 @@
 //! Which variables of an act are bound when its effects are made.
 
-ghost use Rattle.std.specs.Prelude.{◌≡◌, ◌++◌, IfOk, OnOk};
+ghost use Rattle.std.specs.Prelude.{◌≡◌, ◌++◌, IfOk};
 ghost use Rattle.std.specs.List.{list_all};
 ghost use Rattle.asl_parser_tree.specs.Leaves.{Gives};
 ghost use Rattle.env_file.specs.Binding as spec;

@@ -4,7 +4,6 @@ ghost use Rattle.std.specs.Prelude.{◌≡◌, length};
 ghost use Rattle.asl_parser_tree.specs.Holding.{limited};
 ghost use Rattle.asl_parser_tree.specs.Leaves.{Gives, view_front};
 ghost use Rattle.asl_parser.specs.Speaking as grammar;
-ghost use Rattle.env_file.specs.Holding as holding;
 ghost use Rattle.env_file.specs.Speaking as spec;
 
 use crate::marks::{

@@ -4,7 +4,7 @@ ghost use Rattle.std.specs.Prelude.{◌≡◌};
 ghost use Rattle.std.specs.List.{list_any};
 ghost use Rattle.asl_parser.specs.Sentences as grammar;
 ghost use Rattle.asl_parser.specs.Speaking as speaking;
-ghost use Rattle.asl_parser_tree.specs.Leaves.{Gives, view_front, view_rest};
+ghost use Rattle.asl_parser_tree.specs.Leaves.{Gives, view_rest};
 ghost use Rattle.env_file.specs.Speaking as spec;
 ghost use Rattle.env_file.specs.Statements as tokens;
 

@@ -1,6 +1,6 @@
 //! The words of a line, behind the number of its cycle.
 
-ghost use Rattle.std.specs.Prelude.{◌≡◌, length};
+ghost use Rattle.std.specs.Prelude.{◌≡◌};
 ghost use Rattle.look_lines.specs.Falls as spec;
 
 /// What stands behind the first blank.

@@ -2,11 +2,11 @@
 //!
 //! After `Starved` a part of the text may stand in `out`.
 
-ghost use Rattle.std.specs.Prelude.{◌≡◌, ◌<◌, ◌+◌, ◌^◌, ◌++◌, codes, length, OnOk};
+ghost use Rattle.std.specs.Prelude.{◌≡◌, ◌<◌, ◌+◌, ◌^◌, ◌++◌, codes, OnOk};
 ghost use Rattle.std.specs.List.{flat_map};
 ghost use Rattle.asl_print.specs.Agents.{trigger_text};
 ghost use Rattle.look_text.specs.Agendas as spec;
-ghost use Rattle.look_lines.specs.Lines.{head, part};
+ghost use Rattle.look_lines.specs.Lines.{part};
 
 use crate::stacks::put_stack;
 use asl_fail::failure::error_name;

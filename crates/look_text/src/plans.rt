@@ -2,7 +2,7 @@
 //!
 //! After `Starved` a part of the text may stand in `out`.
 
-ghost use Rattle.std.specs.Prelude.{◌≡◌, ◌++◌, codes, length, OnOk};
+ghost use Rattle.std.specs.Prelude.{◌≡◌, ◌++◌, codes, OnOk};
 ghost use Rattle.look_lines.specs.Lines.{line, part};
 ghost use Rattle.look_text.specs.Plans as spec;
 

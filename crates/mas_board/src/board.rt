@@ -1,6 +1,6 @@
 //! The board: one turn of an agent a call, and what can be read of it.
 
-ghost use Rattle.std.specs.Prelude.{◌≡◌, ◌<◌, ◌≤◌, ◌+◌, ◌++◌, ◌∷◌, [], ◌^◌, length, true, false, IfOk, IfSome, OnOk, OnErr, IsOk, slice_get};
+ghost use Rattle.std.specs.Prelude.{◌≡◌, ◌<◌, ◌+◌, ◌++◌, ◌∷◌, [], ◌^◌, length, true, false, IfOk, IfSome, OnOk, OnErr, IsOk, slice_get};
 ghost use Rattle.std.specs.Option.{option_copied};
 ghost use Rattle.asl_term.specs.Exprs.{is_ground_literal};
 ghost use Rattle.mas_mind.specs.Minds.{IsAgent, AreOuts};

@@ -1,6 +1,6 @@
 //! The minds that were met, to be compared with.
 
-ghost use Rattle.std.specs.Prelude.{◌≡◌, [], true, length, slice_get, Some, IfOk, IfSome, OnOk};
+ghost use Rattle.std.specs.Prelude.{◌≡◌, [], true, slice_get, Some, IfOk, IfSome, OnOk};
 ghost use Rattle.mas_explore_minds.specs.Minds.{Fits, minds_in};
 ghost use Rattle.mas_explore_likes.specs.Likes as spec;
 

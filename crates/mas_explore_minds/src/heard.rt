@@ -1,7 +1,5 @@
 //! What befalls minds, and what comes of it, by numbers.
 
-ghost use Rattle.std.specs.Prelude.{◌≡◌, true};
-
 use mas_explore_tables::mixing::stirred;
 use mas_explore_tables::table::Known;
 use mas_mind::mind::Feedback;

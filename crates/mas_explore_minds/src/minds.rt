@@ -1,8 +1,7 @@
 //! Minds by their numbers.
 
-ghost use Rattle.std.specs.Prelude.{◌≡◌, ◌<◌, ◌+◌, ◌&&◌, [], true, false, not, is_some, length, slice_get, Some, IfOk, OnOk};
+ghost use Rattle.std.specs.Prelude.{◌≡◌, ◌<◌, ◌+◌, ◌&&◌, false, not, is_some, length, slice_get, Some, IfOk, OnOk};
 ghost use Rattle.mas_mind.specs.Minds as kinds;
-ghost use Rattle.mas_explore_tables.specs.Histories.{AreLinked};
 ghost use Rattle.mas_explore_minds.specs.declared.heard.Heard.TheVariants.{Told};
 ghost use Rattle.mas_explore_minds.specs.Minds as spec;
 

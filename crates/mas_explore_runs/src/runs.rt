@@ -1,6 +1,6 @@
 //! Runs from an origin, by their plans.
 
-ghost use Rattle.std.specs.Prelude.{◌≡◌, true, false, [], IfOk, MatchOption};
+ghost use Rattle.std.specs.Prelude.{◌≡◌, true, false, IfOk, MatchOption};
 ghost use Rattle.mas_free.specs.Outcome as outcomes;
 ghost use Rattle.mas_explore.specs.Listings.{IsRunOf};
 ghost use Rattle.mas_explore_runs.specs.Runs as spec;

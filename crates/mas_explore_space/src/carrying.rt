@@ -1,6 +1,6 @@
 //! Agents that carry out their outs.
 
-ghost use Rattle.std.specs.Prelude.{◌≡◌, ◌<◌, ◌+◌, ◌-◌, true, length, slice_get, Some, All, IfOk};
+ghost use Rattle.std.specs.Prelude.{◌≡◌, ◌<◌, ◌+◌, ◌-◌, true, length, Some, All, IfOk};
 ghost use Rattle.asl_term.specs.Exprs.{is_ground_literal};
 ghost use Rattle.mas_explore.specs.Searches.{most_states};
 ghost use Rattle.mas_mind.specs.Minds.{IsAgent, IsFrom};

@@ -1,6 +1,6 @@
 //! What is held besides the states.
 
-ghost use Rattle.std.specs.Prelude.{◌≡◌, true, slice_get, Some};
+ghost use Rattle.std.specs.Prelude.{◌≡◌, slice_get, Some};
 ghost use Rattle.mas_explore_space.specs.Held as spec;
 
 use mas_explore_minds::fresh::Fresh;

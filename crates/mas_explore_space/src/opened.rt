@@ -1,6 +1,6 @@
 //! A start from which minds and worlds are opened again.
 
-ghost use Rattle.std.specs.Prelude.{◌≡◌, ◌-◌, length, slice_get, Some, IfOk};
+ghost use Rattle.std.specs.Prelude.{◌≡◌, ◌-◌};
 
 use asl_term::names::Names;
 use asl_term::sequence::Starved;

@@ -1,7 +1,6 @@
 //! States as rows of numbers.
 
-ghost use Rattle.std.specs.Prelude.{◌≡◌, ◌<◌, length, slice_set, slice_get, Some, true, IfOk};
-ghost use Rattle.std.specs.Option.{option_copied};
+ghost use Rattle.std.specs.Prelude.{◌≡◌, ◌<◌, length, IfOk};
 ghost use Rattle.mas_explore_space.specs.Rows as spec;
 
 use asl_term::sequence::{Seq, Starved};

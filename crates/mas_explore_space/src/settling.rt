@@ -1,6 +1,6 @@
 //! States of which one stands for those like it.
 
-ghost use Rattle.std.specs.Prelude.{◌≡◌, ◌-◌, Some, length, slice_get, IfOk, OnOk};
+ghost use Rattle.std.specs.Prelude.{◌-◌, Some, length, IfOk, OnOk};
 ghost use Rattle.mas_mind.specs.Minds.{IsAgent};
 ghost use Rattle.mas_explore_likes.specs.Likes.{AreMet};
 ghost use Rattle.mas_explore_space.specs.Held.{start_of, Fits};

@@ -1,11 +1,10 @@
 //! The states that a search has met.
 
-ghost use Rattle.std.specs.Prelude.{◌≡◌, ◌<◌, ◌+◌, ◌-◌, ◌∷◌, [], length, slice_get, Some, IfOk, OnOk};
+ghost use Rattle.std.specs.Prelude.{◌≡◌, ◌<◌, ◌+◌, ◌-◌, ◌∷◌, [], length, Some, IfOk, OnOk};
 ghost use Rattle.mas_explore.specs.Searches.{most_states};
 ghost use Rattle.mas_mind.specs.Minds.{IsAgent};
 ghost use Rattle.mas_free.specs.Covers.{free_opening};
 ghost use Rattle.mas_explore.specs.Origins.{IsOrigin};
-ghost use Rattle.mas_explore.specs.Searches.{HasFollowed};
 ghost use Rattle.mas_explore_likes.specs.Likes.{AreMet};
 ghost use Rattle.mas_explore_space.specs.Held.{start_of};
 ghost use Rattle.mas_explore_space.specs.Met as spec;

@@ -1,6 +1,6 @@
 //! Answers that are remembered.
 
-ghost use Rattle.std.specs.Prelude.{◌≡◌, [], IfOk, IfSome, OnOk};
+ghost use Rattle.std.specs.Prelude.{◌≡◌, [], IfSome, OnOk};
 ghost use Rattle.mas_explore_tables.specs.Tables as spec;
 
 use crate::table::{Known, Table};

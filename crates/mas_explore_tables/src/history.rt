@@ -1,6 +1,6 @@
 //! Values that are held by what befell them.
 
-ghost use Rattle.std.specs.Prelude.{◌≡◌, ◌<◌, ◌+◌, true, length, IfOk};
+ghost use Rattle.std.specs.Prelude.{◌<◌, ◌+◌, length, IfOk};
 ghost use Rattle.mas_explore_tables.specs.Histories as spec;
 
 use crate::mixing::stirred;

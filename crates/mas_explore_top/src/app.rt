@@ -1,6 +1,6 @@
 //! The command as clap has it: a simple command, of which all values but one are texts.
 
-ghost use Rattle.std.specs.Prelude.{◌≡◌, codes, IfOk};
+ghost use Rattle.std.specs.Prelude.{◌≡◌, IfOk};
 ghost use Rattle.clap.specs.Simple.{app_of, new_rule, with_rule};
 ghost use Rattle.mas_explore_top.specs.Apps as spec;
 

@@ -1,6 +1,6 @@
 //! A mind, by what its cycles make of it.
 
-ghost use Rattle.std.specs.Prelude.{◌≡◌, ◌<◌, ◌+◌, true, false, None, IfOk, IfSome, OnErr};
+ghost use Rattle.std.specs.Prelude.{◌≡◌, ◌<◌, true, false, None, IfOk, IfSome, OnErr};
 ghost use Rattle.mas_mind.specs.Limits.{most_cycles};
 ghost use Rattle.mas_mind.specs.declared.mind.Input.{Input};
 ghost use Rattle.mas_mind.specs.declared.mind.Feedback.{Feedback};

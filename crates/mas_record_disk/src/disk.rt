@@ -1,7 +1,7 @@
 //! A disk as its users see it.
 
 ghost use Rattle.std.specs.Prelude.{◌≡◌, ◌≤◌, ℕ, true, None, List, take, drop, length, is_some, IfOk, OnOk, OnErr};
-ghost use Rattle.mas_record_disk.specs.Disk.{Image, DiskState, after_write, after_cut, after_sync};
+ghost use Rattle.mas_record_disk.specs.Disk.{Image, DiskState, after_write, after_cut};
 ghost use Rattle.mas_record_disk.specs.Calls as calls;
 
 use asl_term::sequence::Starved;

@@ -1,9 +1,9 @@
 //! A disk in memory, which tells everything and fails by number.
 
-ghost use Rattle.std.specs.Prelude.{◌≡◌, ◌≤◌, true, false, None, Some, List, ℕ, [], ◌∷◌, ◌++◌, length, take, drop, is_some};
-ghost use Rattle.std.specs.Prelude.{is_none, IfOk, OnOk, OnErr};
+ghost use Rattle.std.specs.Prelude.{◌≡◌, true, false, None, Some, [], ◌∷◌, ◌++◌, is_some};
+ghost use Rattle.std.specs.Prelude.{IfOk, OnOk, OnErr};
 ghost use Rattle.mas_io.specs.Calls.{no_calls};
-ghost use Rattle.mas_record_disk.specs.Disk.{Image, bytes_of, after_write, after_cut};
+ghost use Rattle.mas_record_disk.specs.Disk.{bytes_of};
 ghost use Rattle.mas_record_disk.specs.Calls as calls;
 ghost use Rattle.mas_record_files.specs.Memory as spec;
 ghost use Rattle.mas_record_files.specs.Laws as law;

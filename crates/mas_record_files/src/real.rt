@@ -1,8 +1,7 @@
 //! The files of the machine, of whose bytes nothing is told.
 
-ghost use Rattle.std.specs.Prelude.{◌≡◌, ◌≤◌, List, ℕ, None, false};
+ghost use Rattle.std.specs.Prelude.{◌≡◌, ◌≤◌, None, false};
 ghost use Rattle.mas_io.specs.Causes.{Rose};
-ghost use Rattle.mas_record_disk.specs.Disk.{Image};
 ghost use Rattle.mas_record_disk.specs.declared.disk.DiskFail.TheVariants.{Failed};
 ghost use Rattle.mas_record_files.specs.Real as spec;
 

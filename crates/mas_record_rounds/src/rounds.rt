@@ -1,6 +1,6 @@
 //! Rounds of all shares, side by side.
 
-ghost use Rattle.std.specs.Prelude.{◌≡◌, ◌<◌, All, OnOk, MatchResult};
+ghost use Rattle.std.specs.Prelude.{◌<◌, All, OnOk, MatchResult};
 ghost use Rattle.std.specs.Thread.{IsSync};
 ghost use Rattle.mas_board_lists.specs.Lists.{Each};
 ghost use Rattle.mas_record_rounds.specs.Sharers.{Shares, Stays, Both};

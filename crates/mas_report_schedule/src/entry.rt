@@ -1,6 +1,6 @@
 //! The entries of a schedule.
 
-ghost use Rattle.std.specs.Prelude.{◌≡◌, ◌≤◌, ◌++◌, replicate, OnOk};
+ghost use Rattle.std.specs.Prelude.{◌≡◌, ◌++◌, replicate, OnOk};
 ghost use Rattle.mas_report_schedule.specs.Schedule as spec;
 
 use asl_term::printing::write_number;

@@ -1,6 +1,6 @@
 //! A schedule read from the bytes of its two lines.
 
-ghost use Rattle.std.specs.Prelude.{◌≡◌, ◌<◌, ◌≤◌, ◌-◌, ℕ, List, [], true, option_map, MatchOption, IfOk, IfErr};
+ghost use Rattle.std.specs.Prelude.{◌≡◌, ◌<◌, ◌≤◌, ◌-◌, ℕ, List, true, option_map, MatchOption, IfOk, IfErr};
 ghost use Rattle.mas_report_schedule.specs.Reading.{IsSchedule, IsFaultAt, BeginsCounted};
 ghost use Rattle.mas_report_schedule.specs.inner.Scanning as spec;
 

@@ -1,7 +1,6 @@
 //! The runs of two sites, by one worker or by two.
 
 ghost use Rattle.std.specs.Prelude.{◌≡◌, ◌≤◌, IfOk};
-ghost use Rattle.std.specs.Thread.{IsSync};
 ghost use Rattle.mas_core.specs.Fits.{Start};
 ghost use Rattle.mas_sites_stand.specs.Seats.{seated};
 ghost use Rattle.mas_sites_scripts.specs.Sites.{AreFresh, before};

@@ -1,6 +1,6 @@
 //! Rounds of a site, and of two sites in turn on one thread.
 
-ghost use Rattle.std.specs.Prelude.{◌≡◌, ◌<◌, ◌+◌, ◌&&◌, false, [], length, IfOk};
+ghost use Rattle.std.specs.Prelude.{◌≡◌, ◌<◌, ◌+◌, ◌&&◌, false, length, IfOk};
 ghost use Rattle.mas_mind.specs.Minds.{IsAgent};
 ghost use Rattle.mas_board.specs.Boards.{is_gone, seat_at};
 ghost use Rattle.mas_core.specs.Platform.{ended};

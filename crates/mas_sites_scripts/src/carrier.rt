@@ -1,6 +1,6 @@
 //! What brings messages to the other site and from there.
 
-ghost use Rattle.std.specs.Prelude.{◌≡◌, IfSome, OnOk};
+ghost use Rattle.std.specs.Prelude.{◌≡◌, OnOk};
 ghost use Rattle.mas_mind.specs.Minds.{IsAgent};
 ghost use Rattle.mas_sites_stand.specs.Stands.{IsEntry};
 

@@ -1,8 +1,5 @@
 //! What sits in the place of an agent.
 
-ghost use Rattle.std.specs.Prelude.{◌≡◌};
-ghost use Rattle.mas_sites_stand.specs.Seats as spec;
-
 use crate::stand::Stand;
 use asl_term::sequence::Starved;
 use asl_term::syntax::Text;

@@ -1,6 +1,6 @@
 //! A stand, and its cycles.
 
-ghost use Rattle.std.specs.Prelude.{◌≡◌, ◌++◌, OnOk, OnErr, IfOk, IfSome, length, drop};
+ghost use Rattle.std.specs.Prelude.{◌≡◌, ◌++◌, OnOk, OnErr, IfOk, length, drop};
 ghost use Rattle.std.specs.Option.{option_to_list};
 ghost use Rattle.mas_mind.specs.Minds.{IsAgent};
 ghost use Rattle.mas_sites_stand.specs.Stands as spec;

@@ -1,6 +1,6 @@
 //! The calls on a site's end of one of the wires.
 
-ghost use Rattle.std.specs.Prelude.{◌≡◌, ◌+◌, ◌<◌, true, length, map, slice_get, OnOk, OnErr};
+ghost use Rattle.std.specs.Prelude.{◌≡◌, ◌+◌, ◌<◌, length, map, slice_get, OnOk};
 ghost use Rattle.mas_mind.specs.Minds.{IsFrom};
 ghost use Rattle.mas_sites_scripts.specs.Scripts.{change};
 ghost use Rattle.mas_sites_stand.specs.Stands.{IsEntry};

@@ -1,7 +1,6 @@
 //! A site's ends of the wires of all agents.
 
-ghost use Rattle.std.specs.Prelude.{◌≡◌, map};
-ghost use Rattle.mas_sites_wire.specs.Ends.{log_of};
+ghost use Rattle.std.specs.Prelude.{◌≡◌};
 ghost use Rattle.mas_sites_wire.specs.Lines as spec;
 
 use crate::ends::{next_at, send_at};
@@ -36,11 +35,9 @@ impl<'w, R: Wait> Drop for Ferry<'w, R> {
 }
 
 impl<'w, R: Wait> Model for Ferry<'w, R> {
-    ghost use Rattle.std.specs.Prelude.{map};
     ghost use Rattle.std.specs.Coded.{codes};
     ghost use Rattle.asl_term.specs.contracts.syntax.Term as t;
     ghost use Rattle.crossbeam_queue.specs.SegTies.{seg_id_coded};
-    ghost use Rattle.mas_sites_wire.specs.Ends.{log_of};
     ghost use Rattle.mas_sites_wire.specs.Lines.{Lines, AreHere, lines_of};
 
     ghost Value = { Lines };

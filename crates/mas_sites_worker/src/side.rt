@@ -1,7 +1,6 @@
 //! The run of a site that has its ends of the wires to the other one.
 
 ghost use Rattle.std.specs.Prelude.{◌≡◌, ◌<◌, ◌^◌, length, IfOk};
-ghost use Rattle.mas_sites_stand.specs.Seats.{seated};
 ghost use Rattle.mas_sites_scripts.specs.Sites.{before, after};
 ghost use Rattle.mas_sites_rounds.specs.Rounds.{InRound};
 ghost use Rattle.mas_sites_worker.specs.Sides as spec;

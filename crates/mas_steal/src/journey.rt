@@ -1,7 +1,6 @@
 //! An agent on its way, with what all agents of its run have in common.
 
-ghost use Rattle.std.specs.Prelude.{◌≡◌, IfOk, map};
-ghost use Rattle.mas_board_turns.specs.Follows.{resting};
+ghost use Rattle.std.specs.Prelude.{◌≡◌, IfOk};
 ghost use Rattle.mas_steal.specs.Journeys as spec;
 
 use asl_term::sequence::{Seq, Starved};

@@ -1,5 +1,5 @@
 //! The deques of all workers, and what one worker has of them.
-ghost use Rattle.std.specs.Prelude.{◌≡◌, ◌<◌, ◌+◌, ◌↔◌, [], ◌∷◌, ◌++◌, None, drop, MatchOption, IfSome, IfNone, IfErr, IsSomeAnd, IsTrue, IsNone, ⊤, length};
+ghost use Rattle.std.specs.Prelude.{◌≡◌, ◌<◌, ◌+◌, ◌↔◌, [], ◌∷◌, None, drop, MatchOption, IfSome, IfNone, IfErr, IsSomeAnd, IsTrue, IsNone, ⊤, length};
 ghost use Rattle.std.specs.VecDeque.{deque_len, deque_capacity};
 ghost use Rattle.mas_steal_rack.specs.Rule.{Waits};
 ghost use Rattle.mas_steal_rack.specs.Turns.{MatchTurned, IsAhead};

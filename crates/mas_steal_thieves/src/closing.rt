@@ -1,5 +1,5 @@
 //! Closing the deques of all workers.
-ghost use Rattle.std.specs.Prelude.{◌≡◌, ◌++◌, ◌≤◌, IfOk, OnOk, map, length};
+ghost use Rattle.std.specs.Prelude.{◌≡◌, ◌++◌, ◌≤◌, IfOk, OnOk, map};
 ghost use Rattle.crossbeam_deque.specs.Handles.{view, IsPassOf, worker_view, worker_deque, SameWorker};
 ghost use Rattle.mas_board_lists.specs.Lists.{Each};
 ghost use Rattle.mas_steal_rack.specs.Rule.{whole, both_of, Waits};

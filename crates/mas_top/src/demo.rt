@@ -1,6 +1,6 @@
 //! The demo: its own files, run by workers, and the lines that tell of the run.
 
-ghost use Rattle.std.specs.Prelude.{◌≡◌, ◌≤◌, ℕ, List, Option, IfOk, MatchResult};
+ghost use Rattle.std.specs.Prelude.{◌≤◌, ℕ, List, Option, IfOk, MatchResult};
 ghost use Rattle.asl_cycle.specs.Agent.{agent_kind};
 ghost use Rattle.asl_term.specs.declared.syntax.Filed.{Filed};
 ghost use Rattle.mas_core.specs.Fits.{Start};

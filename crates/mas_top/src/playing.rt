@@ -1,7 +1,7 @@
 //! What is asked for, from the files to the report.
 
 ghost use Rattle.std.specs.Prelude.{◌≡◌, ◌≤◌, IfErr, IfOk, MatchResult};
-ghost use Rattle.mas_report.specs.Limits.{IsFrom, IsWithin};
+ghost use Rattle.mas_report.specs.Limits.{IsWithin};
 ghost use Rattle.mas_top_files.specs.Files.{HasFile, IsRefusal, most_report_bytes};
 ghost use Rattle.mas_top.specs.Caused.{ForFiles};
 ghost use Rattle.mas_top_opening.specs.Fits.{CanRun};

@@ -1,11 +1,10 @@
 //! What the files of a project describe.
 
-ghost use Rattle.std.specs.Prelude.{◌≡◌, ◌≤◌, length, IfOk, MatchResult, option_copied};
-ghost use Rattle.mas_mind.specs.Limits.{most_cycles, most_cycles_together};
+ghost use Rattle.std.specs.Prelude.{◌≡◌, ◌≤◌, length, MatchResult, option_copied};
+ghost use Rattle.mas_mind.specs.Limits.{most_cycles};
 ghost use Rattle.mas_project.specs.Names.{names_in, names_of};
 ghost use Rattle.mas_project.specs.Projects.{most_agents};
 ghost use Rattle.mas_top_files.specs.Files as files;
-ghost use Rattle.mas_top_files.specs.Projects.{all_cycles};
 ghost use Rattle.mas_top_files.specs.Sources as spec;
 
 use crate::files::{agent_of, world_of};

@@ -1,7 +1,7 @@
 //! The artifacts that worlds take out of those that are handed in.
 
-ghost use Rattle.std.specs.Prelude.{◌≡◌, ◌++◌, map, position, option_copied, IfOk, OnOk};
-ghost use Rattle.std.specs.Option.{option_to_list, option_map};
+ghost use Rattle.std.specs.Prelude.{◌≡◌, ◌++◌, position, option_copied, IfOk, OnOk};
+ghost use Rattle.std.specs.Option.{option_to_list};
 ghost use Rattle.std.specs.Str.{bytes_eq};
 ghost use Rattle.mas_top_opening.specs.Opening.{objects_of};
 ghost use Rattle.mas_world.specs.inner.Artifacts.{without_named};

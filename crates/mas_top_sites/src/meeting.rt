@@ -1,6 +1,6 @@
 //! The runs of two sites, from what their projects bring to what is written.
 
-ghost use Rattle.std.specs.Prelude.{◌≡◌, ◌≤◌, length, IfOk};
+ghost use Rattle.std.specs.Prelude.{length, IfOk};
 ghost use Rattle.asl_cycle.specs.Agent.{agent_kind};
 ghost use Rattle.mas_core.specs.Fits.{Start};
 ghost use Rattle.mas_sites_rounds.specs.Between.{AreApart};

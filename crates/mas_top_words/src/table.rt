@@ -1,6 +1,6 @@
 //! The commands and their options, by their words.
 
-ghost use Rattle.std.specs.Prelude.{◌≡◌, codes};
+ghost use Rattle.std.specs.Prelude.{◌≡◌};
 ghost use Rattle.mas_top_words.specs.Table as spec;
 
 #[derive(Clone, Copy, Debug, PartialEq, Eq)]

@@ -1,6 +1,6 @@
 //! What the texts of options and names say.
 
-ghost use Rattle.std.specs.Prelude.{◌≡◌, ◌≤◌, codes, option_map};
+ghost use Rattle.std.specs.Prelude.{◌≡◌, ◌≤◌, option_map};
 ghost use Rattle.mas_top_words.specs.Asked as spec;
 ghost use Rattle.mas_top_words.specs.Asked.{asked_of};
 ghost use Rattle.mas_top_words.specs.Numbers.{number_in};

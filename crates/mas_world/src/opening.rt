@@ -1,6 +1,6 @@
 //! A world at the opening.
 
-ghost use Rattle.std.specs.Prelude.{◌≡◌, ◌++◌, length, map, IfOk, OnOk};
+ghost use Rattle.std.specs.Prelude.{◌≡◌, ◌++◌, map, IfOk, OnOk};
 ghost use Rattle.std.specs.Option.{option_to_list};
 ghost use Rattle.mas_world.specs.Facts.{AreFacts};
 ghost use Rattle.mas_world.specs.inner.Artifacts.{without_named};

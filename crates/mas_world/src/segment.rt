@@ -1,7 +1,6 @@
 //! Tables of acts and their facts.
 
 ghost use Rattle.std.specs.Prelude.{◌≡◌, ◌++◌, true, if◌then◌else◌, Some, None, IfOk, IfSome, OnOk, OnErr};
-ghost use Rattle.std.specs.List.{list_all};
 ghost use Rattle.mas_world.specs.Acts as acts;
 ghost use Rattle.mas_world.specs.Facts.{AreFacts, ArePlain};
 ghost use Rattle.mas_world.specs.Worlds as spec;

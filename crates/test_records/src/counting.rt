@@ -1,7 +1,5 @@
 //! A disk of whose files nothing is told, and which keeps none: it counts its syncs where others see it.
 
-ghost use Rattle.std.specs.Prelude.{None};
-
 use crate::watching::Marks;
 use asl_term::copying::copy_text;
 use asl_term::syntax::Text;

@@ -1,8 +1,5 @@
 //! An artifact of one's own: a counter of pings.
 
-ghost use Rattle.std.specs.Prelude.{◌≡◌, [], IfOk};
-ghost use Rattle.mas_world.specs.Worlds as spec;
-
 use asl_term::copying::text_of;
 use asl_term::measure::ground_literal;
 use asl_term::names::Names;
