@@ -1,48 +1,22 @@
 //! The lines of a trace, as an outcome tells them.
 
-ghost use Rattle.std.specs.Prelude.{◌≡◌, ◌++◌, ◌∷◌, List, ℕ, true, IfOk, OnOk};
+ghost use Rattle.std.specs.Prelude.{◌≡◌, true, IfOk};
 ghost use Rattle.mas_free.specs.Lines as spec;
 ghost use Rattle.mas_explore_likes.specs.Likes.{ShowAlike};
 
 use asl_term::compare::same_text;
 use asl_term::sequence::{Seq, Starved};
 use asl_term::syntax::Text;
+use mas_free::outcome::put_viewed;
 use mas_free::view::View;
 use std::alloc::Global;
-
-/// Appends a byte, unless it goes: whether what is behind it goes.
-fn put_byte(out: &mut Text, byte: u8, goes: bool) -> Result<bool, Starved>
-    ensures { IfOk result (λ r. (behind : List ℕ) → out.new ++ spec.unnumbered_from r behind ≡ out.old ++ spec.unnumbered_from goes (byte ∷ behind)) }
-{
-    if goes {
-        return Ok(byte != b' ');
-    }
-    out.push(byte)?;
-    Ok(byte == b'\n')
-}
-
-/// Appends the lines of a trace, each without the number of its cycle.
-fn put_unnumbered(out: &mut Text, lines: &[u8]) -> Result<(), Starved>
-    ensures { OnOk result (out.new ≡ out.old ++ spec.unnumbered lines.now) }
-{
-    let mut goes = true;
-    let mut rest = lines;
-    'bytes: while let Some((byte, behind)) = rest.split_first() {
-        goes = put_byte(out, *byte, goes)?;
-        rest = behind;
-    }
-    Ok(())
-}
 
 /// What an outcome tells of the lines that a mind has shown.
 pub fn viewed(alloc: Global, view: View, lines: &[u8]) -> Result<Text, Starved>
     ensures { IfOk result (λ r. r ≡ spec.viewed view lines.now) }
 {
     let mut out = Seq::new(alloc);
-    match view {
-        View::Ends => {}
-        View::Lines => put_unnumbered(&mut out, lines)?,
-    }
+    put_viewed(&mut out, view, lines)?;
     Ok(out)
 }
 

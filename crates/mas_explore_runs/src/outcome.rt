@@ -8,33 +8,21 @@ ghost use Rattle.mas_free.specs.Lines.{viewed};
 ghost use Rattle.mas_free.specs.Outcome as spec;
 ghost use Rattle.mas_explore_runs.specs.Runs.{platform_of};
 
-use crate::lines::put_viewed;
 use asl_term::sequence::{Seq, Starved};
 use asl_term::syntax::Text;
 use mas_board::board::Board;
 use mas_board::seats::Phase;
 use mas_core::robin::Done;
+use mas_free::outcome::put_section;
 use mas_free::view::View;
 use mas_mind::mind::End;
 use mas_mind::thinking::Mind;
-use mas_report::report::{lines_of, name_of, phase_word, put_agent_line, put_mail, put_world};
+use mas_report::report::{lines_of, name_of, put_mail, put_world};
 use mas_world::artifact::Artifact;
 use std::alloc::Global;
 
-#[tactic(auto, unfolding(mas_free::specs::Outcome::end_line))]
-fn put_end_line(out: &mut Text, name: &[u8], phase: Phase) -> Result<(), Starved>
-    ensures { OnOk result (out.new ≡ out.old ++ spec.end_line name.now phase) }
-{
-    out.append(b"end ")?;
-    out.append(name)?;
-    out.append(b" ")?;
-    out.append(phase_word(phase))?;
-    out.append(b"\n")
-}
-
 /// Appends the section of an agent, which has shown these lines.
-#[tactic(auto, unfolding(mas_free::specs::Outcome::section))]
-fn put_section<A: Artifact>(
+fn put_agent<A: Artifact>(
     out: &mut Text,
     b: &Board<A>,
     a: u32,
@@ -45,10 +33,7 @@ fn put_section<A: Artifact>(
     ensures { let s = b.now.state in
         OnOk result (out.new ≡ out.old ++ spec.section (board.name_of s a) (viewed view lines.now) (board.seat_at s a).phase) }
 {
-    let name = name_of(b.names(), a);
-    put_agent_line(out, name)?;
-    put_viewed(out, view, lines)?;
-    put_end_line(out, name, b.phase(a))
+    put_section(out, name_of(b.names(), a), view, lines, b.phase(a))
 }
 
 #[tactic(auto, using(crate::proofs::Sections::sections_end))]
@@ -65,7 +50,7 @@ fn put_sections<M: Mind, A: Artifact>(
     let mut a: u32 = 1;
     'agents: while a <= agents {
         let lines = lines_of(d.minds.at((a - 1) as u64));
-        put_section(out, &d.board, a, view, lines)?;
+        put_agent(out, &d.board, a, view, lines)?;
         a += 1;
     }
     Ok(())

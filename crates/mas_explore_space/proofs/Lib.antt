@@ -6,7 +6,6 @@ pub mod Carries
 pub mod Posts
 pub mod Settles
 pub mod Steps
-pub mod Bytes
 pub mod Sees
 pub mod Openings
 pub mod Cycles

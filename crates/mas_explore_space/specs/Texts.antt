@@ -1,5 +1,5 @@
--- Outcomes of rows: lines without their numbers, byte by byte, and the sections of agents.
-use Rattle.std.specs.Prelude.{ℕ, ◌≡◌, Bool, true, false, not, List, [], ◌∷◌, ◌++◌, length, slice_get, Some}
+-- Outcomes of rows: the sections of agents.
+use Rattle.std.specs.Prelude.{ℕ, ◌≡◌, List, ◌++◌, length, slice_get, Some}
 use Rattle.asl_term.specs.Names.{name_at}
 use Rattle.mas_mind.specs.declared.mind.End.TheVariants.{Quiet}
 use Rattle.mas_mind.specs.Minds.{Kind}
@@ -7,7 +7,7 @@ use Rattle.mas_board.specs.declared.seats.Phase.{Phase}
 use Rattle.mas_board.specs.declared.seats.Phase.TheVariants as phase
 use Rattle.mas_board.specs.Boards.{name_or_none}
 use Rattle.mas_free.specs.declared.view.View.{View}
-use Rattle.mas_free.specs.Lines.{is_blank, is_line_feed, viewed}
+use Rattle.mas_free.specs.Lines.{viewed}
 use Rattle.mas_free.specs.Outcome.{section, section_of, sections}
 use Rattle.mas_free.specs.Free.{Free, at_end}
 use Rattle.mas_free.specs.Covers.{Start}
@@ -16,14 +16,6 @@ use Rattle.mas_explore_space.specs.declared.row.Seat.{Seat}
 use Rattle.mas_explore_space.specs.declared.row.Stance.{Stance}
 use Rattle.mas_explore_space.specs.declared.row.Stance.TheVariants as stance
 use Rattle.mas_explore_space.specs.Held.{minds_of}
-
-abbrev pub within_next : Bool → ℕ → Bool
-within_next true c = not (is_blank c)
-within_next false c = is_line_feed c
-
-abbrev pub kept : Bool → ℕ → List ℕ
-kept true c = []
-kept false c = c ∷ []
 
 -- how the part of an agent ends in a state at rest
 abbrev pub phase_of : Stance → Phase

@@ -4,7 +4,6 @@ ghost use Rattle.std.specs.Prelude.{◌≡◌, ◌<◌, ◌+◌, ◌++◌, lengt
 ghost use Rattle.std.specs.List.{flat_map};
 ghost use Rattle.mas_report.specs.Report.{message_line, mail_text, world_text};
 ghost use Rattle.mas_free.specs.Free.{at_end, board_at_end};
-ghost use Rattle.mas_free.specs.Lines as lines;
 ghost use Rattle.mas_free.specs.Outcome as outcome;
 ghost use Rattle.mas_explore_space.specs.Held.{start_of, Fits};
 ghost use Rattle.mas_explore_space.specs.Rows.{Stands, box_at, free_of};
@@ -20,73 +19,13 @@ use mas_explore_minds::fresh::Fresh;
 use mas_explore_minds::minds::mind_of;
 use mas_explore_worlds::fresh::FreshWorld;
 use mas_explore_worlds::worlds::world_of;
+use mas_free::outcome::put_section;
 use mas_free::view::View;
 use mas_mind::mind::{End, Message};
 use mas_mind::thinking::Mind;
-use mas_report::report::{name_of, phase_word, put_agent_line, put_message, put_world};
+use mas_report::report::{name_of, put_message, put_world};
 use mas_world::artifact::Artifact;
 use std::alloc::Global;
-
-/// Appends a byte, unless it stands within what goes: whether the next one does.
-fn put_byte(out: &mut Text, within: bool, byte: u8) -> Result<bool, Starved>
-    ensures next { IfOk result (λ w. w ≡ spec.within_next within byte) }
-    ensures text { OnOk result (out.new ≡ out.old ++ spec.kept within byte) }
-{
-    if within {
-        return Ok(byte != b' ');
-    }
-    out.push(byte)?;
-    Ok(byte == b'\n')
-}
-
-/// Appends lines without the numbers of their cycles.
-#[tactic(auto, using(crate::proofs::Bytes::goes_on, crate::proofs::Bytes::is_done))]
-fn put_unnumbered(out: &mut Text, text: &[u8]) -> Result<(), Starved>
-    ensures { OnOk result (out.new ≡ out.old ++ lines.unnumbered text.now) }
-{
-    let mut within = true;
-    for byte in text {
-        within = put_byte(out, within, *byte)?;
-    }
-    Ok(())
-}
-
-/// Appends what an outcome tells of the lines that a mind has shown.
-fn put_viewed(out: &mut Text, view: View, text: &[u8]) -> Result<(), Starved>
-    ensures { OnOk result (out.new ≡ out.old ++ lines.viewed view text.now) }
-{
-    match view {
-        View::Ends => Ok(()),
-        View::Lines => put_unnumbered(out, text),
-    }
-}
-
-#[tactic(auto, unfolding(mas_free::specs::Outcome::end_line))]
-fn put_end_line(out: &mut Text, name: &[u8], phase: Phase) -> Result<(), Starved>
-    ensures { OnOk result (out.new ≡ out.old ++ outcome.end_line name.now phase) }
-{
-    out.append(b"end ")?;
-    out.append(name)?;
-    out.append(b" ")?;
-    out.append(phase_word(phase))?;
-    out.append(b"\n")
-}
-
-/// Appends the section of an agent: its name, its lines and its end.
-#[tactic(auto, unfolding(mas_free::specs::Outcome::section))]
-pub fn put_section(
-    out: &mut Text,
-    name: &[u8],
-    view: View,
-    text: &[u8],
-    phase: Phase,
-) -> Result<(), Starved>
-    ensures { OnOk result (out.new ≡ out.old ++ outcome.section name.now (lines.viewed view text.now) phase) }
-{
-    put_agent_line(out, name)?;
-    put_viewed(out, view, text)?;
-    put_end_line(out, name, phase)
-}
 
 /// How the part of an agent ends in a state at rest.
 fn phase_of(stance: Stance) -> Phase

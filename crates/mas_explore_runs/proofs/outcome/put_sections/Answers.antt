@@ -11,10 +11,10 @@ agents-preserved g c =
     let a = c.agents.a in
     let total = c.args.out.now ++ sections of 1 (length c.args.d.now.board.state.seats) in
     let l : a ≤ c.len-agents.result = search rules in
-    let e : c.put_section.new.out ≡ c.agents.out ++ of a = search rules in
+    let e : c.put_agent.new.out ≡ c.agents.out ++ of a = search rules in
     record {
       from_one = omega arith;
       most = omega (arith, l);
       number = i.number;
-      text = sections_next of a c.len-agents.result c.agents.out c.put_section.new.out total l e i.text;
+      text = sections_next of a c.len-agents.result c.agents.out c.put_agent.new.out total l e i.text;
     }
