@@ -78,8 +78,7 @@ fn met_before(
         return Ok(None);
     };
     let work = Work::Two(View::Whole(p), View::Whole(q));
-    let found = attempt(alloc, work, s)?;
-    Ok(found)
+    attempt(alloc, work, s)
 }
 
 /// One frame more, where there is a substitution for it, and the substitution for the next.
