@@ -263,6 +263,21 @@ fn each_call_fails(rt: HostRuntime) -> Result<(), Starved> {
     Ok(())
 }
 
+/// The ninth call of the disk is the sync that makes the first turn count. Where it fails a crash leaves that turn if it keeps
+/// the write before, and else not.
+#[test]
+fn a_crash_keeps_the_last_write_or_not(rt: HostRuntime) -> Result<(), Starved> {
+    let alloc = rt.alloc();
+    for (kept, wanted) in [(0, 0), (1, 1)] {
+        let came = come(&rt, alloc, From::Nothing, Seq::new(alloc), 9, kept, 1)?;
+        match told(alloc, &came.files)? {
+            Some(turns) => assert!(rt; turns.len() == wanted),
+            None => assert!(rt; false),
+        }
+    }
+    Ok(())
+}
+
 #[test]
 fn each_beginning_of_a_file_is_gone_on_from(rt: HostRuntime) -> Result<(), Starved> {
     let alloc = rt.alloc();
