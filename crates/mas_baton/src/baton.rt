@@ -14,13 +14,13 @@ ghost use Rattle.mas_baton.specs.Seats as spec;
 ghost use Rattle.mas_baton.specs.Gathering as gathering;
 
 use crate::parcel::Parcel;
-use crate::patience::Patience;
 use crate::rule::{BatonCloses, BatonGives, BatonOpens, BatonRule, BatonTakes};
 use crate::seat::{Seat, Seats};
 use asl_term::sequence::{Seq, Starved};
 use crossbeam_queue::{Pass, RuledArrayQueue};
 use mas_board::board::Board;
 use mas_board::seats::Sensed;
+use mas_board_turns::patience::Patience;
 use mas_board_turns::view::{Departs, Making, Nothing, SideView, SplitsSide};
 use mas_mind::mind::{Feedback, Outs};
 use mas_world::artifact::Artifact;

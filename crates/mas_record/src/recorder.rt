@@ -27,6 +27,7 @@ use asl_term::sequence::Starved;
 use crossbeam_queue::{Pass, RuledArrayQueue};
 use mas_board::board::Board;
 use mas_board::seats::{Phase, Sensed};
+use mas_board_turns::patience::Patience;
 use mas_board_turns::view::{Departs, Making, Nothing};
 use mas_mind::mind::{Feedback, Outs};
 use mas_record_disk::disk::{Disk, DiskFail};
@@ -221,11 +222,12 @@ impl<A: Artifact, D: Disk + Send> Recorder<A, D> {
         ensures ticket { spec.HasTicket self.now true ticket.new }
         ensures met { spec.Met D.state ticket.old ticket.new result }
     {
+        let mut patience = Patience::new();
         for _ in rt.forever() {
             if let Some(deck) = self.line.try_pop_as::<RecorderTakes>(&mut ticket.pass) {
                 return deck;
             }
-            thread::yield_now();
+            patience.wait(rt);
         }
         unreachable!()
     }

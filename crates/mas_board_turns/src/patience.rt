@@ -19,6 +19,7 @@ pub struct Patience {
 }
 
 impl Patience {
+    /// It has not looked in vain yet.
     pub fn new() -> Patience {
         Patience { looks: 0 }
     }
