@@ -1,0 +1,11 @@
+"""The program: `python3 companions/jasonport WORDS`, or ./jasonport at the top."""
+import os
+import sys
+
+sys.path[0] = os.path.dirname(os.path.dirname(os.path.realpath(__file__)))
+
+from jasonport.command import main  # noqa: E402
+
+if __name__ == "__main__":
+    sys.setrecursionlimit(50_000)
+    sys.exit(main(sys.argv[1:]))

@@ -1,0 +1,72 @@
+"""The printer: what is not written anew is written as it stands in the source, byte for byte."""
+from __future__ import annotations
+
+from typing import NamedTuple, Optional
+
+from .tree import Named, Node
+
+
+class Printer:
+    """A source, and what is written in place of some of its nodes."""
+
+    def __init__(self, source: str):
+        self.source = source
+        self.anew: dict[Node, str] = {}
+        self.names: dict[Named, str] = {}
+
+    def write(self, node: Node, text: str) -> None:
+        """The node becomes this text."""
+        self.anew[node] = text
+
+    def rename(self, node: Named, name: str) -> None:
+        """What stands up to the end of the name of a literal becomes this text."""
+        self.names[node] = name
+
+    def is_anew(self, node: Node) -> bool:
+        return node in self.anew
+
+    def as_it_stands(self, node: Node) -> None:
+        """Forgets what was to be written in place of a node."""
+        self.anew.pop(node, None)
+
+    def original(self, node: Node) -> str:
+        return self.source[node.start : node.end]
+
+    def text(self, node: Optional[Node]) -> str:
+        """What is written for a node."""
+        if node is None:
+            return ""
+        if node in self.anew:
+            return self.anew[node]
+        found, place = [], node.start
+        if isinstance(node, Named) and node in self.names:
+            found.append(self.names[node])
+            place = node.name_end
+        for part in node.parts():
+            found.append(self.source[place : part.start])
+            found.append(self.text(part))
+            place = part.end
+        found.append(self.source[place : node.end])
+        return "".join(found)
+
+
+class Piece(NamedTuple):
+    """What is written for the places from `start` to before `end` of a source."""
+
+    start: int
+    end: int
+    text: str
+
+
+def faults_of_pieces(source: str, pieces: list[Piece], noted: set[int]) -> list[int]:
+    """Where what no note names is not kept: the pieces have to be the whole source, one behind the other, and each in which no note stands is as it was."""
+    faults, place = [], 0
+    for piece in pieces:
+        if piece.start != place:
+            faults.append(place)
+        place = piece.end
+        if piece.text != source[piece.start : piece.end] and not any(piece.start <= at < piece.end or at == piece.start for at in noted):
+            faults.append(piece.start)
+    if place != len(source):
+        faults.append(place)
+    return faults
