@@ -13,7 +13,7 @@ abbrev pub is_fed : Option Acting → Option Feedback → Bool
 is_fed None kept = true
 is_fed (Some a) kept = is_some kept
 
--- Where no stack is left waiting when a cycle begins, one waits after it exactly where its thought has an action.
+-- rule: where no stack is left waiting when a cycle begins, one waits after it exactly where its thought has an action.
 abbrev pub ActionsAreAwaited : Type 0
 ActionsAreAwaited =
     (k : Surroundings) (peers : Peers) (p : Circumstance) (asks : ℕ) (kept : Option Feedback) (i : Input)

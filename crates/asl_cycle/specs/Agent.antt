@@ -57,6 +57,7 @@ after_cycle m i r = record {
   thought = r.thought;
 }
 
+-- rule: an agent after a cycle, with its thought
 abbrev pub agent_cycle : Mindset → Input → Cycled Mindset
 agent_cycle m i = after_cycle m i (cycle (surroundings m) m.peers m.parts m.asks m.kept i)
 
@@ -75,7 +76,7 @@ agent_kind = record {
   agents = λ m. length m.peers.names;
 }
 
--- the agent of a source before its first cycle, with its number and the names of all agents
+-- rule: the agent of a source before its first cycle, with its number and the names of all agents
 abbrev pub opening_mind : ℕ → List (List ℕ) → AgentText → Budgets → Level → Mindset
 opening_mind me names source k level = record {
   plans = opened source.plans;

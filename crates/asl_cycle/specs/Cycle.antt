@@ -45,7 +45,7 @@ abbrev pub quiet_line : TraceLine → Bool
 quiet_line (line.Rule r) = quiet_row r
 quiet_line other = false
 
--- every line of the cycle names a row of a quiet one
+-- rule: a cycle is quiet where every line of it names a row of a quiet one: Percept0, Feed0, Msg0, SelEv2, SelInt2
 abbrev pub quiet_lines : List TraceLine → Bool
 quiet_lines [] = true
 quiet_lines (l ∷ ls) = quiet_line l && quiet_lines ls
@@ -125,7 +125,7 @@ module _ (k : Surroundings) (peers : Peers) where
   abbrev pub from_sel_ev : Circumstance → Sofar → Ran
   from_sel_ev p s = and_then s (sel_ev p) after_sel_ev
 
-  -- a search that spends its budget for a message ends the cycle
+  -- rule: a search that spends its budget for a message ends the cycle
   abbrev pub after_msg : Circumstance → Sofar → Bool → Ran
   after_msg p s true = from_sel_ev p s
   after_msg p s false = spends p s
@@ -145,6 +145,6 @@ module _ (k : Surroundings) (peers : Peers) where
 abbrev pub nothing_yet : ℕ → Sofar
 nothing_yet asks = record { lines = []; messages = []; stop = false; asks = asks }
 
--- a cycle, with the number of the next ask, and the feedback that was told since the one before
+-- rule: a cycle, with the number of the next ask, and the feedback that was told since the one before
 abbrev pub cycle : Surroundings → Peers → Circumstance → ℕ → Option Feedback → Input → Ran
 cycle k peers p asks kept i = from_percept k peers p (nothing_yet asks) kept i

@@ -205,7 +205,8 @@ pub record KeepsIntentions (plans known : List OwnedPlan) (by_message : Option (
   pub event : Treats known read treated
   pub turn : Selects known treated after
 
--- So does each cycle that does not end by a spent budget.
+-- rule: each cycle that does not end by a spent budget keeps intentions so: each stands in one place afterwards, as what its step made of
+-- it, or has ended for a stated reason
 abbrev pub CyclesKeepIntentions : Type 0
 CyclesKeepIntentions =
     (k : Surroundings) (peers : Peers) (p : Circumstance) (asks : ℕ) (kept : Option Feedback) (i : Input) (o : Outs)

@@ -14,10 +14,10 @@ use Rattle.asl_exec_circumstance.specs.Circumstance.{Circumstance, parts, goal_t
 abbrev pub initial_goal : LiteralOf Term → Trigger
 initial_goal g = goal_trigger kind.Achieve (with_source g)
 
--- the initial beliefs are added in order, and then come the initial goals
+-- rule: the initial beliefs are added in order, and then come the initial goals
 abbrev pub initial : AgentText → List Trigger
 initial source = (beliefs.opening source).events ++ map initial_goal source.goals
 
--- the counter begins at 1
+-- rule: the counter begins at 1
 abbrev pub opening_parts : AgentText → Circumstance
 opening_parts source = parts (beliefs.opening source).beliefs (agendas.opening (initial source)) 1

@@ -8,7 +8,7 @@ use Rattle.asl_plans.specs.Libraries.{is_owned, opened}
 use Rattle.mas_mind.specs.declared.mind.Input.{Input}
 use Rattle.asl_cycle.specs.Agent.{Mindset, agent_cycle}
 
--- No cycle takes a plan of the source away: such a plan is from 0, and each message from another number.
+-- rule: no cycle takes a plan of the source away: such a plan is from 0, and each message from another number.
 abbrev pub CyclesKeepSource : Type 0
 CyclesKeepSource = (m : Mindset) (i : Input) → IfSome i.message (λ x. 0 ≡ x.from → ⊥) → KeepsOwner 0 m.plans (agent_cycle m i).mind.plans
 

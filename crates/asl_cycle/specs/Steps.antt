@@ -92,7 +92,7 @@ writing s w = moved w.parts (written s w) w.next
 abbrev pub pops : ℕ → List TraceLine
 pops n = replicate n (line.Rule row.Fail2)
 
--- the rows of a failure: Fail2 for each means that is popped, and then Fail1 or Fail3
+-- rule Fail1, Fail2, Fail3: the rows of a failure: Fail2 for each means that is popped, and then Fail1 or Fail3
 abbrev pub fall_lines : Error → Fell → List TraceLine
 fall_lines e (Raised n) = pops (n - 1) ++ line.Rule row.Fail1 ∷ []
 fall_lines e (Dropped n) = pops n ++ line.Rule row.Fail3 ∷ line.Drops e ∷ []
@@ -132,6 +132,7 @@ percept_row (e ∷ events) = row.Percept1
 abbrev pub percept_on : Circumstance → Changed → Stepped (Unit {0})
 percept_on p c = by (percept_row c.events) (believing p c.beliefs c.events) [] tt
 
+-- rule Percept0, Percept1: the percepts change no belief, or some
 abbrev pub percept : Circumstance → List (LiteralOf Term) → Stepped (Unit {0})
 percept p percepts = percept_on p (updated percepts p.beliefs)
 
@@ -141,11 +142,11 @@ percept p percepts = percept_on p (updated percepts p.beliefs)
 abbrev pub none_acting : Circumstance → Circumstance
 none_acting p = with_agenda p (record p.agenda { acting = None })
 
--- FeedDone: the head of the stack is done, and the stack runs on
+-- rule FeedDone: the head of the stack is done, and the stack runs on
 abbrev pub feed_done : Circumstance → Acting → Stepped (Unit {0})
 feed_done p a = by row.FeedDone (running (none_acting p) (without_head a.stack)) (line.Done a.action ∷ []) tt
 
--- FeedFail: the stack fails
+-- rule FeedFail: the stack fails
 abbrev pub feed_fail : Surroundings → Circumstance → Acting → Stepped (Unit {0})
 feed_fail k p a =
     let f = fails k.plans p.number error.ActionFailed (none_acting p).agenda a.stack in
@@ -160,6 +161,7 @@ abbrev pub feed_on : Surroundings → Circumstance → Feedback → Option Actin
 feed_on k p f (Some a) = fed k p f a
 feed_on k p f None = by row.Feed0 p [] tt
 
+-- rule Feed0: no feedback was told; else FeedDone or FeedFail
 abbrev pub feed : Surroundings → Circumstance → Option Feedback → Stepped (Unit {0})
 feed k p None = by row.Feed0 p [] tt
 feed k p (Some f) = feed_on k p f p.agenda.acting
@@ -177,7 +179,7 @@ sends_line peers m = line.Sends (mail peers m.to m)
 abbrev pub took_line : Peers → Message → TraceLine
 took_line peers m = line.Took (mail peers m.from m)
 
--- whether the cycle goes on: AskSpent ends it
+-- rule AskSpent: whether the cycle goes on: AskSpent ends it
 abbrev pub took_row : Peers → Sofar → Message → Circumstance → Took → Moved Bool
 took_row peers s m p (took.Row r reply falls) =
     let lines = map (sends_line peers) (option_to_list reply) ++ falls_lines falls in
@@ -188,11 +190,12 @@ took_row peers s m p (took.Spent b) =
 abbrev pub reads : Peers → Sofar → Message → Received → Moved Bool
 reads peers s m r = took_row peers s m r.parts r.took
 
+-- rule Msg0: there is no message; else the row of the message, with its lines and its reply
 abbrev pub msg : Surroundings → Peers → Circumstance → Sofar → Option Message → Moved Bool
 msg k peers p s None = writing s (by row.Msg0 p [] true)
 msg k peers p s (Some m) = reads peers s m (receive k peers p m)
 
--- the plans after a message, where there is one; no other step changes them
+-- rule: the plans after a message, where there is one; no other step changes them
 abbrev pub plans_after : List OwnedPlan → ℕ → Option Message → List OwnedPlan
 plans_after lib n None = lib
 plans_after lib n (Some m) = learned lib n m
@@ -207,6 +210,7 @@ abbrev pub sel_ev_on : Circumstance → List Event → Stepped (Option Event)
 sel_ev_on p (v ∷ events) = by row.SelEv1 (with_agenda p (record p.agenda { events = events })) [] (Some v)
 sel_ev_on p [] = by row.SelEv2 p [] None
 
+-- rule SelEv1, SelEv2: the oldest event is taken, or there is none
 abbrev pub sel_ev : Circumstance → Stepped (Option Event)
 sel_ev p = sel_ev_on p p.agenda.events
 
@@ -221,6 +225,8 @@ abbrev pub rel_pl_on : Surroundings → Circumstance → Event → List Choice �
 rel_pl_on k p v (c ∷ choices) = by row.Rel1 (with_number p (p.number + 1)) [] (Some record { event = v; choices = c ∷ choices; number = p.number })
 rel_pl_on k p v [] = dropped_or_fails k row.Rel2 row.Rel3 p v v.trigger.kind (irrelevant v.trigger.add v.trigger.kind) None
 
+-- rule Rel1, Rel2, Rel3: some plan is relevant, and the counter rises; none is for an event of a belief, which is dropped; none is, and the
+-- event's stack fails
 abbrev pub rel_pl : Surroundings → Circumstance → Event → Stepped (Option Related)
 rel_pl k p v = rel_pl_on k p v (relevant k.plans p.number v.trigger)
 
@@ -231,11 +237,14 @@ appl_pl_on k p v (chosen.Plan m s n) = by row.Appl1 p [] (applied.Plan record { 
 appl_pl_on k p v chosen.Nothing = dropped_or_fails k row.Appl2 row.Appl3 p v v.trigger.kind error.NoApplicable applied.Nothing
 appl_pl_on k p v (chosen.Spent b) = by row.ApplSpent p (line.Spent b ∷ []) applied.Spent
 
+-- rule Appl1, Appl2, Appl3, ApplSpent: a plan is chosen; none is for an event of a belief, which is dropped; none is, and the event's stack
+-- fails; a context is spent
 abbrev pub appl_pl : Surroundings → Circumstance → Related → Stepped Applied
 appl_pl k p r = appl_pl_on k p r.event (choose k p r.number r.choices)
 
 -- ---- SelAppl: that plan with its solution, whose next number the counter becomes
 
+-- rule SelAppl: the counter becomes the next number of the solution
 abbrev pub sel_appl : Circumstance → Intended → Stepped (Unit {0})
 sel_appl p i = by row.SelAppl (with_number p i.next) [] tt
 
@@ -245,7 +254,7 @@ abbrev pub add_im_row : List Means → Row
 add_im_row [] = row.ExtEv
 add_im_row (m ∷ below) = row.IntEv
 
--- only the chosen means have the solution applied
+-- rule ExtEv, IntEv: the means are a new stack, or stand on top of the event's own; only the chosen means have the solution applied
 abbrev pub add_im : Circumstance → Intended → Stepped (Unit {0})
 add_im p i = by (add_im_row i.event.stack) (running p (applied_means i.subst i.means ∷ i.event.stack)) [] tt
 
@@ -255,6 +264,7 @@ abbrev pub sel_int_on : Circumstance → List (List Means) → Stepped (Option (
 sel_int_on p (s ∷ stacks) = by row.SelInt1 (with_agenda p (record p.agenda { running = stacks })) [] (Some s)
 sel_int_on p [] = by row.SelInt2 p [] None
 
+-- rule SelInt1, SelInt2: the first stack that runs is taken, or none runs, and the cycle ends
 abbrev pub sel_int : Circumstance → Stepped (Option (List Means))
 sel_int p = sel_int_on p p.agenda.running
 
@@ -276,7 +286,7 @@ lines_of (went.Outer c) = []
 lines_of (went.Failed r fall) = fall_lines fall.error fall.fell
 lines_of (went.Spent r b) = line.Spent b ∷ []
 
--- the rows that lead to Clr, and the others, which end the cycle
+-- rule: the rows that lead to Clr, and the others, which end the cycle
 abbrev pub after_row : Row → After
 after_row row.Exec0 = after.Clears
 after_row row.AchvNew = after.Clears
@@ -313,7 +323,7 @@ onward cur a = record { cur = cur; after = a }
 abbrev pub of_made : Made → Stepped Onward
 of_made x = by (row_of x.went) x.parts (lines_of x.went) (onward x.cur (after_of x.went))
 
--- the row of an internal action on goals, beliefs or other agents, by what it did: IaFail, AskOut, IaGone, IaOk
+-- rule IaFail, AskOut, IaGone, IaOk: the row of an internal action on goals, beliefs or other agents, by what it did
 abbrev pub of_acted : Surroundings → Peers → Sofar → Did → Acted → Moved Onward
 of_acted k peers s d (acted.Failed e) = writing s (of_made (failed k row.IaFail error.IaFailed d.parts d.cur))
 of_acted k peers s d (acted.Asked m) =

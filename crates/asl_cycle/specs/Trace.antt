@@ -88,6 +88,7 @@ spent_name spent.Tries = codes "tries"
 abbrev pub mail_text : Mail → List ℕ
 mail_text m = m.who ++ codes " " ++ verb_text m.verb ++ codes " " ++ text m.content
 
+-- rule: the text of a line
 abbrev pub line_text : TraceLine → List ℕ
 line_text (line.Rule r) = codes "rule " ++ row_name r
 line_text (line.Say t) = codes "say " ++ t
@@ -110,6 +111,7 @@ abbrev pub shows_acts : Level → Bool
 shows_acts level.Say = false
 shows_acts other = true
 
+-- rule: which lines a level shows
 abbrev pub shows : Level → TraceLine → Bool
 shows v (line.Rule r) = shows_rules v
 shows v (line.Say t) = true

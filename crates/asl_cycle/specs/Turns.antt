@@ -89,9 +89,9 @@ dropped_by_first (s ∷ stacks) = dropped_by_head (head s)
 
 -- ---- turns
 
--- Of the stacks that run, and behind them those that the cycle lets run before it selects one, those that are left wait for
--- their turn: all but what the message drops. The first of them is taken. What is left of the others then keeps its place,
--- none doubled: all but what the item of the first drops or ends. What goes back stands behind them.
+-- rule: of the stacks that run, and behind them those that the cycle lets run before it selects one, those that are left wait for their
+-- turn: all but what the message drops. The first of them is taken. What is left of the others then keeps its place, none doubled: all but
+-- what the item of the first drops or ends. What goes back stands behind them.
 pub record TakesTurns (by_message : Option (LiteralOf Term)) (before after : List (List Means)) : Type 0 where
   pub woken : List (List Means)
   pub waiting : List (List Means)
@@ -101,8 +101,8 @@ pub record TakesTurns (by_message : Option (LiteralOf Term)) (before after : Lis
   pub back : List (List Means)
   pub in_order : after ≡ left ++ back
 
--- So does each cycle that does not end by a spent budget: an intention that runs comes one place nearer in each cycle,
--- and makes a step before another makes its second. (The counter is the same at the message as before the cycle.)
+-- rule: intentions take turns in each cycle that does not end by a spent budget: an intention that runs comes one place nearer in each
+-- cycle, and makes a step before another makes its second. (The counter is the same at the message as before the cycle.)
 abbrev pub CyclesTakeTurns : Type 0
 CyclesTakeTurns =
     (k : Surroundings) (peers : Peers) (p : Circumstance) (asks : ℕ) (kept : Option Feedback) (i : Input) (o : Outs)

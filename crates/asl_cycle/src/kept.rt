@@ -1,6 +1,7 @@
 //! Events whose triggers are not built. Where the first relevant plan has no context, and its trigger takes any arguments, its
-//! means go on the event's stack at once, with what they are bound to as it is kept. This is the fast way of the rows RelPl, ApplPl,
-//! SelAppl and AddIM, which steps.rt has for all other events: a change of one of these rows is one here, and in `from_taken` of cycle.rt, too.
+//! means go on the event's stack at once, with what they are bound to as it is kept. This is the fast way of the rows Rel1, Appl1,
+//! SelAppl, and ExtEv or IntEv, which steps.rt has for all other events: a change of one of these rows is one here, and in
+//! `from_taken` and `from_stack` of cycle.rt, too.
 
 ghost use Rattle.std.specs.Prelude.{◌≡◌, Some, true, false, slice_get, IfOk, IfSome};
 ghost use Rattle.asl_exec_circumstance.specs.Circumstance.{seen_around};

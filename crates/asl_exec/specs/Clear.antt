@@ -7,7 +7,7 @@ use Rattle.asl_exec_circumstance.specs.declared.went.Went.TheVariants as went
 use Rattle.asl_exec_circumstance.specs.Circumstance.{Surroundings, Circumstance, Made, made, running}
 use Rattle.asl_exec_circumstance.specs.Emptied.{emptied}
 
--- ClrInt3: the stack goes to the back of those that run
+-- rule ClrInt3: the stack goes to the back of those that run
 abbrev pub waits : Circumstance → List Means → Made
 waits p cur = made (running p cur) [] (went.Row row.ClrInt3)
 

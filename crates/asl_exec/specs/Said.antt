@@ -29,6 +29,6 @@ abbrev pub said_arg : ArgOf Expr → List ℕ
 said_arg (arg.Plain t) = said t
 said_arg (arg.Logic e) = []
 
--- the arguments as `.print` says them, one behind the other
+-- rule .print: the arguments as `.print` says them, one behind the other
 abbrev pub print_text : List (ArgOf Expr) → List ℕ
 print_text args = flat_map said_arg args

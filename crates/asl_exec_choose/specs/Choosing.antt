@@ -27,7 +27,7 @@ renamed_means n plan = record { trigger = renamed_trigger n plan.trigger; body =
 abbrev pub sought : Surroundings → Circumstance → ℕ → Plan → List Pair → Answer
 sought k p n plan s = decide k.budgets.tries (marks (base (facts_of p.beliefs k.rules) k.solve) k.budgets.depth (renamed_expr n plan.context) s p.number)
 
--- a context that is Found chooses its plan, one that is Spent ends the cycle, and all others lead to the next plan
+-- rule: a context that is Found chooses its plan, one that is Spent ends the cycle, and all others lead to the next plan
 abbrev pub choose_by : ℕ → Plan → Answer → Chosen → Chosen
 choose_by n plan (answer.Found s m) rest = chosen.Plan (renamed_means n plan) s m
 choose_by n plan (answer.Spent b) rest = chosen.Spent b
@@ -37,6 +37,7 @@ abbrev pub choose_at : Surroundings → Circumstance → ℕ → Option Plan →
 choose_at k p n None s rest = rest
 choose_at k p n (Some plan) s rest = choose_by n plan (sought k p n plan s) rest
 
+-- rule: the first of the relevant plans whose context is found, those before it being neither found nor spent
 abbrev pub choose : Surroundings → Circumstance → ℕ → List Choice → Chosen
 choose k p n [] = chosen.Nothing
 choose k p n (c ∷ choices) = choose_at k p n (plan_at k.plans c.plan) c.subst (choose k p n choices)

@@ -29,11 +29,11 @@ abbrev pub bound_by : Option (List Pair) → List Means → List Means
 bound_by None below = below
 bound_by (Some s) below = bound s below
 
--- ClrInt2: the goal below is done, with what the trigger brings back
+-- rule ClrInt2: the goal below is done, with what the trigger brings back
 abbrev pub done_below : Circumstance → LiteralOf Term → List Means → Made
 done_below p l below = made p (without_head (bound_by (answer l (head below)) below)) (went.Row row.ClrInt2)
 
--- the top is popped whose literal this is: ClrLimit where the head below passes the limits, else ClrInt2
+-- rule ClrLimit, ClrInt2: the top is popped whose literal this is: ClrLimit where the head below passes the limits, else ClrInt2
 abbrev pub popped : Surroundings → Circumstance → LiteralOf Term → List Means → Made
 popped k p l below = cond (is_bounded (head below)) (done_below p l below) (failed k row.ClrLimit error.TermLimit p below)
 
@@ -42,7 +42,8 @@ abbrev pub emptied_top : Surroundings → Circumstance → Means → List Means 
 emptied_top k p m [] = made p [] (went.Row row.ClrInt1)
 emptied_top k p m (n ∷ below) = cond (is_bounded_trigger m.trigger) (popped k p m.trigger.lit (n ∷ below)) (failed k row.ClrLimit error.TermLimit p (n ∷ below))
 
--- a stack whose top has an empty body
+-- rule ClrInt1, ClrLimit: a stack whose top has an empty body: ClrInt1 where nothing stands below, ClrLimit where the literal of the top
+-- passes the limits
 abbrev pub emptied : Surroundings → Circumstance → List Means → Made
 emptied k p [] = made p [] (went.Row row.ClrInt1)
 emptied k p (m ∷ below) = emptied_top k p m below

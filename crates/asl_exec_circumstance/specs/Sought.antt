@@ -7,6 +7,6 @@ use Rattle.asl_resolve.specs.Base.{base}
 use Rattle.asl_resolve.specs.Marks.{marks, decide}
 use Rattle.asl_exec_circumstance.specs.Circumstance.{Surroundings, Circumstance}
 
--- what the search for an expression answers
+-- rule: what the search for an expression answers
 abbrev pub sought : Surroundings → Circumstance → Expr → Answer
 sought k p e = decide k.budgets.tries (marks (base (facts_of p.beliefs k.rules) k.solve) k.budgets.depth e [] p.number)

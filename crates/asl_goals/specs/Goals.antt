@@ -38,7 +38,7 @@ stack_match g = first_of (λ m. goal_match g m.trigger)
 abbrev pub event_match : (desired : Bool) → LiteralOf Term → Event → Option (List Pair)
 event_match desired g e = or_else (cond desired (goal_match g e.trigger) None) (stack_match g e.stack)
 
--- in the order running, events, asks, the current stack
+-- rule .intend, .desire: the first match in the order running, events, asks, the current stack
 abbrev pub first_goal : (desired : Bool) → LiteralOf Term → Agenda → List Means → Option (List Pair)
 first_goal desired g a cur =
     or_else (first_of (stack_match g) a.running)
@@ -48,12 +48,12 @@ first_goal desired g a cur =
 
 -- ---- `.succeed_goal` and `.fail_goal`: one fold over the stacks
 
--- a stack from its lowest means of a goal that g names, those above it popped; None where it has none
+-- rule: a stack from its lowest means of a goal that g names, those above it popped; None where it has none
 abbrev pub from_lowest : LiteralOf Term → List Means → Option (List Means)
 from_lowest g [] = None
 from_lowest g (m ∷ below) = or_else (from_lowest g below) (cond (names_goal g m.trigger) (Some (m ∷ below)) None)
 
--- succeeding makes the row of Clr as if the body of that means were empty; failing makes the stack fail
+-- rule .succeed_goal, .fail_goal: succeeding makes the row of Clr as if the body of that means were empty; failing makes the stack fail
 abbrev pub treated : Surroundings → Way → Circumstance → List Means → Made
 treated k way.Succeed p stack = emptied k p stack
 treated k way.Fail p stack = failed k row.IaFail error.IaFailed p stack
@@ -132,7 +132,7 @@ module _ (k : Surroundings) (w : Way) (g : LiteralOf Term) where
   abbrev pub asks_swept : Circumstance → Circumstance
   asks_swept p = let s = sweep_asks p in with_asks s.parts s.left
 
-  -- all stacks but the current one
+  -- rule: all stacks but the current one, in the order running, events, asks
   abbrev pub all_swept : Circumstance → Circumstance
   all_swept p = asks_swept (events_swept (running_swept p))
 

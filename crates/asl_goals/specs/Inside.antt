@@ -59,9 +59,11 @@ module _ (k : Surroundings) (asks : ℕ) (p : Circumstance) (cur : List Means) w
   dropped a true = did (with_agenda p a) asks [] (acted.Gone [])
   dropped a false = done (with_agenda p a)
 
+  -- rule .drop_intention: the stacks that have the goal go; so does the current one
   abbrev pub drop_intention : LiteralOf Term → Did
   drop_intention g = dropped (without_intentions g p.agenda) (has_goal g cur)
 
+  -- rule .drop_desire: such events and stacks go; so does the current one that has the goal
   abbrev pub drop_desire : LiteralOf Term → Did
   drop_desire g = dropped (without_desires g p.agenda) (has_goal g cur)
 
@@ -71,6 +73,7 @@ module _ (k : Surroundings) (asks : ℕ) (p : Circumstance) (cur : List Means) w
   matched None = refused why.NoMatch
   matched (Some s) = did p asks (without_head (bound s cur)) (acted.Ok [])
 
+  -- rule .intend, .desire: the substitution of the first match is applied to the current stack; refused where there is none
   abbrev pub looked_up : Bool → LiteralOf Term → Did
   looked_up desired g = matched (first_goal desired g p.agenda cur)
 
@@ -85,6 +88,7 @@ module _ (k : Surroundings) (asks : ℕ) (p : Circumstance) (cur : List Means) w
   current w q falls None = did q asks (without_head cur) (acted.Ok falls)
   current w q falls (Some cut) = let x = treated k w q cut in current_left x.parts x.cur (falls ++ falls_of x.went)
 
+  -- rule .succeed_goal, .fail_goal: one fold over the stacks, the current one after all others
   abbrev pub ended : Way → LiteralOf Term → Did
   ended w g = current w (all_swept k w g p) (all_falls k w g p) (from_lowest g cur)
 
@@ -93,6 +97,7 @@ module _ (k : Surroundings) (asks : ℕ) (p : Circumstance) (cur : List Means) w
   abbrev pub changed : Changed → Did
   changed c = done (believing p c.beliefs c.events)
 
+  -- rule .abolish: the beliefs that match go, with their events
   abbrev pub abolish : LiteralOf Term → Did
   abolish g = changed (abolished g p.beliefs)
 
@@ -101,7 +106,7 @@ module _ (k : Surroundings) (asks : ℕ) (p : Circumstance) (cur : List Means) w
   abbrev pub sent : List Message → Did
   sent messages = did p asks (without_head cur) (acted.Sent messages)
 
-  -- the current stack waits for the answer, its head stays
+  -- rule: an ask with a fourth argument: the current stack waits for the answer, its head stays, and the number of the next ask rises
   abbrev pub asked : ℕ → Letter → Term → Did
   asked me l a = did
       (with_agenda p (record p.agenda { asks = p.agenda.asks ++ record { number = asks; answer = a; stack = cur } ∷ [] }))
@@ -116,6 +121,7 @@ module _ (k : Surroundings) (asks : ℕ) (p : Circumstance) (cur : List Means) w
   sent_letter me args (Err e) = refused e
   sent_letter me args (Ok l) = sent_asking me l (slice_get args 3)
 
+  -- rule .send: a letter, and the head is removed; with a fourth argument the verb has to ask
   abbrev pub send : Peers → List (ArgOf Expr) → Did
   send peers args = sent_letter peers.me args (letter peers.names args)
 
@@ -123,9 +129,11 @@ module _ (k : Surroundings) (asks : ℕ) (p : Circumstance) (cur : List Means) w
   sent_all (Err e) = refused e
   sent_all (Ok messages) = sent messages
 
+  -- rule .broadcast: the same letter to every other agent, and the head is removed
   abbrev pub broadcast : Peers → List (ArgOf Expr) → Did
   broadcast peers args = sent_all (spread peers args)
 
+  -- rule .stopMAS: the run is to stop, and the head is removed
   abbrev pub stop : Did
   stop = did p asks (without_head cur) acted.Stop
 

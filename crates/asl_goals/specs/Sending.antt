@@ -86,7 +86,8 @@ verb_at args n = verb_atom (atom_at args n)
 
 -- ---- the content
 
--- for tell ground literals, for untell literals, for tellHow strings, for untellHow a string or an atom, else a literal
+-- rule: what a content has to be: for tell ground literals, for untell literals, for tellHow strings, for untellHow a string or an atom,
+-- else a literal
 abbrev pub fits : Verb → Term → Bool
 fits verb.Tell t = is_some (ground_literals t)
 fits verb.Untell t = is_some (literals_of t)
@@ -98,7 +99,7 @@ abbrev pub content_of : Verb → ℕ → Option Term → Result Term Why
 content_of v n None = Err (why.Argument n)
 content_of v n (Some t) = cond (fits v (sealed t)) (Ok (sealed t)) (Err (why.Argument n))
 
--- the sealed content at a place
+-- rule: the sealed content at a place
 abbrev pub content_at : Verb → List (ArgOf Expr) → ℕ → Result Term Why
 content_at v args n = content_of v n (term_at args n)
 
@@ -116,6 +117,7 @@ abbrev pub with_receiver : List (ArgOf Expr) → Result ℕ Why → Result Lette
 with_receiver args (Err e) = Err e
 with_receiver args (Ok to) = with_verb to args (verb_at args 1)
 
+-- rule: a letter, with receiver, verb and content tested in this order
 abbrev pub letter : List (List ℕ) → List (ArgOf Expr) → Result Letter Why
 letter names args = with_receiver args (receiver names args)
 
@@ -135,7 +137,7 @@ abbrev pub spread_content : Peers → Verb → Result Term Why → Result (List 
 spread_content peers v (Err e) = Err e
 spread_content peers v (Ok t) = Ok (to_others peers.me v t 1 peers.names)
 
--- (asks are not for all)
+-- rule .broadcast: no ask goes to all
 abbrev pub spread_verb : Peers → List (ArgOf Expr) → Option Verb → Result (List Message) Why
 spread_verb peers args None = Err (why.Argument 0)
 spread_verb peers args (Some v) = cond (is_ask v) (Err (why.Argument 0)) (spread_content peers v (content_at v args 1))

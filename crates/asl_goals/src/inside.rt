@@ -101,8 +101,8 @@ fn deed_done<B: BeliefBase, A: Actions>(
     }
 }
 
-/// The internal action that the head of the current stack is, applied and settled. A number of an ask is used up for each
-/// `.send` of four arguments, and for nothing else.
+/// The internal action that the head of the current stack is, applied and settled. A number of an ask is used up for each ask
+/// that is sent, and for nothing else.
 #[tactic(auto, unfolding(crate::specs::Inside::act_inside))]
 pub fn act_inside<B: BeliefBase, A: Actions>(
     alloc: Global,

@@ -15,6 +15,7 @@ external_event t = record { trigger = t; stack = []; error = None }
 abbrev pub external : List Trigger → List Event
 external = map external_event
 
+-- rule: the first agenda: an external event of each trigger, and no stack
 abbrev pub opening : List Trigger → Agenda
 opening first = record { events = external first; running = []; acting = None; asks = [] }
 
@@ -49,6 +50,7 @@ passes_at p (Some x) = p x
 
 -- the stacks that have a goal which g names: of events, those that run, and those that wait for an answer
 
+-- rule .drop_intention: without the stacks that have a goal which g names: of events, those that run, and those that wait for an answer
 abbrev pub without_intentions : LiteralOf Term → Agenda → Agenda
 without_intentions g a = record {
   events = without (λ e. has_goal g e.stack) a.events;
@@ -65,6 +67,7 @@ intentions g a = count (λ e. has_goal g e.stack) a.events + count (has_goal g) 
 abbrev pub without_wanted : LiteralOf Term → Agenda → Agenda
 without_wanted g a = record a { events = without (λ e. names_goal g e.trigger) a.events }
 
+-- rule .drop_desire: without the events of a goal that g names, and then without such stacks
 abbrev pub without_desires : LiteralOf Term → Agenda → Agenda
 without_desires g a = without_intentions g (without_wanted g a)
 

@@ -17,7 +17,7 @@ use Rattle.asl_intend.specs.declared.entry.Means.{Means}
 use Rattle.asl_intend.specs.Means.{applied_means}
 use Rattle.asl_intend.specs.Entries.{is_achieve}
 
--- a substitution put into all means
+-- rule: a substitution put into all means
 abbrev pub bound : List Pair → List Means → List Means
 bound s = map (applied_means s)
 
@@ -41,6 +41,7 @@ with_first f m = record { trigger = m.trigger; body = replaced (merged_formula f
 
 -- the same of the top
 
+-- rule: the first formula of the top
 abbrev pub head : List Means → Option Formula
 head [] = None
 head (m ∷ below) = first m
@@ -91,7 +92,7 @@ is_bounded_at (Some t) = is_bounded_trigger t
 abbrev pub BoundedAt : Option Trigger → Type 0
 BoundedAt t = is_bounded_at t ≡ true
 
--- at most 1,000,000 nodes and 1,000 levels: a trigger with more is not built
+-- rule: at most 1,000,000 nodes and 1,000 levels: a trigger with more is not built
 abbrev pub IsBuildable : Trigger → Type 0
 IsBuildable t = (size (term.Lit t.lit) ≤ 1000000) × (depth (term.Lit t.lit) ≤ 1000)
 
@@ -114,10 +115,11 @@ is_goal g true kind.Achieve h = any_match (matches g h [])
 is_goal g true kind.Belief h = false
 is_goal g true kind.Test h = false
 
+-- rule: g names the goal of a trigger where it matches h and the trigger is +!h
 abbrev pub names_goal : LiteralOf Term → Trigger → Bool
 names_goal g t = is_goal g t.add t.kind t.lit
 
--- whether g names the goal of some means
+-- rule: whether g names the goal of some means
 abbrev pub has_goal : LiteralOf Term → List Means → Bool
 has_goal g [] = false
 has_goal g (m ∷ below) = names_goal g m.trigger || has_goal g below
@@ -127,7 +129,7 @@ abbrev pub names_at : LiteralOf Term → Option Trigger → Bool
 names_at g None = false
 names_at g (Some t) = names_goal g t
 
--- the first match of g with h, where the trigger is +!h
+-- rule: the first match of g with h, where the trigger is +!h
 abbrev pub goal_match : LiteralOf Term → Trigger → Option (List Pair)
 goal_match g t = cond (t.add && is_achieve t.kind) (slice_get (matches g t.lit []) 0) None
 

@@ -5,6 +5,6 @@ use Rattle.asl_plans.specs.declared.entry.OwnedPlan.{OwnedPlan}
 use Rattle.asl_plans.specs.Laws.{KeepsOwner}
 use Rattle.asl_kqml.specs.Receive.{learned}
 
--- a message takes nothing from an owner that is not its sender, so none of the source, whose number is 0
+-- rule: a message takes nothing from an owner that is not its sender, so none of the source, whose number is 0
 abbrev pub MessagesKeep : Type 0
 MessagesKeep = (lib : List OwnedPlan) (n : ℕ) (m : Message) (o : ℕ) → (o ≡ m.from → ⊥) → KeepsOwner o lib (learned lib n m)

@@ -65,12 +65,13 @@ received p t = record { parts = p; took = t }
 abbrev pub by : Row → Circumstance → Received
 by r p = received p (took.Row r None [])
 
+-- rule Ignore: anything else changes nothing but the counter
 abbrev pub ignored : Circumstance → Received
 ignored = by row.Ignore
 
 -- ---- Tell and Untell
 
--- without its sources, and with this one as the last
+-- rule: a literal that is told: without its sources, and with the sender as the last
 abbrev pub sourced : List ℕ → LiteralOf Term → LiteralOf Term
 sourced name l = with_annots l (filter (λ a. not (is_source a)) l.annots ++ source name ∷ [])
 
@@ -86,27 +87,31 @@ all_removed (l ∷ more) bs = followed (without_match (removed l [] bs)) (all_re
 abbrev pub changed : Row → Circumstance → Changed → Received
 changed r p c = by r (believing p c.beliefs c.events)
 
+-- rule Tell: literals are added, each from the sender
 abbrev pub tell : List ℕ → Circumstance → Option (List (LiteralOf Term)) → Received
 tell name p None = ignored p
 tell name p (Some ls) = changed row.Tell p (all_added (map (sourced name) ls) p.beliefs)
 
+-- rule Untell: literals are removed, each with no annotation but the sender
 abbrev pub untell : List ℕ → Circumstance → Option (List (LiteralOf Term)) → Received
 untell name p None = ignored p
 untell name p (Some ls) = changed row.Untell p (all_removed (map (only_from name) ls) p.beliefs)
 
 -- ---- Achieve and Unachieve
 
+-- rule Achieve: an external event of the goal, from the sender
 abbrev pub achieve : List ℕ → Circumstance → Option (LiteralOf Term) → Received
 achieve name p None = ignored p
 achieve name p (Some g) = by row.Achieve (post p (external_event (goal_trigger kind.Achieve (sourced name g))))
 
+-- rule Unachieve: the events and stacks of the goal are dropped
 abbrev pub unachieve : Circumstance → Option (LiteralOf Term) → Received
 unachieve p None = ignored p
 unachieve p (Some g) = by row.Unachieve (with_agenda p (without_desires g p.agenda))
 
 -- ---- AskOne, AskAll, AskSpent
 
--- the reply to a message. It carries the number of the ask; to an ask without one it is sent only where it says something
+-- rule: the reply to a message carries the number of the ask; to an ask without one it is sent only where it says something
 abbrev pub reply_by : Verb → ℕ → Message → Term → Option Message
 reply_by v me m t = cond (eqb m.ask 0 && is_nothing t) None
     (Some (record { from = me; to = m.from; verb = v; content = sealed t; ask = 0; reply = m.ask }))
@@ -126,6 +131,8 @@ abbrev pub one_answer : LiteralOf Term → Answer → Term
 one_answer g (answer.Found s n) = cond (within_literal (applied_literal s g)) (term.Lit (applied_literal s g)) no
 one_answer g other = no
 
+-- rule AskOne, AskSpent: the reply is the literal with the first solution, or `false` where there is none, it passes the limits, or the
+-- search has a fault
 abbrev pub ask_one : ℕ → Message → Circumstance → LiteralOf Term → Answer → Received
 ask_one me m p g (answer.Spent b) = received p (took.Spent b)
 ask_one me m p g other = replies row.AskOne p (reply me m (one_answer g other))
@@ -140,6 +147,8 @@ abbrev pub all_answer : LiteralOf Term → Answers → Term
 all_answer g (answers.All found) = limited_list (map (λ s. applied_literal s g) found)
 all_answer g other = nil
 
+-- rule AskAll, AskSpent: the reply is the list of the literal with each solution, empty where it passes the limits or the search has a
+-- fault
 abbrev pub ask_all : ℕ → Message → Circumstance → LiteralOf Term → Answers → Received
 ask_all me m p g (answers.Spent b) = received p (took.Spent b)
 ask_all me m p g other = replies row.AskAll p (reply me m (all_answer g other))
@@ -158,13 +167,14 @@ asks_all k me m p (Some g) = ask_all me m p g (sought_all k p g)
 
 -- ---- Reply and ReplyFail
 
+-- rule Reply, ReplyFail: the stack goes on behind its head, with what the answer unified; it fails where that does not unify
 abbrev pub answered : Surroundings → Circumstance → List Means → Option (List Pair) → Received
 answered k p stack (Some s) = by row.Reply (running p (without_head (bound s stack)))
 answered k p stack None =
     let f = fails k.plans p.number error.IaFailed p.agenda stack in
     received (with_agenda p f.agenda) (took.Row row.ReplyFail None (record { error = error.IaFailed; fell = f.fell } ∷ []))
 
--- the ask is answered: the term that takes the answer is the left one
+-- rule: an ask is answered once: the term that takes the answer is the left one
 abbrev pub answers_ask : Surroundings → Circumstance → ℕ → Term → Option Ask → Received
 answers_ask k p n content None = ignored p
 answers_ask k p n content (Some a) =
@@ -180,12 +190,12 @@ pub record Learned : Type 0 where
 abbrev pub learned_by : Row → List OwnedPlan → Learned
 learned_by r lib = record { plans = lib; row = r }
 
--- plans that the sender tells are added one after another, from it
+-- rule TellHow: plans that the sender tells are added one after another, from it
 abbrev pub tell_how : ℕ → List OwnedPlan → Option (List Plan) → Learned
 tell_how from lib None = learned_by row.Ignore lib
 tell_how from lib (Some ps) = learned_by row.TellHow (plans.all_added ps from lib)
 
--- plans that it takes back are no longer from it
+-- rule UntellHow: plans that it takes back are no longer from it
 abbrev pub untell_how : ℕ → List OwnedPlan → Option Which → Learned
 untell_how from lib None = learned_by row.Ignore lib
 untell_how from lib (Some w) = learned_by row.UntellHow (plans.dropped w from lib)
@@ -195,7 +205,7 @@ learns lib from content verb.TellHow = tell_how from lib (plans_of content)
 learns lib from content verb.UntellHow = untell_how from lib (which_of content)
 learns lib from content other = learned_by row.Ignore lib
 
--- the plans after a message (no other verb changes them)
+-- rule: the plans after a message (no other verb changes them)
 unfoldable pub learned : List OwnedPlan → ℕ → Message → List OwnedPlan
 learned lib n m = (learns lib m.from (renamed n m.content) m.verb).plans
 
@@ -226,15 +236,18 @@ how_answer lib n g = limited_strings (texts_of lib (relevant lib n (goal_trigger
 abbrev pub how_verb : Message → Verb
 how_verb m = cond (eqb m.ask 0) verb.TellHow verb.Tell
 
+-- rule AskHow: the reply has the texts of the plans that are relevant for +!g, in order
 abbrev pub asks_how : Surroundings → ℕ → Message → Circumstance → Option (LiteralOf Term) → Received
 asks_how k me m p None = ignored p
 asks_how k me m p (Some g) = replies row.AskHow p (reply_by (how_verb m) me m (how_answer k.plans p.number g))
 
 -- ---- the row of a message
 
+-- rule: a `tell` that replies answers the ask of its number; any other adds literals without variables
 abbrev pub tells : Surroundings → List ℕ → Circumstance → Message → Term → Received
 tells k name p m content = cond (eqb m.reply 0) (tell name p (ground_literals content)) (answers_ask k p m.reply content (ask_of m.reply p.agenda.asks))
 
+-- rule: the row of a message, by its verb and what its content is
 abbrev pub of_verb : Surroundings → ℕ → List ℕ → Circumstance → Message → Term → Verb → Received
 of_verb k me name p m content verb.Tell = tells k name p m content
 of_verb k me name p m content verb.Untell = untell name p (literals_of content)
@@ -246,6 +259,6 @@ of_verb k me name p m content verb.TellHow = by (learns k.plans m.from content v
 of_verb k me name p m content verb.UntellHow = by (learns k.plans m.from content verb.UntellHow).row p
 of_verb k me name p m content verb.AskHow = asks_how k me m p (literal_of content)
 
--- the content is renamed by the counter, which rises by one (shut, so that proofs above do not look inside)
+-- rule: the content is renamed by the counter, which rises by one (shut, so that proofs above do not look inside)
 unfoldable pub receive : Surroundings → Peers → Circumstance → Message → Received
 receive k peers p m = of_verb k peers.me (agent_name peers.names m.from) (with_number p (p.number + 1)) m (renamed p.number m.content) m.verb

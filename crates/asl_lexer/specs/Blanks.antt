@@ -12,7 +12,7 @@ abbrev pub EndsLine : List ℕ → Type 0
 EndsLine [] = Unit {0}
 EndsLine (b ∷ rest) = b ≡ 10
 
--- The first n bytes are a blank byte, or a comment: `//` up to the line feed or the end, or `/*` up to the next `*/`.
+-- rule: the first n bytes are a blank byte, or a comment: `//` up to the line feed or the end, or `/*` up to the next `*/`.
 pub data BlankAt (bytes : List ℕ) : ℕ → Type 0 where
   blank_byte : (b : ℕ) (rest : List ℕ) → bytes ≡ b ∷ rest → is_blank b ≡ true → BlankAt bytes 1
   line : (text rest : List ℕ) → bytes ≡ codes "//" ++ (text ++ rest) → list_all is_no_feed text ≡ true → EndsLine rest → BlankAt bytes (length text + 2)

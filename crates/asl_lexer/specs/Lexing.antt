@@ -76,7 +76,7 @@ abbrev pub onto : Tok → Result (List Tok) LexFault → Result (List Tok) LexFa
 onto t (Ok ts) = Ok (t ∷ ts)
 onto t (Err fault) = Err fault
 
--- What the bytes from a place on give: their tokens, each the longest at its place, or the first fault.
+-- rule: what the bytes from a place on give: their tokens, each the longest at its place, or the first fault.
 pub data Lexes : Place → List ℕ → Result (List Tok) LexFault → Type 0 where
   at_end : {p : Place} → Lexes p [] (Ok [])
   behind_blank : {p : Place} {bytes : List ℕ} {r : Result (List Tok) LexFault} (n : ℕ) → BlankAt bytes n

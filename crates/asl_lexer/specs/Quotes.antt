@@ -19,7 +19,7 @@ pub data AreAll (test : List ℕ → Bool) : List ℕ → Type 0 where
   no_unit : AreAll test []
   one_unit : (u text : List ℕ) → test u ≡ true → AreAll test text → AreAll test (u ++ text)
 
--- closed in its line, by the first quote that is in no unit
+-- rule: a string is closed in its line, by the first quote that is in no unit
 pub record IsClosed (text : List ℕ) : Type 0 where
   pub units : List ℕ
   pub rest : List ℕ

@@ -81,7 +81,7 @@ bad_from i false (b ∷ text) = if b == 34 then None else (if b == 92 then bad_f
 abbrev pub meant : ℕ → ℕ
 meant b = if b == 110 then 10 else (if b == 116 then 9 else b)
 
--- the content of a string, without its first quote
+-- rule: the content of a string, without its first quote
 abbrev pub content : Bool → List ℕ → List ℕ
 content escaped [] = []
 content true (b ∷ text) = meant b ∷ content false text
@@ -131,7 +131,7 @@ abbrev pub value_from : ℕ → List ℕ → ℕ
 value_from v [] = v
 value_from v (d ∷ ds) = value_from (v * 10 + (d - 48)) ds
 
--- the number that digits spell, unless it is above 9223372036854775807
+-- rule: the number that digits spell, unless it is above 9223372036854775807
 abbrev pub value : List ℕ → Option ℕ
 value digits = if nat_le (value_from 0 digits) 9223372036854775807 then Some (value_from 0 digits) else None
 

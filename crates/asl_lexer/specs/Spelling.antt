@@ -42,7 +42,7 @@ is_escaped b = ((b == 34 || b == 92) || b == 110) || b == 116
 
 -- ---- signs
 
--- how each sign is spelled
+-- rule: how each sign is spelled
 abbrev pub sign_text : signs.Sign → List ℕ
 sign_text sign.Open = codes "("
 sign_text sign.Close = codes ")"
@@ -111,7 +111,7 @@ abbrev pub after_dot : List ℕ → Option TokKind
 after_dot [] = Some End
 after_dot (b ∷ text) = given (is_lower b && list_all is_word text) Inner
 
--- the kind of token that a whole text is
+-- rule: the kind of token that a whole text is
 abbrev pub kind_of : List ℕ → Option TokKind
 kind_of [] = None
 kind_of (b ∷ text) =
@@ -122,7 +122,7 @@ kind_of (b ∷ text) =
     else (if b == 34 then given (ends_string false text) Str
     else given (is_sign (b ∷ text)) Sign))))
 
--- n bytes at the front are a token, and no more bytes are
+-- rule: n bytes at the front are a token, and no more bytes are
 pub record IsLongest (bytes : List ℕ) (kind : TokKind) (n : ℕ) : Type 0 where
   pub within : n ≤ length bytes
   pub some : 0 < n

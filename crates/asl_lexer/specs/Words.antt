@@ -30,6 +30,7 @@ word_of kind.Str text = Str
 word_of kind.Sign text = option_map_or Sign (sign_of text) Other
 word_of kind.End text = End
 
+-- rule: the word that a token is to a grammar
 abbrev pub word : Tok → Word
 word t = word_of t.kind t.text
 
@@ -52,7 +53,7 @@ abbrev pub onto : Tok → List (List Tok) → List (List Tok)
 onto t [] = (t ∷ []) ∷ []
 onto t (p ∷ ps) = (t ∷ p) ∷ ps
 
--- the tokens, cut after each whose word ends a piece; a rest without such a one is a piece too
+-- rule: the tokens, cut after each whose word ends a piece; a rest without such a one is a piece too
 unfoldable pub pieces : (Word → Bool) → List Tok → List (List Tok)
 pieces ends [] = []
 pieces ends (t ∷ ts) = if ends (word t) then (t ∷ []) ∷ pieces ends ts else onto t (pieces ends ts)

@@ -127,6 +127,6 @@ from_any args [] = true
 from_any args (a ∷ []) = is_free_source args a
 from_any args other = false
 
--- sign and functor agree, some terms for the variables of h make its arguments those of g, and h takes a goal from any source
+-- rule: sign and functor agree, some terms for the variables of h make its arguments those of g, and h takes a goal from any source
 abbrev pub covers : LiteralOf Term → LiteralOf Term → Bool
 covers h g = same_head h.neg h.functor g && can_become h.args g.args && from_any h.args h.annots

@@ -16,7 +16,7 @@ pub record IsInstance (h g : LiteralOf Term) : Type 0 where
   pub values : Var → Term
   pub args : map (put values) h.args ≡ g.args
 
--- the trigger of a plan takes a goal from any source, and the goal is an instance of it
+-- rule: the trigger of a plan takes a goal from any source, and the goal is an instance of it
 pub record IsCovered (h g : LiteralOf Term) : Type 0 where
   pub instance : IsInstance h g
   pub any_source : from_any h.args h.annots ≡ true

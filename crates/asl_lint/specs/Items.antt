@@ -75,7 +75,7 @@ sent_holds names texts args other = true
 abbrev pub call_holds : List (List ℕ) → List AgentText → CallOf Expr → Bool
 call_holds names texts c = sent_holds names texts c.args (known c.name (length c.args))
 
--- an item of a plan's body
+-- rule: whether lint lets an item of a plan's body pass
 abbrev pub item_holds : List (List ℕ) → List AgentText → List Plan → Formula → Bool
 item_holds names texts plans (formula.Achieve g) = achieves plans g
 item_holds names texts plans (formula.Spawn g) = achieves plans g

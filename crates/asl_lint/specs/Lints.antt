@@ -38,7 +38,7 @@ abbrev pub or_yes : Option Verdict → Verdict
 or_yes None = Yes
 or_yes (Some v) = v
 
--- the first failure, by agents, then goals, then plans and their items
+-- rule: the first failure, by agents, then goals, then plans and their items
 abbrev pub verdict : List (List ℕ) → List AgentText → Verdict
 verdict names texts = or_yes (first_found (agent_verdict names texts) 1 texts)
 

@@ -15,8 +15,8 @@ use Rattle.asl_parser.specs.Sentences.{Says}
 
 -- ---- pieces
 
--- What pieces answer, the first of which has the number k: what they say, or the first that is refused, for its
--- brackets, as no clause, or for its trees.
+-- rule: what pieces answer, the first of which has the number k: what they say, or the first that is refused, for its brackets, as no
+-- clause, or for its trees.
 pub data Answers : ℕ → List (List Tok) → Result (List Sentence) TextFault → Type 0 where
   all_read : {k : ℕ} → Answers k [] (Ok [])
   brackets : {k : ℕ} {p : List Tok} {ps : List (List Tok)} → too_deep most_brackets 0 (lexemes p) ≡ true → Answers k (p ∷ ps) (Err (Limit k))
@@ -51,7 +51,7 @@ pub record AreSentences (bytes : List ℕ) (said : List Sentence) : Type 0 where
   pub lexed : AreTokens bytes tokens
   pub read : Answers 1 (pieces is_end tokens) (Ok said)
 
--- the bytes are the source of this agent
+-- rule: the bytes are the source of this agent
 pub record IsAgent (bytes : List ℕ) (text : AgentText) : Type 0 where
   pub sentences : List Sentence
   pub said : AreSentences bytes sentences
@@ -63,7 +63,7 @@ pub record IsRefused (bytes : List ℕ) (fault : TextFault) : Type 0 where
   pub lexed : AreTokens bytes tokens
   pub refused : Answers 1 (pieces is_end tokens) (Err fault)
 
--- why bytes are no source; memory may lack anywhere
+-- rule: why bytes are no source; memory may lack anywhere
 abbrev pub IsNone : List ℕ → TextFault → Type 0
 IsNone bytes Memory = Unit {0}
 IsNone bytes (Lex fault) = IsFirstFault bytes fault

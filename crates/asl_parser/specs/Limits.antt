@@ -20,7 +20,7 @@ within_formula (formula.Act l) = within_literal l
 within_formula (formula.Inner c) = within_expr (expr.Inner c)
 within_formula (formula.Rel r) = within_expr (expr.Rel r)
 
--- each tree is within the limits
+-- rule: each tree is within the limits
 abbrev pub is_within : Sentence → Bool
 is_within (sentence.Belief l) = within_literal l
 is_within (sentence.Rule c) = within_literal c.head && within_expr c.body

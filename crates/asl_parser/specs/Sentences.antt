@@ -133,7 +133,7 @@ pub data ReadsBody : ℕ → List Lexeme → List Lexeme → List Formula → Ty
   no_body : {n : ℕ} {xs : List Lexeme} → ReadsBody n xs xs []
   a_body : {n : ℕ} {xs ys : List Lexeme} {fs : List Formula} → ReadsItemList n xs ys fs → ReadsBody n (Sign sign.LeftArrow ∷ xs) ys fs
 
--- the tokens are one clause, with its end, that says this
+-- rule: the tokens are one clause, with its end, that says this
 pub data Says : ℕ → List Lexeme → Sentence → Type 0 where
   says_fact : {n : ℕ} {xs : List Lexeme} {l : LiteralOf Term} {s : Sentence} → ReadsHead n xs (End ∷ []) l → fact l ≡ s → Says n xs s
   says_rule : {n : ℕ} {xs ys : List Lexeme} {l : LiteralOf Term} {e : Expr} → ReadsHead n xs (Sign sign.If ∷ ys) l → ReadsFormula n ys (End ∷ []) e

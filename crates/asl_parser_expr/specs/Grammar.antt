@@ -32,7 +32,7 @@ pub data Rule : Type 0 where
   signed : Rule
   primary : Rule
 
--- which tokens join two operands at a rule
+-- rule: which tokens join two operands at a rule
 pub data Joins : Rule → Lexeme → Joint → Type 0 where
   or : Joins disjunction (Sign sign.Bar) joint.Or
   and : Joins conjunction (Sign sign.Ampersand) joint.And
@@ -42,7 +42,7 @@ pub data Joins : Rule → Lexeme → Joint → Type 0 where
   over : Joins product lexeme.Div (joint.Arith Div)
   modulo : Joins product lexeme.Mod (joint.Arith Mod)
 
--- which tokens relate two terms
+-- rule: which tokens relate two terms
 pub data Relates : Lexeme → RelOp → Type 0 where
   less : Relates (Sign sign.Less) rel.Less
   less_same : Relates (Sign sign.LessEq) rel.LessEq
@@ -66,9 +66,8 @@ operand primary = primary
 abbrev pub listing : List Term → Option Term → ListingOf Term
 listing items tail = record { items = items; tail = tail }
 
--- Reads n rule xs ys m: a front of xs is an expression by the rule, ys is behind it, it means m, and at most n
--- brackets are open at one place of it.
 mutual
+  -- rule: expressions: a front of xs is one by the rule, ys is behind it, it means m, and at most n brackets are open at one place of it
   pub data Reads : ℕ → Rule → List Lexeme → List Lexeme → Meaning → Type 0 where
     just_or : {n : ℕ} {xs ys : List Lexeme} {m : Meaning} → Reads n conjunction xs ys m → Reads n disjunction xs ys m
     just_and : {n : ℕ} {xs ys : List Lexeme} {m : Meaning} → Reads n negation xs ys m → Reads n conjunction xs ys m

@@ -33,7 +33,7 @@ IsFront ts count m = Reads most_brackets disjunction (take count ts) [] m
 abbrev pub NoLonger : List Lexeme → ℕ → Type 0
 NoLonger ts count = (k : ℕ) (m : Meaning) → count < k → k ≤ length ts → IsFront ts k m → ⊥
 
--- the longest front of these tokens that is an expression, and what it means
+-- rule: the longest front of these tokens that is an expression, and what it means
 pub record IsLongest (ts : List Lexeme) (count : ℕ) (m : Meaning) : Type 0 where
   pub within : count ≤ length ts
   pub front : IsFront ts count m

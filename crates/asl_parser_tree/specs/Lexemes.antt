@@ -44,6 +44,6 @@ unfoldable pub lexemes_from : ℕ → List Tok → List Lexeme
 lexemes_from k [] = []
 lexemes_from k (t ∷ ts) = lexeme_of k (words.word t) t.text ∷ lexemes_from (k + counts (words.word t) t.text) ts
 
--- the tokens of a clause
+-- rule: the tokens of a clause
 abbrev pub lexemes : List Tok → List Lexeme
 lexemes = lexemes_from 1

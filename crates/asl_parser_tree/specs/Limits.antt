@@ -14,7 +14,7 @@ use Rattle.asl_parser_tree.specs.declared.lexeme.Lexeme.TheVariants.{Sign}
 abbrev pub most_brackets : ℕ
 most_brackets = most_levels
 
--- whether more brackets are open at one place, where so many are open before; a closing one closes any
+-- rule: whether more brackets are open at one place, where so many are open before; a closing one closes any
 unfoldable pub too_deep : ℕ → ℕ → List Lexeme → Bool
 too_deep limit count [] = false
 too_deep limit count (Sign sign.Open ∷ ts) = if nat_lt count limit then too_deep limit (count + 1) ts else true
@@ -23,7 +23,7 @@ too_deep limit count (Sign sign.Close ∷ ts) = too_deep limit (count - 1) ts
 too_deep limit count (Sign sign.CloseSquare ∷ ts) = too_deep limit (count - 1) ts
 too_deep limit count (t ∷ ts) = too_deep limit count ts
 
--- no more nodes and no more levels than a tree may have
+-- rule: no more nodes and no more levels than a tree may have
 abbrev pub within : ℕ → ℕ → Bool
 within nodes levels = leb nodes most_nodes && leb levels most_levels
 

@@ -39,11 +39,11 @@ truth b = meaning.Truth b (atom (truth_name b))
 
 -- ---- calls of internal actions
 
--- there is one that stands in a formula, and takes so many arguments
+-- rule: an internal action that stands in a formula, and takes so many arguments
 unfoldable pub is_pure : List ℕ → ℕ → Bool
 is_pure name count = option_map_or stands_in_formula (known name count) false
 
--- there is one that stands in the body of a plan alone, and takes so many arguments
+-- rule: an internal action that stands in the body of a plan alone, and takes so many arguments
 unfoldable pub is_deed : List ℕ → ℕ → Bool
 is_deed name count = option_map_or (λ a. not (stands_in_formula a)) (known name count) false
 
@@ -52,13 +52,13 @@ formula_at (Some (action.Collects collector.Findall)) place = place == 1
 formula_at (Some (action.Collects collector.Count)) place = place == 0
 formula_at other place = false
 
--- whether the argument at a place, counted from 0, is a formula: the second of `findall` and the first of `count`
+-- rule: whether the argument at a place, counted from 0, is a formula: the second of `findall` and the first of `count`
 unfoldable pub wants_formula : List ℕ → ℕ → Bool
 wants_formula name place = formula_at (named name) place
 
 -- ---- terms and formulas
 
--- as a term
+-- rule: what an expression is as a term
 abbrev pub as_term : Meaning → Option Term
 as_term (meaning.Truth b l) = Some (term.Lit l)
 as_term (meaning.Literal l) = Some (term.Lit l)
@@ -67,7 +67,7 @@ as_term (meaning.Relation r) = None
 as_term (meaning.Call c) = None
 as_term (meaning.Formula e) = None
 
--- as a formula, which holds no action of a body
+-- rule: what an expression is as a formula, which holds no action of a body
 abbrev pub as_formula : Meaning → Option Expr
 as_formula (meaning.Truth b l) = Some (if b then expr.True else expr.False)
 as_formula (meaning.Literal l) = Some (expr.Holds l)
@@ -134,7 +134,7 @@ as_args name place (m ∷ ms) = do
   others ← as_args name (suc place) ms
   Some (a ∷ others)
 
--- a call of an internal action that is known with so many arguments
+-- rule: a call of an internal action that is known with so many arguments
 unfoldable pub called : List ℕ → List Meaning → Option Meaning
 called name ms =
     if is_pure name (length ms) || is_deed name (length ms)

@@ -6,7 +6,7 @@ use Rattle.asl_plans.specs.declared.entry.OwnedPlan.{OwnedPlan}
 use Rattle.asl_plans.specs.declared.entry.Which.{Which}
 use Rattle.asl_plans.specs.Libraries.{is_owned, added, opened, dropped, AreEntries}
 
--- what is from an owner stays from that owner
+-- rule: what is from an owner stays from that owner
 abbrev pub KeepsOwner : ℕ → List OwnedPlan → List OwnedPlan → Type 0
 KeepsOwner o before after = (p : Plan) → is_owned p o before ≡ true → is_owned p o after ≡ true
 

@@ -35,7 +35,7 @@ with_owner o e = if owns o e then e else record { plan = e.plan; owners = e.owne
 abbrev pub entry : Plan → ℕ → OwnedPlan
 entry p o = record { plan = p; owners = o ∷ [] }
 
--- a plan that is there has one owner more, another goes last
+-- rule: a plan that is there has one owner more, another goes last
 abbrev pub added : Plan → ℕ → List OwnedPlan → List OwnedPlan
 added p o [] = entry p o ∷ []
 added p o (e ∷ more) = if same_plan p e.plan then with_owner o e ∷ more else e ∷ added p o more
@@ -45,7 +45,7 @@ abbrev pub all_added : List Plan → ℕ → List OwnedPlan → List OwnedPlan
 all_added [] o lib = lib
 all_added (p ∷ more) o lib = all_added more o (added p o lib)
 
--- the plans of a source, equal ones once
+-- rule: the plans of a source, equal ones once
 abbrev pub opened : List Plan → List OwnedPlan
 opened plans = all_added plans 0 []
 
@@ -70,7 +70,7 @@ lost w o e = if is_meant w e.plan then without_owner o e else e
 abbrev pub has_owner : OwnedPlan → Bool
 has_owner e = list_any (λ x. true) e.owners
 
--- and what has no owner left goes
+-- rule: what is meant loses the owner, and what has no owner left goes
 abbrev pub dropped : Which → ℕ → List OwnedPlan → List OwnedPlan
 dropped w o lib = filter has_owner (map (lost w o) lib)
 

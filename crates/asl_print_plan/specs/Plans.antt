@@ -8,7 +8,7 @@ use Rattle.asl_print.specs.Agents.{alone}
 use Rattle.asl_parser.specs.Agents.{IsAgent}
 use Rattle.asl_parser.proofs.Total.{some_answer}
 
--- the bytes are this plan: as the source of an agent they say it, within the limits, and nothing else
+-- rule: the bytes are this plan: as the source of an agent they say it, within the limits, and nothing else
 abbrev pub IsPlan : List ℕ → Plan → Type 0
 IsPlan bytes p = IsAgent bytes (alone p)
 

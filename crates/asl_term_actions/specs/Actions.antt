@@ -61,7 +61,7 @@ abbrev pub or_else : Option Action → Option Action → Option Action
 or_else (Some a) other = Some a
 or_else None other = other
 
--- the action of a name (shut, so that proofs above go by actions, and not by names)
+-- rule: which internal action a name is (shut, so that proofs above go by actions, and not by names)
 unfoldable pub named : List ℕ → Option Action
 named name =
     cond (bytes_eq name (codes "print")) (Some action.Print)
@@ -88,6 +88,7 @@ deed_takes deed.Send n = (n == 3) || (n == 4)
 deed_takes deed.Broadcast n = n == 2
 deed_takes deed.StopMas n = n == 0
 
+-- rule: how many arguments an action takes
 abbrev pub takes : Action → ℕ → Bool
 takes (action.Collects collector.Findall) n = n == 3
 takes (action.Collects collector.Count) n = n == 2
@@ -106,7 +107,7 @@ known name n = if_takes (named name) n
 
 -- ---- where an action stands
 
--- those that change nothing and say nothing; the others stand in the body of a plan alone
+-- rule: those that change nothing and say nothing; the others stand in the body of a plan alone
 abbrev pub stands_in_formula : Action → Bool
 stands_in_formula (action.Collects c) = true
 stands_in_formula (action.Looks l) = true

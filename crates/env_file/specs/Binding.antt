@@ -69,6 +69,6 @@ effect_variables = flat_map variables_in
 abbrev pub bound_at_first : WrittenAct → List Var
 bound_at_first a = literal_variables a.head ++ variables a.by
 
--- the first variable of the effects, in their order, that neither the act's literal, nor `by`, nor the guard binds
+-- rule: the first variable of the effects, in their order, that neither the act's literal, nor `by`, nor the guard binds
 abbrev pub unbound : WrittenAct → List Part → Option (List ℕ)
 unbound a ps = first_free (with_parts (bound_at_first a) ps) (effect_variables a.effects)

@@ -24,7 +24,7 @@ parts_step (layer.Not o) = o >>= denied
 parts_step (layer.And a b) = both a b
 parts_step other = None
 
--- the parts of a formula, in order, if each is a literal, `not` before a literal, or a relation
+-- rule: the parts of a formula, in order, if each is a literal, `not` before a literal, or a relation
 abbrev pub parts : Expr → Option (List Part)
 parts = fold-Expr (Option (List Part)) parts_step
 

@@ -97,7 +97,7 @@ pub data States : ℕ → List Lexeme → Statement → Type 0 where
       → ReadsGuard n ys (Sign sign.RightArrow ∷ zs) guard → ReadsEffects n zs (End ∷ []) effects
       → States n (w ∷ xs) (statement.Act (record { head = l; by = by; guard = guard; effects = effects }))
 
--- the tokens are one clause, with its end, that says this; no literal has annotations
+-- rule: the tokens are one clause, with its end, that says this; no literal has annotations
 pub record Says (n : ℕ) (xs : List Lexeme) (s : Statement) : Type 0 where
   pub bare : has_annots xs ≡ false
   pub stated : States n xs s

@@ -41,7 +41,7 @@ change add (Added l) = if add then Some l else None
 change add (Deleted l) = if add then None else Some l
 change add (Dropped name) = None
 
--- what is added, or taken away, in order
+-- rule: what is added, or taken away, in order
 abbrev pub changes : Bool → List Effect → List (LiteralOf Term)
 changes add = flat_map (λ e. option_to_list (change add e))
 
@@ -50,7 +50,7 @@ with_drop names (Added l) = names
 with_drop names (Deleted l) = names
 with_drop names (Dropped name) = with_name names name
 
--- the names and those of what is dropped, in order, each once
+-- rule: the names and those of what is dropped, in order, each once
 abbrev pub drops : List (List ℕ) → List Effect → List (List ℕ)
 drops names [] = names
 drops names (e ∷ es) = drops (with_drop names e) es
@@ -104,7 +104,7 @@ made artifacts w k t (statement.Act a) = act_made w k a (said_parts a.guard)
 
 -- ---- pieces
 
--- What pieces answer behind those that made a world, the first of which has the number k.
+-- rule: what pieces answer behind those that made a world, the first of which has the number k.
 pub data Answers (artifacts : List (List ℕ)) : ℕ → WorldText → List (List Tok) → Result WorldText WorldFault → Type 0 where
   all_read : {k : ℕ} {w : WorldText} → Answers artifacts k w [] (Ok w)
   brackets : {k : ℕ} {w : WorldText} {p : List Tok} {ps : List (List Tok)} → too_deep most_brackets 0 (lexemes p) ≡ true
@@ -131,11 +131,11 @@ pub record HasAnswer (artifacts : List (List ℕ)) (bytes : List ℕ) (answer : 
   pub lexed : AreTokens bytes tokens
   pub answers : Answers artifacts 1 nothing (pieces is_end tokens) answer
 
--- the bytes are the file of this world
+-- rule: the bytes are the file of this world
 abbrev pub IsWorld : List (List ℕ) → List ℕ → WorldText → Type 0
 IsWorld artifacts bytes text = HasAnswer artifacts bytes (Ok text)
 
--- why bytes are no world file; memory may lack anywhere
+-- rule: why bytes are no world file; memory may lack anywhere
 abbrev pub IsNone : List (List ℕ) → List ℕ → WorldFault → Type 0
 IsNone artifacts bytes Memory = Unit {0}
 IsNone artifacts bytes (Lex fault) = IsFirstFault bytes fault

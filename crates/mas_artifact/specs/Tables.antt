@@ -67,6 +67,7 @@ tally_add =
     (related k More (term.Num (pos 0)) ∷ related n LessEq (difference most k) ∷ [])
     (tally (sum n k))
 
+-- rule: the acts of a tally
 abbrev pub tally_table : List Act
 tally_table = tally_add ∷ []
 
@@ -91,6 +92,7 @@ slot_take = act (literal (codes "slot_take") []) (slot idle) [] (slot (held (var
 abbrev pub slot_give : Act
 slot_give = act (literal (codes "slot_give") []) (slot (held (variable (codes "A")))) [] (slot idle)
 
+-- rule: the acts of a slot
 abbrev pub slot_table : List Act
 slot_table = slot_take ∷ slot_give ∷ []
 
@@ -113,6 +115,7 @@ belt_take =
     let l = variable (codes "L") in
     act (literal (codes "belt_take") (p ∷ [])) (belt (list_before p l)) [] (belt l)
 
+-- rule: the acts of a belt
 abbrev pub belt_table : List Act
 belt_table =
     belt_put []

@@ -95,6 +95,7 @@ are_quiet version [] boxes = true
 are_quiet version (seat ∷ seats) [] = true
 are_quiet version (seat ∷ seats) (box ∷ boxes) = rests version seat box && are_quiet version seats boxes
 
+-- rule: every agent that has not left has the present version as its mark and an empty box
 abbrev pub all_quiet : State → Bool
 all_quiet s = are_quiet s.version s.seats s.boxes
 
@@ -119,7 +120,7 @@ NotBelow c seat = (is_gone seat.phase ≡ true) ⊎ (c ≤ seat.cycle)
 abbrev pub is_at_limit : State → ℕ → Bool
 is_at_limit s a = nat_eq (seat_at s a).cycle s.cycles
 
--- the agent is at least as many cycles ahead of another that has not left as it may be
+-- rule: the agent is at least as many cycles ahead of another that has not left as it may be
 abbrev pub is_ahead : State → ℕ → Bool
 is_ahead s a = nat_le (s.lead + least_cycle s a) (seat_at s a).cycle
 
@@ -152,7 +153,7 @@ later box = drop 1 box
 abbrev pub input_of : State → ℕ → Input
 input_of s a = record { percepts = seen s.world (name_of s a); message = oldest (box_of s.boxes a) }
 
--- the message leaves the box; the cycle number rises by one, the mark is cleared, and the present version is kept
+-- rule: the message leaves the box; the cycle number rises by one, the mark is cleared, and the present version is kept
 abbrev pub begun : State → ℕ → State
 begun s a = record s {
   boxes = slice_set s.boxes (a - 1) (later (box_of s.boxes a));
@@ -162,7 +163,7 @@ begun s a = record s {
 abbrev pub given : State → ℕ → Sensed × State
 given s a = (Given (input_of s a), begun s a)
 
--- the first that applies
+-- rule: a Sense, by the first that applies: the limit of cycles, the stop mark, all are quiet, too far ahead; else the input is given
 abbrev pub sense : State → ℕ → Sensed × State
 sense s a =
     if is_at_limit s a then left_cycles s a
@@ -191,11 +192,11 @@ is_done None = false
 is_done (Some Failed) = false
 is_done (Some Done) = true
 
--- the version rises by one exactly where the action was done or a message was put
+-- rule: the version rises by one exactly where the action was done or a message was put
 abbrev pub version_after : ℕ → Option Feedback → List Message → ℕ
 version_after version feedback messages = if is_done feedback || not (is_empty messages) then version + 1 else version
 
--- the agent is idle again; where the outs are quiet its mark is the version of its Sense
+-- rule: the agent is idle again; where the outs are quiet its mark is the version of its Sense
 abbrev pub rested : AgentPlace → Bool → AgentPlace
 rested seat quiet = record { phase = Idle; cycle = seat.cycle; mark = if quiet then Some seat.kept else None; kept = seat.kept }
 
@@ -212,6 +213,7 @@ emitted s a outs after = (
   },
 )
 
+-- rule: an Emit: the action is done, where there is one, and the messages are put in order
 abbrev pub emit : State → ℕ → Outs → Option Feedback × State
 emit s a outs = emitted s a outs (acted_as s.world (name_of s a) outs.action)
 
@@ -219,12 +221,13 @@ emit s a outs = emitted s a outs (acted_as s.world (name_of s a) outs.action)
 abbrev pub no_outs : Outs
 no_outs = record { action = None; messages = []; stop = false; quiet = false }
 
+-- rule: a Leave, after a cycle that a spent search ended
 abbrev pub leave : State → ℕ → State
 leave s a = left_by s a Budget
 
 -- ---- the start
 
--- every agent is idle at cycle 0, without a mark and mail, and the version is 0
+-- rule: every agent is idle at cycle 0, without a mark and mail, and the version is 0
 abbrev pub opening : List (List ℕ) → World → ℕ → ℕ → State
 opening names world cycles lead = record {
   names = names;

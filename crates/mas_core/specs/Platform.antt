@@ -79,7 +79,7 @@ turn_in k p a (Gone end) = None
 abbrev pub is_agent : ℕ → ℕ → Bool
 is_agent agents a = nat_le 1 a && nat_le a agents
 
--- the turn of the agent of this number: none where no agent has it, or where that agent has no turn; it is legal where there is one
+-- rule: the turn of the agent of this number: none where no agent has it, or where that agent has no turn; it is legal where there is one
 abbrev pub turn : {V : Type 0} → Kind V → Platform V → ℕ → Option (Platform V)
 turn k p a = if is_agent (length p.board.seats) a then turn_in k p a (seat_at p.board a).phase else None
 
@@ -87,12 +87,12 @@ abbrev pub and_run : {V : Type 0} → (Platform V → Option (Platform V)) → O
 and_run f None = None
 and_run f (Some p) = f p
 
--- the run along a schedule: the fold of the turns, each of which is legal where it stands
+-- rule: the run along a schedule: the fold of the turns, each of which is legal where it stands
 abbrev pub run : {V : Type 0} → Kind V → Platform V → List ℕ → Option (Platform V)
 run k p [] = Some p
 run k p (a ∷ schedule) = and_run (λ q. run k q schedule) (turn k p a)
 
--- every agent has left
+-- rule: every agent has left
 abbrev pub ended : List AgentPlace → Bool
 ended [] = true
 ended (seat ∷ seats) = is_gone seat.phase && ended seats

@@ -39,7 +39,7 @@ pub record IsAgent (agents n : ℕ) : Type 0 where
   pub from_one : 1 ≤ n
   pub named : n ≤ agents
 
--- a message to the agent `me` from one of the agents
+-- rule: what may go in: a message to the agent `me` from one of the agents
 pub record IsFor (me agents : ℕ) (m : Message) : Type 0 where
   pub to_me : m.to ≡ me
   pub sender : IsAgent agents m.from
@@ -51,7 +51,7 @@ pub record IsFrom (me agents : ℕ) (m : Message) : Type 0 where
   pub from_me : m.from ≡ me
   pub receiver : IsAgent agents m.to
 
--- an action without variables, and messages of the agent `me`
+-- rule: what comes out: an action without variables, and messages of the agent `me`
 pub record AreOuts (me agents : ℕ) (outs : Outs) : Type 0 where
   pub action : IfSome outs.action (λ l. is_ground_literal l ≡ true)
   pub messages : All (IsFrom me agents) outs.messages

@@ -46,7 +46,7 @@ pub data IsRefusedPiece (piece : List Tok) (number : ℕ) : Option NextPiece →
 
 -- ---- all pieces
 
--- The first piece that is refused, or one that is missing.
+-- rule: the first piece that is refused, or one that is missing.
 pub data FirstRefused (ts : List Tok) : ProjectFault → Type 0 where
   refused : {f : ProjectFault} (before behind : List (List Tok)) (piece : List Tok) (meant : List PieceMeaning) (at : Option NextPiece)
       → pieces ts ≡ before ++ piece ∷ behind → ReadsAll (Some turn.Title) before meant at → IsRefusedPiece piece (length before + 1) at f → FirstRefused ts f

@@ -14,13 +14,13 @@ use Rattle.mas_project.specs.declared.piece.NextPiece.TheVariants as turn
 abbrev pub asl : List ℕ → List ℕ
 asl name = name ++ codes ".asl"
 
--- `stem.asl` or a string; without both the file is the agent's name with `.asl`
+-- rule: the file of an entry: `stem.asl` or a string; without both the agent's name with `.asl`
 pub data ReadsFile (name : List ℕ) : List ProjectLexeme → List ProjectLexeme → List ℕ → Type 0 where
   own_file : {us : List ProjectLexeme} → ReadsFile name us us (asl name)
   named_file : {stem : List ℕ} {us : List ProjectLexeme} → ReadsFile name (Atom stem ∷ Suffix ∷ us) us (asl stem)
   quoted_file : {file : List ℕ} {us : List ProjectLexeme} → ReadsFile name (Str file ∷ us) us file
 
--- `name file;` or `name file #n;` with n from 1
+-- rule: an entry: `name file;` or `name file #n;` with n from 1
 pub data ReadsEntry : List ProjectLexeme → AgentEntry → Type 0 where
   one_agent : {name file : List ℕ} {ts : List ProjectLexeme} → ReadsFile name ts (Semicolon ∷ []) file
       → ReadsEntry (Atom name ∷ ts) (record { name = name; file = file; count = None })
@@ -42,7 +42,7 @@ pub data ReadsEnvironment : List ProjectLexeme → List ProjectLexeme → List �
   by_atom : {name : List ℕ} {us : List ProjectLexeme} → ReadsEnvironment (Atom (codes "environment") ∷ Colon ∷ Atom name ∷ us) us (env name)
   by_var : {name : List ℕ} {us : List ProjectLexeme} → ReadsEnvironment (Atom (codes "environment") ∷ Colon ∷ Var name ∷ us) us (env name)
 
--- both in either order, each at most once
+-- rule: the options: both in either order, each at most once
 pub data ReadsOptions : List ProjectLexeme → List ProjectLexeme → Option (List ℕ) → Type 0 where
   no_option : {us : List ProjectLexeme} → ReadsOptions us us None
   infrastructure_alone : {us : List ProjectLexeme} → ReadsOptions (infrastructure us) us None
@@ -52,7 +52,7 @@ pub data ReadsOptions : List ProjectLexeme → List ProjectLexeme → Option (Li
 
 -- ---- the pieces
 
--- `MAS name {`, then the options and `agents:` with the first entry, then entries, then `}`
+-- rule: `MAS name {`, then the options and `agents:` with the first entry, then entries, then `}`
 pub data Reads : NextPiece → List ProjectLexeme → PieceMeaning → Type 0 where
   title : {name : List ℕ} → Reads turn.Title (Var (codes "MAS") ∷ Atom name ∷ OpenBrace ∷ []) (said.Title name)
   first_entry : {ts us : List ProjectLexeme} {world : Option (List ℕ)} {entry : AgentEntry} → ReadsOptions ts (Atom (codes "agents") ∷ Colon ∷ us) world
@@ -79,7 +79,7 @@ pub record GoesOn (at : NextPiece) (front : List ProjectLexeme) : Type 0 where
 abbrev pub Stuck : NextPiece → List ProjectLexeme → Type 0
 Stuck at front = GoesOn at front → ⊥
 
--- the first word with which no reading goes on
+-- rule: the first word with which no reading goes on
 pub record StopsAt (at : NextPiece) (ts : List ProjectLexeme) (word : ProjectLexeme) : Type 0 where
   pub front : List ProjectLexeme
   pub rest : List ProjectLexeme

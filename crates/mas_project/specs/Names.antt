@@ -20,7 +20,7 @@ names_of lines = flat_map names_in lines
 abbrev pub agents_of : List AgentLine → ℕ
 agents_of lines = length (names_of lines)
 
--- the first name that an earlier agent has, and its place, counted from 1
+-- rule: the first name that an earlier agent has, and its place, counted from 1
 pub record IsTwice (names : List (List ℕ)) (place : ℕ) (name : List ℕ) : Type 0 where
   pub before : List (List ℕ)
   pub behind : List (List ℕ)

@@ -37,6 +37,7 @@ added p (said.First world entry) = with_entry (record { name = p.name; world = w
 added p (said.Next entry) = with_entry p entry
 added p said.End = p
 
+-- rule: what the pieces say together, one after another
 abbrev pub all_added : ProjectText → List PieceMeaning → ProjectText
 all_added p [] = p
 all_added p (meant ∷ rest) = all_added (added p meant) rest
@@ -60,7 +61,7 @@ most_agents = 1024
 abbrev pub saturated : ℕ → ℕ
 saturated n = min n (2 ^ 64 - 1)
 
--- there are not too many, and no two have one name
+-- rule: there are not too many, and no two have one name
 pub record IsWithin (lines : List AgentLine) : Type 0 where
   pub few : agents_of lines ≤ most_agents
   pub distinct : IsDistinct bytes_eq (names_of lines)
@@ -72,7 +73,7 @@ pub data FailsTest (lines : List AgentLine) : ProjectFault → Type 0 where
 
 -- ---- the whole
 
--- the bytes are the file of this project
+-- rule: the bytes are the file of this project
 pub record IsProject (bytes : List ℕ) (p : ProjectText) : Type 0 where
   pub tokens : List Tok
   pub lexed : AreTokens bytes tokens
@@ -85,7 +86,7 @@ pub data IsRefused (bytes : List ℕ) : ProjectFault → Type 0 where
   of_piece : {f : ProjectFault} (ts : List Tok) → AreTokens bytes ts → FirstRefused ts f → IsRefused bytes f
   of_agents : {f : ProjectFault} (ts : List Tok) (p : ProjectText) → AreTokens bytes ts → SayProject (pieces ts) p → FailsTest p.agents f → IsRefused bytes f
 
--- why bytes are no file of a project
+-- rule: why bytes are no file of a project
 abbrev pub IsNone : List ℕ → ProjectFault → Type 0
 IsNone bytes = UnlessMemory (IsRefused bytes)
 

@@ -12,13 +12,13 @@ IsFrom low high n = (low ≤ n) × (n ≤ high)
 abbrev pub most_depth : ℕ
 most_depth = 10000
 
--- each number is one that its option permits
+-- rule: each number is one that its option permits
 pub record IsWithin (o : Options) : Type 0 where
   pub cycles : IsFrom 1 most_cycles o.cycles
   pub lead : IsFrom 1 1000 o.lead
   pub depth : IsFrom 1 most_depth o.depth
   pub tries : IsFrom 1 most_tries o.tries
 
--- the options of a run that names none
+-- rule: the options of a run that names none
 abbrev pub defaults : Options
 defaults = record { cycles = 1000; lead = 8; depth = 500; tries = 100000; level = Acts }

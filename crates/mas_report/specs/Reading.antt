@@ -41,7 +41,7 @@ pub record Tells (behind : List ℕ) (o : Options) (turns : List ℕ) : Type 0 w
 abbrev pub TellsNothing : List ℕ → Type 0
 TellsNothing behind = (o : Options) (turns : List ℕ) → Tells behind o turns → ⊥
 
--- the bytes tell this: the version in their first line, the options in their second, the turns in their last two
+-- rule: the bytes tell this: the version in their first line, the options in their second, the turns in their last two
 pub record Shows (bytes : List ℕ) (t : Told) : Type 0 where
   pub behind : List ℕ
   pub first : BeginsVersioned bytes t.version behind

@@ -121,7 +121,7 @@ abbrev pub front_text : {V : Type 0} → (V → List ℕ) → ℕ → Options �
 front_text lines_of version o board minds =
     first_line version ++ (options_line o ++ (agents_text lines_of board minds 1 (length board.seats) ++ (world_text board.world ++ mail_text board)))
 
--- the report, of this version, of the state to which the schedule has led
+-- rule: the report, of this version, of the state to which the schedule has led
 abbrev pub report_text : {V : Type 0} → (V → List ℕ) → ℕ → Options → State → List V → List ℕ → List ℕ
 report_text lines_of version o board minds schedule = front_text lines_of version o board minds ++ schedule_text version schedule
 
@@ -134,8 +134,8 @@ is_budget other = false
 abbrev pub is_spent : List AgentPlace → Bool
 is_spent seats = list_any (λ s. is_budget s.phase) seats
 
--- the text is the report, of this version, of the run from p along the numbers for which its own last line stands: every turn
--- of these is legal, and every agent has left at the end, some of them by `budget` or none
+-- rule: the text is the report, of this version, of the run from p along the numbers for which its own last line stands: every turn of
+-- these is legal, and every agent has left at the end, some of them by `budget` or none
 pub record IsReport {V : Type 0} (k : Kind V) (version : ℕ) (o : Options) (p : Platform V) (spent : Bool) (w : List ℕ) : Type 0 where
   pub done : Platform V
   pub ran : run k p (printed w) ≡ Some done
@@ -143,7 +143,7 @@ pub record IsReport {V : Type 0} (k : Kind V) (version : ℕ) (o : Options) (p :
   pub spent_is : is_spent done.board.seats ≡ spent
   pub is : w ≡ report_text k.lines version o done.board done.minds (printed w)
 
--- it is so, whatever the ends are
+-- rule: it is so, whatever the ends are
 pub record IsAnyReport {V : Type 0} (k : Kind V) (version : ℕ) (o : Options) (p : Platform V) (w : List ℕ) : Type 0 where
   pub spent : Bool
   pub report : IsReport k version o p spent w
@@ -154,7 +154,7 @@ pub record IsOwnRun {V : Type 0} (k : Kind V) (version : ℕ) (o : Options) (p :
   pub ran : RanAlong k p names board minds
   pub is : report_text k.lines version o board.state minds board.schedule ≡ bytes
 
--- the text is the report, of the version that is written, of the run from p along these numbers
+-- rule: the text is the report, of the version that is written, of the run from p along these numbers
 pub record IsRenewal {V : Type 0} (k : Kind V) (o : Options) (p : Platform V) (names w : List ℕ) : Type 0 where
   pub report : IsAnyReport k latest o p w
   pub along : printed w ≡ names

@@ -19,7 +19,7 @@ abbrev pub AreEntries : List ScheduleEntry → Type 0
 AreEntries [] = Unit {0}
 AreEntries (e ∷ es) = (IsAgent e.agent × IsCount e.times) × AreEntries es
 
--- the bytes are the line of how many numbers these are and a line of entries that stand for them, and nothing else
+-- rule: the bytes are the line of how many numbers these are and a line of entries that stand for them, and nothing else
 pub record IsSchedule (bytes names : List ℕ) : Type 0 where
   pub count : IsCount (length names)
   pub entries : List ScheduleEntry
@@ -42,7 +42,7 @@ pub record BeginsEntered (bytes : List ℕ) (n : ℕ) (entries : List ScheduleEn
 abbrev pub BeginsUnentered : List ℕ → ℕ → Type 0
 BeginsUnentered bytes n = (entries : List ScheduleEntry) (more : List ℕ) → BeginsEntered bytes n entries more → ⊥
 
--- The number of the first line that is not as it has to be.
+-- rule: the number of the first line that is not as it has to be.
 pub data IsBadLine (bytes : List ℕ) : ℕ → Type 0 where
   -- no line `schedule N` is at the front
   first : ((n : ℕ) (rest : List ℕ) → BeginsCounted bytes n rest → ⊥) → IsBadLine bytes 1

@@ -48,6 +48,7 @@ runs (n ∷ ns) = runs_on (once n) ns
 abbrev pub IsVersion : ℕ → Type 0
 IsVersion version = (version ≡ 1) ⊎ (version ≡ 2)
 
+-- rule: the entries of numbers: in version 1 one for each, later one for each maximal run
 abbrev pub entries_of : ℕ → List ℕ → List ScheduleEntry
 entries_of version names = if nat_eq version 1 then singles names else runs names
 
@@ -63,7 +64,7 @@ count_line n = codes "schedule " ++ (decimal n ++ line_feed)
 abbrev pub lines_text : ℕ → List ScheduleEntry → List ℕ
 lines_text n entries = count_line n ++ (entries_text entries ++ line_feed)
 
--- the two lines of these numbers
+-- rule: the two lines of these numbers
 abbrev pub schedule_text : ℕ → List ℕ → List ℕ
 schedule_text version names = lines_text (length names) (entries_of version names)
 
@@ -91,7 +92,7 @@ abbrev pub entries_told : List ℕ → List ScheduleEntry
 entries_told [] = []
 entries_told (b ∷ bs) = map entry_told (slice_split is_space (b ∷ bs))
 
--- the numbers for which the entries in the last line of a text stand
+-- rule: the numbers for which the entries in the last line of a text stand
 abbrev pub printed : List ℕ → List ℕ
 printed text = spread (entries_told (last_line [] [] text))
 

@@ -38,15 +38,15 @@ effects s (l ∷ more) = option_and_then (λ x. option_map (λ xs. x ∷ xs) (ef
 abbrev pub deed : Act → List Pair → Option Deed
 deed a s = option_and_then (λ dels. option_map (λ adds. record { dels = dels; adds = adds; drops = a.drops }) (effects s a.adds)) (effects s a.dels)
 
--- the first solution decides: where one of its effects comes to nothing the act does not act
+-- rule: the first solution of the guard decides: where one of its effects comes to nothing the act does not act
 abbrev pub tried : List (LiteralOf Term) → Act → List ℕ → LiteralOf Term → Option Deed
 tried facts a agent action = option_and_then (λ s. option_and_then (deed a) (first_of (solutions facts a.guard s))) (entered a agent action)
 
--- the first act that acts decides
+-- rule: the first act that acts decides
 abbrev pub decided : List (LiteralOf Term) → List Act → List ℕ → LiteralOf Term → Option Deed
 decided facts [] agent action = None
 decided facts (a ∷ acts) agent action = option_or (tried facts a agent action) (decided facts acts agent action)
 
--- what a deed does to facts: what is taken away goes first, then what is not there yet goes last
+-- rule: what a deed does to facts: what is taken away goes first, then what is not there yet goes last
 abbrev pub done : Deed → List (LiteralOf Term) → List (LiteralOf Term)
 done d facts = without d.dels facts ++ news (without d.dels facts) d.adds

@@ -45,7 +45,7 @@ pub record ArePlain (ls : List (LiteralOf Term)) : Type 0 where
   pub ground : are_ground ls ≡ true
   pub settled : list_all is_settled_literal ls ≡ true
 
--- and no two of which are the same
+-- rule: and no two of which are the same
 pub record AreFacts (facts : List (LiteralOf Term)) : Type 0 where
   pub grounded : are_ground facts ≡ true
   pub settled : list_all is_settled_literal facts ≡ true

@@ -57,7 +57,7 @@ part_solutions facts s (layer.Not e) = refuted facts s (out-Expr e)
 part_solutions facts s (layer.Rel r) = if_holds (holds r s)
 part_solutions facts s other = []
 
--- the first part varies slowest
+-- rule: the solutions of a guard, part by part from the left: the first part varies slowest
 abbrev pub solutions : List (LiteralOf Term) → List Expr → List Pair → List (List Pair)
 solutions facts [] s = s ∷ []
 solutions facts (p ∷ more) s = flat_map (solutions facts more) (part_solutions facts s (out-Expr p))

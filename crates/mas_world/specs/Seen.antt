@@ -50,6 +50,6 @@ shown_to agent l (Some p) = if bytes_eq p.agent agent then p.fact ∷ [] else []
 abbrev pub shown : List (List ℕ) → List ℕ → LiteralOf Term → List (LiteralOf Term)
 shown hidden agent l = if list_any (bytes_eq l.functor) hidden then [] else shown_to agent l (private_fact l)
 
--- all facts as the agent sees them, each once, at its first place
+-- rule: what an agent sees: all facts as the agent sees them, each once, at its first place
 abbrev pub seen : World → List ℕ → List (LiteralOf Term)
 seen w agent = news [] (flat_map (shown w.hidden agent) (facts w))

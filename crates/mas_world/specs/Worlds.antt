@@ -46,7 +46,7 @@ is_named name u = bytes_eq u.name name
 abbrev pub without_artifact : List ℕ → List Used → List Used
 without_artifact name = filter (λ u. not (is_named name u))
 
--- but those of these names
+-- rule: the artifacts that are left of those that an act drops: all but those of these names
 abbrev pub dropped : List (List ℕ) → List Used → List Used
 dropped [] us = us
 dropped (name ∷ more) us = dropped more (without_artifact name us)
@@ -54,7 +54,7 @@ dropped (name ∷ more) us = dropped more (without_artifact name us)
 abbrev pub is_used : World → List ℕ → Bool
 is_used w name = list_any (is_named name) w.used
 
--- the world without the artifact of this name, and its facts
+-- rule: the world without the artifact of this name, and its facts
 abbrev pub disposed : World → List ℕ → World
 disposed w name = world w.file w.hidden (without_artifact name w.used)
 
@@ -90,7 +90,7 @@ abbrev pub or_used : World → Option Deed → Feedback × List Used → Feedbac
 or_used w (Some d) later = (Done, world (segment w.file.acts (done d w.file.facts)) w.hidden (dropped d.drops w.used))
 or_used w None later = (later.0, world w.file w.hidden later.1)
 
--- the file's segment first, then each artifact's in order
+-- rule: an action goes to the file's segment first, then to each artifact's in order
 abbrev pub acted : World → List ℕ → LiteralOf Term → Feedback × World
 acted w agent action = or_used w (decided w.file.facts w.file.acts agent action) (used_acted w.used agent action)
 
@@ -99,7 +99,7 @@ acted w agent action = or_used w (decided w.file.facts w.file.acts agent action)
 abbrev pub used_facts : List Used → List (LiteralOf Term)
 used_facts = flat_map (λ u. u.segment.facts)
 
--- those of all segments in order
+-- rule: those of all segments in order
 abbrev pub facts : World → List (LiteralOf Term)
 facts w = w.file.facts ++ used_facts w.used
 
@@ -122,6 +122,6 @@ taken names all = flat_map (λ name. option_to_list (named all name)) names
 abbrev pub AreNamed : List (List ℕ) → List Used → Type 0
 AreNamed names all = AllByRecursion (λ name. IsSome (named all name)) names
 
--- the world of a text, with those artifacts that it uses
+-- rule: the world of a text, with those artifacts that it uses
 abbrev pub opened : WorldText → List Used → World
 opened text all = world (segment text.acts text.facts) text.hidden (taken text.uses all)
