@@ -2,7 +2,7 @@
 
 ghost use Rattle.std.specs.Prelude.{◌≡◌, IfOk};
 
-use asl_term::names::{Names, number};
+use asl_term::names::{Names, copy_names};
 use asl_term::sequence::Starved;
 use std::alloc::Global;
 use std::marker::Model;
@@ -32,26 +32,12 @@ impl Model for SharedNames {
     ghost view = { λ s. arc_value s.names };
 }
 
-/// Equal names, in order.
-#[tactic(auto, using(crate::proofs::Naming::next_name, crate::proofs::Naming::no_gap))]
-fn copied(alloc: Global, names: &Names) -> Result<Names, Starved>
-    ensures { IfOk result (λ r. r ≡ names.now) }
-{
-    let mut r = Names::new(alloc)?;
-    for k in 0..names.len() {
-        if let Some(name) = names.at(k + 1) {
-            number(&mut r, name)?;
-        }
-    }
-    Ok(r)
-}
-
 impl SharedNames {
     /// Equal names, to be shared.
     pub fn copy_of(alloc: Global, names: &Names) -> Result<SharedNames, Starved>
         ensures { IfOk result (λ s. s ≡ names.now) }
     {
-        let names = copied(alloc, names)?;
+        let names = copy_names(alloc, names)?;
         match Arc::new(alloc, names) {
             Ok(names) => Ok(SharedNames { names }),
             Err(_) => Err(Starved),

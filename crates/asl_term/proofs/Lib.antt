@@ -3,6 +3,7 @@ pub mod Exprs
 pub mod Same
 pub mod Grounds
 pub mod Places
+pub mod Naming
 pub mod Args
 pub mod Noted
 pub mod Sends

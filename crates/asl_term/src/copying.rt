@@ -7,7 +7,7 @@ use crate::name::copy_name;
 use crate::sequence::{Seq, Starved};
 use crate::syntax::{
     Arg, ArgOf, Args, ArithOf, Call, CallOf, Expr, Formula, Formulas, ListingOf, Literal,
-    LiteralOf, Plan, Relation, Term, Terms, Text, Trigger, Var,
+    LiteralOf, Literals, Plan, Relation, Term, Terms, Text, Trigger, Var,
 };
 use std::alloc::Global;
 
@@ -109,6 +109,17 @@ pub fn copy_literal(alloc: Global, l: &Literal) -> Result<Literal, Starved>
         args,
         annots,
     })
+}
+
+/// Equal literals, in order.
+pub fn copy_literals(alloc: Global, literals: &[Literal]) -> Result<Literals, Starved>
+    ensures { IfOk result (λ r. r ≡ literals.now) }
+{
+    let mut r = Seq::new(alloc);
+    for l in literals {
+        r.push(copy_literal(alloc, l)?)?;
+    }
+    Ok(r)
 }
 
 /// An equal relation.

@@ -2,22 +2,12 @@
 
 ghost use Rattle.std.specs.Prelude.{◌≡◌, IfOk};
 
-use asl_term::copying::{copy, copy_expr, copy_literal};
+use asl_term::copying::{copy, copy_expr, copy_literal, copy_literals};
+use asl_term::names::copy_names;
 use asl_term::sequence::{Seq, Starved};
-use asl_term::syntax::{Expr, Exprs, Literal, Literals};
-use mas_explore_runs::names::copy_names;
+use asl_term::syntax::{Expr, Exprs};
 use mas_world::acts::{Act, Acts, WorldText};
 use std::alloc::Global;
-
-fn copy_literals(alloc: Global, literals: &[Literal]) -> Result<Literals, Starved>
-    ensures { IfOk result (λ r. r ≡ literals.now) }
-{
-    let mut r = Seq::new(alloc);
-    for l in literals {
-        r.push(copy_literal(alloc, l)?)?;
-    }
-    Ok(r)
-}
 
 fn copy_exprs(alloc: Global, exprs: &[Expr]) -> Result<Exprs, Starved>
     ensures { IfOk result (λ r. r ≡ exprs.now) }

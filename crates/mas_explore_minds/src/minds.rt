@@ -5,9 +5,10 @@ ghost use Rattle.mas_mind.specs.Minds as kinds;
 ghost use Rattle.mas_explore_minds.specs.declared.heard.Heard.TheVariants.{Told};
 ghost use Rattle.mas_explore_minds.specs.Minds as spec;
 
-use crate::copies::{copy_first, copy_literals};
+use crate::copies::copy_first;
 use crate::fresh::Fresh;
 use crate::heard::{Cycle, Heard, Thinking};
+use asl_term::copying::copy_literals;
 use asl_term::sequence::{Seq, Starved};
 use asl_term::syntax::Literals;
 use mas_explore_tables::answers::Answered;

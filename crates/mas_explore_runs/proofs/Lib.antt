@@ -1,4 +1,3 @@
-pub mod Naming
 pub mod Sections
 pub mod Starts
 pub mod Along

@@ -5,7 +5,6 @@
 //! Must not: know of AgentSpeak, search, start a thread, wait, read or write a file.
 #![tactic(auto)]
 
-pub mod names;
 pub mod opening;
 pub mod outcome;
 pub mod runs;

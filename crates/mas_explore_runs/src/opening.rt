@@ -4,7 +4,7 @@ ghost use Rattle.std.specs.Prelude.{◌≡◌, [], false, true, length, IfOk};
 ghost use Rattle.mas_board.specs.Boards.{opening};
 ghost use Rattle.mas_board.specs.Seating.{AreLimits};
 
-use crate::names::copy_names;
+use asl_term::names::copy_names;
 use asl_term::sequence::{Seq, Starved};
 use mas_board::board::{Board, open_board};
 use mas_explore::origin::Origin;

@@ -6,10 +6,10 @@ ghost use Rattle.mas_explore_space.specs.Rows as spec;
 
 use crate::held::Held;
 use asl_term::sequence::{Seq, Starved};
-use mas_explore_minds::copies::{copy_message, copy_messages};
 use mas_explore_minds::fresh::Fresh;
 use mas_explore_minds::minds::{Minds, number_box};
 use mas_explore_worlds::fresh::FreshWorld;
+use mas_mind::copying::{copy_message, copy_messages};
 use mas_mind::mind::{Message, Messages};
 use mas_mind::thinking::Mind;
 use mas_world::artifact::Artifact;

@@ -2,9 +2,10 @@
 //!
 //! May stand on: asl_term
 //!
-//! Must not: know how a mind thinks, take memory of its own, start a thread, wait.
+//! Must not: know how a mind thinks, start a thread, wait.
 #![tactic(auto)]
 
+pub mod copying;
 pub mod limits;
 pub mod mind;
 pub mod thinking;

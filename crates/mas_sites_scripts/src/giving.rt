@@ -9,10 +9,10 @@ ghost use Rattle.mas_sites_scripts.specs.Giving as spec;
 
 use crate::carrier::Carrier;
 use asl_term::sequence::{Seq, Starved};
+use mas_mind::copying::copy_message;
 use mas_mind::mind::Message;
 use mas_mind::thinking::Mind;
 use mas_sites_stand::seated::Seated;
-use mas_sites_stand::stand::copy_message;
 use std::alloc::Global;
 
 /// What a stand sends, cycle by cycle.

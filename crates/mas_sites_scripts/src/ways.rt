@@ -6,8 +6,8 @@ ghost use Rattle.mas_sites_scripts.specs.Ways as spec;
 
 use crate::carrier::Carrier;
 use asl_term::sequence::{Seq, Starved};
+use mas_mind::copying::copy_message;
 use mas_mind::mind::{Message, Messages};
-use mas_sites_stand::stand::copy_message;
 use std::alloc::Global;
 use std::marker::Model;
 

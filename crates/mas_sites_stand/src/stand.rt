@@ -5,7 +5,6 @@ ghost use Rattle.std.specs.Option.{option_to_list};
 ghost use Rattle.mas_mind.specs.Minds.{IsAgent};
 ghost use Rattle.mas_sites_stand.specs.Stands as spec;
 
-use asl_term::copying::copy;
 use asl_term::names::Names;
 use asl_term::printing::{print, write_number};
 use asl_term::sequence::{Seq, Starved};
@@ -52,20 +51,6 @@ impl Model for Stand {
     ghost view = { λ s. record { me = s.me; names = s.names; made = s.made; lines = s.lines; script = s.script; taken = s.taken } };
 
     ghost invariant = { λ s. IsStand (record { me = s.me; names = s.names; made = s.made; lines = s.lines; script = s.script; taken = s.taken }) };
-}
-
-/// An equal message.
-pub fn copy_message(alloc: Global, m: &Message) -> Result<Message, Starved>
-    ensures { IfOk result (λ r. r ≡ m.now) }
-{
-    Ok(Message {
-        from: m.from,
-        to: m.to,
-        verb: m.verb,
-        content: copy(alloc, &m.content)?,
-        ask: m.ask,
-        reply: m.reply,
-    })
 }
 
 /// Appends the name of an agent.

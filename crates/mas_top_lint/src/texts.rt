@@ -7,24 +7,13 @@ ghost use Rattle.mas_top_lint.specs.Linting as spec;
 use asl_beliefs::clauses::copy_clauses;
 use asl_cycle::opening::copy_plans;
 use asl_lint::lint::{AgentTexts, Verdict};
-use asl_term::copying::{copy_literal, text_of};
+use asl_term::copying::{copy_literals, text_of};
 use asl_term::names::Names;
 use asl_term::printing::write_number;
 use asl_term::sequence::{Seq, Starved};
-use asl_term::syntax::{AgentText, Literal, Literals, Text};
+use asl_term::syntax::{AgentText, Text};
 use mas_top_files::sources::Role;
 use std::alloc::Global;
-
-/// Equal literals, in order.
-fn copy_literals(alloc: Global, literals: &[Literal]) -> Result<Literals, Starved>
-    ensures { IfOk result (λ r. r ≡ literals.now) }
-{
-    let mut r = Seq::new(alloc);
-    for l in literals {
-        r.push(copy_literal(alloc, l)?)?;
-    }
-    Ok(r)
-}
 
 /// An equal source.
 fn copy_source(alloc: Global, text: &AgentText) -> Result<AgentText, Starved>

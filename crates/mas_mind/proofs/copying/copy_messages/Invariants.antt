@@ -1,5 +1,5 @@
 use Rattle.std.proofs.Common.{◌≡◌, take}
-use Rattle.mas_explore_minds.proofs.copies.copy_messages.Given as goal
+use Rattle.mas_mind.proofs.copying.copy_messages.Given as goal
 
 abbrev pub invariant-loop-m : goal.invariant-loop-m
 invariant-loop-m l = l.r ≡ take l.m-index l.messages
