@@ -1,6 +1,6 @@
 //! A program that draws the report of a run: it reads the report from standard input and writes a picture, an SVG, or a page to standard output.
 //!
-//! May stand on: chart
+//! May stand on: chart, program_words
 //!
 //! Must not: open a file, start a thread, run an agent, stand on a crate of the platform.
 #![tactic(auto)]
@@ -8,21 +8,13 @@
 use chart_page::answer::answer;
 use chart_page::choice::{Choice, asked_of, names_of};
 use chart_page::faults::{Fault, code};
+use program_words::words::words_of;
+use std::io;
 use std::process::ExitCode;
-use std::{env, io};
 
 const USAGE: &str =
     "usage: chart [--all] [--page] [--agents NAME,NAME,..] [--turns FROM..TO] <REPORT";
 const VERSION: &str = "chart 1.0.0";
-
-/// The words of the command line without the program's own name.
-fn words_of(rt: &HostRuntime) -> io::Result<Vec<String>> {
-    let mut words = Vec::new(rt.alloc());
-    for word in env::args(rt)?.skip(1) {
-        words.push(word)?;
-    }
-    Ok(words)
-}
 
 /// What is written where `--help` or `--version` is the only word.
 fn told_of(words: &[String]) -> Option<&'static str> {

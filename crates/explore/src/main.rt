@@ -1,7 +1,7 @@
 //! The program `explore`: `main` makes the real shelf and sink, the kinds of artifacts and a watch over the search, calls `explore_words`, writes the line of
 //! the fault and ends with the status.
 //!
-//! May stand on: asl_term, mas_world, mas_artifact, mas_io, mas_explore_files, mas_explore_top
+//! May stand on: asl_term, mas_world, mas_artifact, mas_io, mas_explore_files, mas_explore_top, program_words
 //!
 //! Must not: take the words apart, decide what is told.
 #![tactic(auto)]
@@ -14,11 +14,13 @@ use mas_explore_top::ends::{ExploreEnd, end_code, end_line, starved};
 use mas_explore_top::top::explore_words;
 use mas_explore_top::watching::{Progress, Watch};
 use mas_io::real::{FileShelf, OutSink};
+use program_words::fault;
+use program_words::words::{is_want, words_of};
 use std::alloc::Global;
+use std::io;
 use std::process::ExitCode;
 use std::rt::Clock;
 use std::time::Instant;
-use std::{env, io};
 
 /// The artifacts of the program.
 #[derive(Clone, Copy, Drop)]
@@ -72,15 +74,6 @@ impl<'a, R: Clock + Eprint> Watch for Ticks<'a, R> {
     }
 }
 
-/// The words of the command line without the program's own name.
-fn words_of(rt: &HostRuntime) -> io::Result<Vec<String>> {
-    let mut words = Vec::new(rt.alloc());
-    for word in env::args(rt)?.skip(1) {
-        words.push(word)?;
-    }
-    Ok(words)
-}
-
 fn run(rt: &HostRuntime, words: &[String]) -> ExploreEnd {
     let mut shelf = FileShelf::new(rt);
     let mut sink = OutSink::new(rt);
@@ -95,15 +88,13 @@ fn run(rt: &HostRuntime, words: &[String]) -> ExploreEnd {
 /// Writes the line of an end to standard error, where there is memory for it.
 fn tell(rt: &HostRuntime, end: &ExploreEnd) {
     if let Ok(line) = end_line(rt.alloc(), end) {
-        if let Ok(text) = std::str::from_utf8(line.as_slice()) {
-            let _ = eprint!(rt; "{text}");
-        }
+        fault::tell(rt, line.as_slice());
     }
 }
 
 /// The end where the words could not be had: a word that is no text is a faulty command line.
 fn without_words(error: &io::Error) -> ExploreEnd {
-    if error.kind() == io::ErrorKind::OutOfMemory {
+    if is_want(error) {
         starved()
     } else {
         ExploreEnd::Usage

@@ -1,7 +1,7 @@
 //! The program `jasonlook`: `main` makes the real shelf and sink and the artifacts, reads standard input where the words ask for it, calls `look_words`,
 //! writes the line of the fault and ends with the code.
 //!
-//! May stand on: asl_term, mas_world, mas_artifact, mas_io, look
+//! May stand on: asl_term, mas_world, mas_artifact, mas_io, look, program_words
 //!
 //! Must not: take the words apart, decide what is told.
 #![tactic(auto)]
@@ -13,18 +13,11 @@ use look_top::reports::MOST_INPUT_BYTES;
 use look_top::top::look_words;
 use mas_artifact::opening::all_kinds;
 use mas_io::real::{FileShelf, OutSink};
+use program_words::fault;
+use program_words::words::{is_want, words_of};
+use std::io;
 use std::io::Read;
 use std::process::ExitCode;
-use std::{env, io};
-
-/// The words of the command line without the program's own name.
-fn words_of(rt: &HostRuntime) -> io::Result<Vec<String>> {
-    let mut words = Vec::new(rt.alloc());
-    for word in env::args(rt)?.skip(1) {
-        words.push(word)?;
-    }
-    Ok(words)
-}
 
 /// What standard input has, as far as a report may go, and a byte more, by which what is longer is known.
 fn input_bytes(rt: &HostRuntime) -> io::Result<Vec<u8>> {
@@ -33,10 +26,6 @@ fn input_bytes(rt: &HostRuntime) -> io::Result<Vec<u8>> {
         .take(MOST_INPUT_BYTES + 1)
         .read_to_end(&mut bytes)?;
     Ok(bytes)
-}
-
-fn is_want(error: &io::Error) -> bool {
-    error.kind() == io::ErrorKind::OutOfMemory
 }
 
 /// The end where the words could not be had: a word that is no text is a faulty command line.
@@ -77,9 +66,7 @@ fn run(rt: &HostRuntime, words: &[String], input: Option<&[u8]>) -> Result<LookE
 /// Writes the line of an end to standard error, where there is memory for it.
 fn tell(rt: &HostRuntime, end: &LookEnd) {
     if let Ok(line) = end_line(rt.alloc(), end) {
-        if let Ok(text) = std::str::from_utf8(line.as_slice()) {
-            let _ = eprint!(rt; "{text}");
-        }
+        fault::tell(rt, line.as_slice());
     }
 }
 

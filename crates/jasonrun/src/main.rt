@@ -1,6 +1,6 @@
 //! The program: `main` makes the real shelf, sink and disk and the artifacts, calls `run_words`, writes the fault line and ends with the code.
 //!
-//! May stand on: asl_term, mas_world, mas_artifact, mas_pool, mas_io, mas_record, mas_top
+//! May stand on: asl_term, mas_world, mas_artifact, mas_pool, mas_io, mas_record, mas_top, program_words
 //!
 //! Must not: take the words apart, decide a rule of the language, start a thread of its own.
 #![tactic(auto)]
@@ -16,24 +16,17 @@ use mas_record_files::real::FileDisk;
 use mas_top::top::run_words;
 use mas_top_status::status::{Status, code, fault_line};
 use mas_world::artifact::Artifact;
+use program_words::fault;
+use program_words::words::{is_want, words_of};
 use std::process::ExitCode;
 use std::rt::Files;
 use std::sync::Wait;
 use std::thread::Threads;
-use std::{env, fs, io};
-
-/// The words of the command line without the program's own name.
-fn words_of(rt: &HostRuntime) -> io::Result<Vec<String>> {
-    let mut words = Vec::new(rt.alloc());
-    for word in env::args(rt)?.skip(1) {
-        words.push(word)?;
-    }
-    Ok(words)
-}
+use std::{fs, io};
 
 /// The status of words that could not be had: a word that is no text is a faulty command line.
 fn unread(error: &io::Error) -> Status {
-    if error.kind() == io::ErrorKind::OutOfMemory {
+    if is_want(error) {
         Status::Memory
     } else {
         Status::Usage
@@ -43,9 +36,7 @@ fn unread(error: &io::Error) -> Status {
 /// Writes the line of a status to standard error, where there is memory for it.
 fn tell(rt: &HostRuntime, status: &Status) {
     if let Ok(line) = fault_line(rt.alloc(), status) {
-        if let Ok(text) = std::str::from_utf8(line.as_slice()) {
-            let _ = eprint!(rt; "{text}");
-        }
+        fault::tell(rt, line.as_slice());
     }
 }
 

@@ -2,5 +2,4 @@ pub mod Caused
 pub mod Inputs
 pub mod Outputs
 pub mod Claps
-pub mod Texts
 pub mod Numerals

@@ -14,6 +14,7 @@ use Rattle.look_top.specs.declared.words.LookAsked.TheVariants as code_variant
 use Rattle.look_top.specs.declared.words.MindWords as code_mind
 use Rattle.look_top.specs.declared.words.DropsWords as code_drops
 use Rattle.look_top.specs.Apps.{app_for}
+use Rattle.program_words.specs.Texts.{is_set}
 
 -- what the agent of this name has in mind after so many turns of the run of a project and its report; without a number after all turns
 pub record Minding : Type 0 where
@@ -65,10 +66,6 @@ page_with _ _ = None
 abbrev pub drops_with : Option (List ℕ) → Option (List ℕ) → Bool → Option Asked
 drops_with (Some project) (Some report) unhandled = Some (drops (record { project = project; report = report; unhandled = unhandled }))
 drops_with _ _ _ = None
-
-abbrev pub is_set : Option (List ℕ) → Bool
-is_set None = false
-is_set (Some text) = bytes_eq text (codes "true")
 
 abbrev pub messages_among : List Row → Option Asked
 messages_among rows = option_map (λ report. messages report (is_set (first_of (codes "csv") rows))) (first_of (codes "report") rows)

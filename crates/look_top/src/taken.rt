@@ -13,6 +13,7 @@ use crate::words::{DropsWords, LookAsked, LookVerb, MindWords, PageWords};
 use asl_term::sequence::Starved;
 use clap::ArgMatches;
 use clap::error::ErrorKind;
+use program_words::texts::{is_set, text_of};
 use std::alloc::Global;
 
 /// The words behind a command, taken apart; None where it does not take them.
@@ -33,29 +34,8 @@ fn matches_of<'a>(
     }
 }
 
-/// The text of an argument.
-#[tactic(auto, using(crate::proofs::Texts::first_text))]
-fn text_of<'a>(matches: &ArgMatches<'a>, id: &str) -> Option<&'a [u8]>
-    ensures { option_map (λ t. t.now) result ≡ first_of id.now (rows_of (found_of matches.now)) }
-{
-    match matches.get_str(id) {
-        Some(text) => Some(text.as_bytes()),
-        None => None,
-    }
-}
-
-/// Whether a flag is set.
-fn is_set(given: Option<&[u8]>) -> bool
-    ensures { result ≡ spec.is_set (option_map (λ t. t.now) given.entry) }
-{
-    match given {
-        None => false,
-        Some(text) => text == b"true".as_slice(),
-    }
-}
-
 /// The turn that is given; None where there is none, or its text is not permitted.
-#[tactic(auto, using(crate::proofs::Texts::first_text))]
+#[tactic(auto, using(program_words::proofs::First::first_text))]
 fn turn_of(matches: &ArgMatches<'_>) -> Option<Option<u64>>
     ensures { result ≡ option_and_then spec.turn_in (first_of (codes "turn") (rows_of (found_of matches.now))) }
 {

@@ -14,7 +14,8 @@ use Rattle.mas_explore_listing.specs.declared.answers.Question.{Question}
 use Rattle.mas_explore_top.specs.declared.detail.Detail.{Detail}
 use Rattle.mas_explore_top.specs.declared.words.ExploreWords as code
 use Rattle.mas_explore_top.specs.Apps.{explore_app}
-use Rattle.mas_explore_top.specs.Asked.{Exploring, IsPermitted, is_alone, is_set, detail_for, claimed_for, exploring_with, exploring_among, exploring, exploring_of}
+use Rattle.mas_explore_top.specs.Asked.{Exploring, IsPermitted, is_alone, detail_for, claimed_for, exploring_with, exploring_among, exploring, exploring_of}
+use Rattle.program_words.specs.Texts.{is_set}
 
 -- ---- a word alone
 

@@ -4,4 +4,3 @@ pub mod Claps
 pub mod Explored
 pub mod Options
 pub mod Started
-pub mod Texts

@@ -20,6 +20,7 @@ use Rattle.mas_explore_top.specs.declared.words.ExploreWords as code_words
 use Rattle.mas_explore_top.specs.declared.words.ExploreAsked as code
 use Rattle.mas_explore_top.specs.declared.words.ExploreAsked.TheVariants as code_variant
 use Rattle.mas_explore_top.specs.Apps.{explore_app}
+use Rattle.program_words.specs.Texts.{is_set}
 
 -- the outcomes of all runs of a project: what they show, the limits of each search of an agent, how many states are followed at most, and what is claimed
 pub record Exploring : Type 0 where
@@ -75,10 +76,6 @@ claimed_for None None = Some None
 claimed_for None (Some text) = claimed_in Always text
 claimed_for (Some text) None = claimed_in Never text
 claimed_for (Some text) (Some other) = None
-
-abbrev pub is_set : Option (List ℕ) → Bool
-is_set None = false
-is_set (Some text) = bytes_eq text (codes "true")
 
 -- ---- what they ask for together
 

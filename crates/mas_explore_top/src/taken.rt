@@ -4,12 +4,12 @@ ghost use Rattle.std.specs.Prelude.{◌≡◌, ◌||◌, map, string_bytes, opti
 ghost use Rattle.std.specs.Str.{bytes_eq};
 ghost use Rattle.clap.specs.Matches.{found_of};
 ghost use Rattle.clap.specs.Simple.{app_of};
-ghost use Rattle.clap.specs.Walk.{first_of, rows_of};
+ghost use Rattle.clap.specs.Walk.{rows_of};
 ghost use Rattle.mas_explore_top.specs.Apps as apps;
 ghost use Rattle.mas_explore_top.specs.Asked as spec;
 
 use crate::app::explore_app;
-use crate::values::{claimed_for, detail_for, is_set, number_for};
+use crate::values::{claimed_for, detail_for};
 use crate::words::{ExploreAsked, ExploreWords};
 use asl_term::sequence::Starved;
 use clap::error::ErrorKind;
@@ -17,18 +17,9 @@ use clap::{ArgMatches, Command};
 use mas_explore::space::MOST_STATES;
 use mas_mind::limits::MOST_TRIES;
 use mas_report::options::{MOST_DEPTH, default_options};
+use mas_top_words::values::number_for;
+use program_words::texts::{is_set, text_of};
 use std::alloc::Global;
-
-/// The text of an argument.
-#[tactic(auto, using(crate::proofs::Texts::first_text))]
-fn text_of<'a>(matches: &ArgMatches<'a>, id: &str) -> Option<&'a [u8]>
-    ensures { option_map (λ t. t.now) result ≡ first_of id.now (rows_of (found_of matches.now)) }
-{
-    match matches.get_str(id) {
-        Some(text) => Some(text.as_bytes()),
-        None => None,
-    }
-}
 
 /// What the arguments ask for.
 fn exploring_among<'a>(matches: &ArgMatches<'a>) -> Option<ExploreWords<'a>>

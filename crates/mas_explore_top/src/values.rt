@@ -1,24 +1,11 @@
 //! What the texts of options say.
 
-ghost use Rattle.std.specs.Prelude.{◌≡◌, ◌≤◌, option_map};
-ghost use Rattle.mas_top_words.specs.Asked.{number_for};
+ghost use Rattle.std.specs.Prelude.{◌≡◌, option_map};
 ghost use Rattle.mas_explore_top.specs.Asked as spec;
 
 use crate::detail::Detail;
 use crate::words::Claimed;
 use mas_explore_listing::answers::Claim;
-use mas_top_words::numbers::number_in;
-
-/// The number that is given, from `low` to `high`, or the usual one where none is.
-pub fn number_for(usual: u64, low: u64, high: u64, given: Option<&[u8]>) -> Option<u64>
-    requires small { high ≤ 100000000 }
-    ensures { result ≡ number_for usual low high (option_map (λ t. t.now) given.entry) }
-{
-    match given {
-        None => Some(usual),
-        Some(text) => number_in(low, high, text),
-    }
-}
 
 fn detail_of(text: &[u8]) -> Option<Detail>
     ensures { result ≡ spec.detail_of text.now }
@@ -80,15 +67,5 @@ pub fn claimed_for<'a>(
             None => claimed_in(Claim::Never, line),
             Some(_) => None,
         },
-    }
-}
-
-/// Whether a flag is set.
-pub fn is_set(given: Option<&[u8]>) -> bool
-    ensures { result ≡ spec.is_set (option_map (λ t. t.now) given.entry) }
-{
-    match given {
-        None => false,
-        Some(text) => text == b"true".as_slice(),
     }
 }

@@ -12,5 +12,4 @@ pub mod Passes
 pub mod Walks
 pub mod Goes
 pub mod Apart
-pub mod Texts
 pub mod Taking

@@ -1,6 +1,6 @@
 //! The request that the words of a command line make: command, names and options. The kit's `clap` takes plain words apart.
 //!
-//! May stand on: asl_term, mas_mind, mas_report, the kit's `clap`
+//! May stand on: asl_term, mas_mind, mas_report, program_words, the kit's `clap`
 //!
 //! Must not: open a file, print, run an agent, start a thread.
 #![tactic(auto)]

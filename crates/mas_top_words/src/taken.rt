@@ -4,7 +4,7 @@ ghost use Rattle.std.specs.Prelude.{◌≡◌, true, is_some, None, map, string_
 ghost use Rattle.clap.specs.Matches.{found_of};
 ghost use Rattle.clap.specs.Simple.{app_of, matches_of};
 ghost use Rattle.clap.specs.Takes.{takes};
-ghost use Rattle.clap.specs.Walk.{first_of, rows_of};
+ghost use Rattle.clap.specs.Walk.{rows_of};
 ghost use Rattle.mas_top_words.specs.Apps as apps;
 ghost use Rattle.mas_top_words.specs.Asked.{IsPermitted, asked_of};
 ghost use Rattle.mas_top_words.specs.Plain.{AreRead, AskOnlyFor, AskForNothing};
@@ -21,6 +21,7 @@ use crate::values::asked_by;
 use asl_term::sequence::Starved;
 use clap::error::ErrorKind;
 use clap::{ArgMatches, Command as App};
+use program_words::texts::text_of;
 use std::alloc::Global;
 
 /// The words that a command takes, taken apart. Want of memory is the only refusal.
@@ -39,17 +40,6 @@ fn matches_by<'a>(
             ErrorKind::OutOfMemory => Err(Starved),
             _ => unreachable!(),
         },
-    }
-}
-
-/// The text of an argument.
-#[tactic(auto, using(crate::proofs::Texts::first_text))]
-fn text_of<'a>(matches: &ArgMatches<'a>, id: &str) -> Option<&'a [u8]>
-    ensures { option_map (λ t. t.now) result ≡ first_of id.now (rows_of (found_of matches.now)) }
-{
-    match matches.get_str(id) {
-        Some(text) => Some(text.as_bytes()),
-        None => None,
     }
 }
 

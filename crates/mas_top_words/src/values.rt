@@ -15,7 +15,7 @@ use mas_mind::mind::Level;
 use mas_report::options::{MOST_DEPTH, Options, default_options};
 
 /// The number that is given, from `low` to `high`, or the usual one where none is.
-fn number_for(usual: u64, low: u64, high: u64, given: Option<&[u8]>) -> Option<u64>
+pub fn number_for(usual: u64, low: u64, high: u64, given: Option<&[u8]>) -> Option<u64>
     requires small { high ≤ 100000000 }
     ensures { result ≡ spec.number_for usual low high (option_map (λ t. t.now) given.entry) }
 {

@@ -1,9 +1,0 @@
--- The text of an argument among clap's matches.
-use Rattle.std.proofs.Common.{◌≡◌}
-use Rattle.clap.specs.Matches.{first_value}
-use Rattle.clap.specs.Walk.{Text, first_of, rows_of}
-use Rattle.clap.specs.declared.parser.matches.Found.{Found}
-use Rattle.clap.proofs.WalkLemmas.{first_value-rows}
-
-pub first_text : (f : Found) (id : Text) → first_value f id ≡ first_of id (rows_of f)
-first_text f id = first_value-rows f id
