@@ -1,18 +1,14 @@
 -- What is written of hints.
-use Rattle.std.specs.Prelude.{◌≡◌, ℕ, ◌+◌, ◌≤◌, Bool, false, List, [], ◌∷◌, ◌++◌, codes, decimal, length, nat_lt}
+use Rattle.std.specs.Prelude.{◌≡◌, ℕ, ◌+◌, ◌≤◌, Bool, false, List, [], ◌∷◌, ◌++◌, codes, length, nat_lt}
 use Rattle.std.specs.List.{flat_map, list_any}
-use Rattle.look_pieces.specs.declared.findings.Finding.{Finding}
+use Rattle.look_pieces.specs.Printing.{findings_text}
 use Rattle.look_hints.specs.declared.finding.HintsTold.{HintsTold}
 use Rattle.look_hints.specs.declared.project.Member.{Member}
 use Rattle.look_hints.specs.Planless.{all_planless}
 
--- `FILE:LINE:COLUMN: hint: ..`
-abbrev pub hint_text : List ℕ → Finding → List ℕ
-hint_text file f = file ++ (codes ":" ++ (decimal f.line ++ (codes ":" ++ (decimal f.column ++ (codes ": hint: " ++ f.about)))))
-
 -- the hints of a file, in order
 abbrev pub file_text : HintsTold → List ℕ
-file_text t = flat_map (hint_text t.shown) t.findings
+file_text t = findings_text t.shown (codes "hint") t.findings
 
 abbrev pub is_told : HintsTold → Bool
 is_told t = nat_lt 0 (length t.findings)

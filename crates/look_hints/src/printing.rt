@@ -9,47 +9,22 @@ use crate::project::ReadProject;
 use crate::sources::read_project;
 use crate::world::ReadWorld;
 use asl_term::names::Names;
-use asl_term::printing::write_number;
 use asl_term::sequence::{Seq, Starved};
 use asl_term::syntax::Text;
 use look_answer::answer::Output;
-use look_pieces::findings::Finding;
+use look_pieces::printing::put_findings;
 use look_reasons::phrase::{Phrase, sentence};
 use look_where::files::{FileTold, files_told};
 use mas_io::shelf::Shelf;
 use mas_top_status::status::Status;
 use std::alloc::Global;
 
-/// Puts a hint in a file that is shown so.
-fn put_hint(alloc: Global, file: &Text, f: &Finding, out: &mut Text) -> Result<(), Starved>
-    ensures { OnOk result (out.new ≡ out.old ++ spec.hint_text file.now f.now) }
-{
-    out.append(file.as_slice())?;
-    out.append(b":")?;
-    write_number(alloc, f.line, out)?;
-    out.append(b":")?;
-    write_number(alloc, f.column, out)?;
-    out.append(b": hint: ")?;
-    out.append(f.about.as_slice())
-}
-
-fn put_hints(alloc: Global, t: &HintsTold, out: &mut Text) -> Result<(), Starved>
-    ensures { OnOk result (out.new ≡ out.old ++ spec.file_text t.now) }
-{
-    let mut rest = t.findings.as_slice();
-    'findings: while let Some((f, after)) = rest.split_first() {
-        put_hint(alloc, &t.shown, f, out)?;
-        rest = after;
-    }
-    Ok(())
-}
-
 fn put_files(alloc: Global, files: &[HintsTold], out: &mut Text) -> Result<(), Starved>
     ensures { OnOk result (out.new ≡ out.old ++ flat_map spec.file_text files.now) }
 {
     let mut rest = files;
     'files: while let Some((t, after)) = rest.split_first() {
-        put_hints(alloc, t, out)?;
+        put_findings(alloc, &t.shown, b"hint", t.findings.as_slice(), out)?;
         rest = after;
     }
     Ok(())

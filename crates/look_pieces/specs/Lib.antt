@@ -2,3 +2,4 @@ pub mod Telling
 pub mod Names
 pub mod Clauses
 pub mod Goals
+pub mod Printing

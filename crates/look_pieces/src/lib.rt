@@ -12,4 +12,5 @@ pub mod findings;
 pub mod goals;
 pub mod name;
 pub mod places;
+pub mod printing;
 pub mod spoilt;

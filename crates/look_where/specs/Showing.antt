@@ -1,5 +1,5 @@
 -- What is written of files.
-use Rattle.std.specs.Prelude.{◌≡◌, ◌≢◌, ℕ, ◌≤◌, Bool, true, false, ◌||◌, List, ◌++◌, codes, decimal, length, nat_lt, Option}
+use Rattle.std.specs.Prelude.{◌≡◌, ◌≢◌, ℕ, ◌≤◌, Bool, true, false, ◌||◌, List, ◌++◌, codes, length, nat_lt, Option}
 use Rattle.std.specs.List.{flat_map, list_any}
 use Rattle.asl_term.specs.declared.syntax.Filed.{Filed}
 use Rattle.mas_top_files.specs.declared.sources.Source.{Source}
@@ -7,17 +7,13 @@ use Rattle.mas_top_files.specs.Files.{IsUnfetched, most_bytes}
 use Rattle.mas_top_files.specs.Sources.{HasSource, AreRefused}
 use Rattle.mas_top_status.specs.declared.status.Status.{Status}
 use Rattle.mas_top_status.specs.declared.status.Status.TheVariants.{Memory}
-use Rattle.look_pieces.specs.declared.findings.Finding.{Finding}
+use Rattle.look_pieces.specs.Printing.{findings_text}
 use Rattle.look_where.specs.declared.files.FileTold.{FileTold}
 use Rattle.look_where.specs.Files.{TellFiles}
 
--- `FILE:LINE:COLUMN: error: ..`
-abbrev pub finding_text : List ℕ → Finding → List ℕ
-finding_text file f = file ++ (codes ":" ++ (decimal f.line ++ (codes ":" ++ (decimal f.column ++ (codes ": error: " ++ f.about)))))
-
 -- its findings, in order
 abbrev pub file_text : FileTold → List ℕ
-file_text t = flat_map (finding_text t.shown) t.findings
+file_text t = findings_text t.shown (codes "error") t.findings
 
 abbrev pub is_told : FileTold → Bool
 is_told t = nat_lt 0 (length t.findings)

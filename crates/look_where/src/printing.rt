@@ -6,47 +6,22 @@ ghost use Rattle.look_where.specs.Showing as spec;
 
 use crate::files::{FileTold, FilesTold, files_told, is_lack};
 use asl_term::names::Names;
-use asl_term::printing::write_number;
 use asl_term::sequence::{Seq, Starved};
 use asl_term::syntax::Text;
 use look_answer::answer::Output;
-use look_pieces::findings::Finding;
+use look_pieces::printing::put_findings;
 use look_reasons::phrase::{Phrase, put_phrases, sentence};
 use mas_io::shelf::Shelf;
 use mas_top_files::sources::sources;
 use mas_top_status::status::{Status, fault_line};
 use std::alloc::Global;
 
-/// Puts a finding in a file that is shown so.
-fn put_finding(alloc: Global, file: &Text, f: &Finding, out: &mut Text) -> Result<(), Starved>
-    ensures { OnOk result (out.new ≡ out.old ++ spec.finding_text file.now f.now) }
-{
-    out.append(file.as_slice())?;
-    out.append(b":")?;
-    write_number(alloc, f.line, out)?;
-    out.append(b":")?;
-    write_number(alloc, f.column, out)?;
-    out.append(b": error: ")?;
-    out.append(f.about.as_slice())
-}
-
-fn put_findings(alloc: Global, t: &FileTold, out: &mut Text) -> Result<(), Starved>
-    ensures { OnOk result (out.new ≡ out.old ++ spec.file_text t.now) }
-{
-    let mut rest = t.findings.as_slice();
-    'findings: while let Some((f, after)) = rest.split_first() {
-        put_finding(alloc, &t.shown, f, out)?;
-        rest = after;
-    }
-    Ok(())
-}
-
 fn put_files(alloc: Global, files: &[FileTold], out: &mut Text) -> Result<(), Starved>
     ensures { OnOk result (out.new ≡ out.old ++ flat_map spec.file_text files.now) }
 {
     let mut rest = files;
     'files: while let Some((t, after)) = rest.split_first() {
-        put_findings(alloc, t, out)?;
+        put_findings(alloc, &t.shown, b"error", t.findings.as_slice(), out)?;
         rest = after;
     }
     Ok(())
