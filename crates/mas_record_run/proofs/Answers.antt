@@ -1,8 +1,7 @@
 -- What a run that was played answers, and what it leaves of the disk.
-use Rattle.std.proofs.Common.{◌≡◌, ℕ, ◌≤◌, ◌⊎◌, inl, inr, true, is_some, Option, Some, None, Result, Ok, Err, IfOk, IfErr, OnOk, List, map, sym, refl, ap, ◌∙◌, subst, arith}
+use Rattle.std.proofs.Common.{◌≡◌, ℕ, ◌≤◌, ◌⊎◌, inl, inr, true, is_some, Option, Some, None, Result, Ok, Err, IfOk, IfErr, List, map, sym, refl, ap, ◌∙◌, subst, arith}
 use Rattle.mas_board_lists.specs.Lists.{StartsWith}
 use Rattle.mas_board_lists.proofs.Starts.{starts_refl}
-use Rattle.mas_io.specs.Causes.{Rose}
 use Rattle.mas_record_disk.specs.Disk.{Image, DiskState}
 use Rattle.mas_record_disk.specs.Calls.{name_or_none, picked_file}
 use Rattle.mas_record_disk.specs.declared.disk.DiskFail.{DiskFail}
@@ -10,7 +9,6 @@ use Rattle.mas_record_disk.specs.declared.disk.DiskFail.TheVariants as fail
 use Rattle.mas_record_journal.specs.Kept.{IsJournal, AllRecover}
 use Rattle.mas_record_journal.specs.Journals.{Recovers}
 use Rattle.mas_record_journal.proofs.Steps.{all_recover}
-use Rattle.mas_mind.specs.declared.mind.Thought.{Thought}
 use Rattle.mas_mind.specs.Minds.{Kind}
 use Rattle.mas_board.specs.Boards.{Noted}
 use Rattle.mas_board_turns.specs.Views.{Opening}
@@ -18,10 +16,9 @@ use Rattle.mas_record.specs.declared.deck.Deck.{Deck}
 use Rattle.mas_record.specs.declared.deck.DeckFault.{DeckFault}
 use Rattle.mas_record.specs.Rule.{IsKept, IsJournalled, RecoversWithin, MayOpen, opening}
 use Rattle.mas_record_rounds.specs.declared.share.Waiting.{Waiting}
-use Rattle.mas_record_rounds.specs.Dealing.{AreWaiting}
 use Rattle.mas_record_run.specs.declared.fault.RecordFault.{RecordFault}
-use Rattle.mas_record_run.specs.declared.fault.RecordFault.TheVariants.{Memory, Disk, Missing, NoHeader, TooLong, Illegal}
-use Rattle.mas_record_run.specs.Runs.{RanOn, HasPlayed, came_to, IsDone, IsNotDone, RunCause, IsRefusal, RecoversFrom, LeavesSince, Leaves, HasLeft}
+use Rattle.mas_record_run.specs.declared.fault.RecordFault.TheVariants.{Memory}
+use Rattle.mas_record_run.specs.Runs.{HasPlayed, came_to, IsDone, IsRefusal, RecoversFrom, LeavesSince, Leaves, HasLeft}
 use Rattle.mas_record_disk.specs.PastDisk.{CameFrom, IsOnlyNow}
 
 -- ---- answers
@@ -38,10 +35,6 @@ pub ok_both : {T E : Type 0} (r : Result T E) (P Q R : T → Type 0) → ((x : T
 ok_both (Ok x) P Q R f h k = f x h k
 ok_both (Err e) P Q R f h k = tt
 
--- an answer that is a refusal
-pub no_ok : {T : Type 0} (r : Result T RecordFault) (f : RecordFault) (P : T → Type 0) → IsRefusal f r → IfOk r P
-no_ok r f P e = subst (λ x. IfOk x P) (sym e) tt
-
 pub one_err : {T : Type 0} (r : Result T RecordFault) (f : RecordFault) (P : RecordFault → Type 0) → IsRefusal f r → P f → IfErr r P
 one_err r f P e h = subst (λ x. IfErr x P) (sym e) h
 
@@ -54,34 +47,6 @@ not_torn : (torn : Option DiskFail) (came : Result (Unit {0}) DeckFault) → cam
 not_torn None came e = refl
 not_torn (Some fail.Memory) came e = cc
 not_torn (Some fail.Failed) came e = cc
-
-all_well : (torn : Option DiskFail) (came : Result (Unit {0}) DeckFault) → came_to torn came ≡ Ok tt → came ≡ Ok tt
-all_well None (Ok u) e = refl
-all_well None (Err f) e = cc
-all_well (Some fail.Memory) came e = cc
-all_well (Some fail.Failed) came e = cc
-
-faulted : (old new : DiskState) (torn : Option DiskFail) (came : Result (Unit {0}) DeckFault) (f : RecordFault)
-    → (torn ≡ Some fail.Failed → Rose old.faults new.faults) → came_to torn came ≡ Err f → RunCause old new f
-faulted old new (Some fail.Memory) came Memory h e = tt
-faulted old new (Some fail.Memory) came Disk h e = cc
-faulted old new (Some fail.Memory) came Missing h e = cc
-faulted old new (Some fail.Memory) came NoHeader h e = cc
-faulted old new (Some fail.Memory) came TooLong h e = cc
-faulted old new (Some fail.Memory) came (Illegal place) h e = cc
-faulted old new (Some fail.Failed) came Memory h e = tt
-faulted old new (Some fail.Failed) came Disk h e = h refl
-faulted old new (Some fail.Failed) came Missing h e = cc
-faulted old new (Some fail.Failed) came NoHeader h e = cc
-faulted old new (Some fail.Failed) came TooLong h e = cc
-faulted old new (Some fail.Failed) came (Illegal place) h e = cc
-faulted old new None (Ok u) f h e = cc
-faulted old new None (Err g) Memory h e = tt
-faulted old new None (Err g) Disk h e = cc
-faulted old new None (Err g) Missing h e = cc
-faulted old new None (Err g) NoHeader h e = cc
-faulted old new None (Err g) TooLong h e = cc
-faulted old new None (Err g) (Illegal place) h e = cc
 
 tells_all : (schedule turns : List ℕ) (torn : Option DiskFail) → torn ≡ None → IsJournalled schedule turns torn → turns ≡ schedule
 tells_all schedule turns None e t = t
@@ -120,10 +85,6 @@ leaves_before turns s e came l = record {
     either told t c (inl l) = inl l
     either told t c (inr r) = inr (l.images told c r)
 
-on_ok : (came : Result (Unit {0}) DeckFault) (P : Type 0) → came ≡ Ok tt → OnOk came P → P
-on_ok (Ok u) P e h = h
-on_ok (Err f) P e h = cc
-
 -- ---- a run that was played from an open journal
 
 module _ {V A D : Type 0} (k : Kind V) (state : D → DiskState) (first : Deck A D) (o : Opening) (e : o ≡ opening state first) (m : MayOpen state first)
@@ -142,13 +103,6 @@ module _ {V A D : Type 0} (k : Kind V) (state : D → DiskState) (first : Deck A
   since told c left =
       kept.since.images (kept.since.told ∙ told) c (subst (λ (p : Option (List ℕ)). t.left_since s.moment (name_or_none p) c) (sym kept.since.picked) left)
 
-  pub ran_done : (first_minds : List V) (thoughts : List (Option Thought)) (board : Noted) (after : List V) → AreWaiting first_minds thoughts ws
-      → IsDone x minds came board after → RanOn k first.board first_minds thoughts board after
-  ran_done first_minds thoughts board after w d =
-      let ran = on_ok came _ (all_well x.journal.torn came d.came_is) h.ran in
-      subst (λ (z : Noted × List V × List (Option Thought) × Noted × List V). RanOn k z.0 z.1 z.2 z.3 z.4)
-      (λ i. ((e i).board, w.minds_are i, w.thoughts_are i, sym d.board_is i, sym d.minds_are i)) ran
-
   pub there_done : (board : Noted) (after : List V) → IsDone x minds came board after → HasLeft first.journal.turns board.schedule s t
   there_done board after d =
       let none = not_torn x.journal.torn came d.came_is in
@@ -158,9 +112,6 @@ module _ {V A D : Type 0} (k : Kind V) (state : D → DiskState) (first : Deck A
         all = subst (λ (l : List ℕ). AllRecover l t) (tells_all x.board.schedule x.journal.turns x.journal.torn none kept.tells ∙ same)
             (all_recover x.journal.turns t (kept.whole.file none));
       }
-
-  pub cause_done : (f : RecordFault) → IsNotDone x came f → RunCause s t f
-  cause_done f n = faulted s t x.journal.torn came f kept.since.rose n
 
   pub leaves_done : LeavesSince first.journal.turns s t
   leaves_done = record {
