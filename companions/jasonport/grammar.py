@@ -66,14 +66,16 @@ class Reader:
         self.level -= 1
 
     def either(self, *readings: Callable[[], tree.Node]) -> tree.Node:
-        """The first of these readings that there is; else the fault of the last."""
+        """The first of these readings that there is; else the fault that comes last in the text."""
         place, level = self.next, self.level
-        for reading in readings[:-1]:
+        faults = []
+        for reading in readings:
             try:
                 return reading()
-            except Fault:
+            except Fault as fault:
                 self.next, self.level = place, level
-        return readings[-1]()
+                faults.append(fault)
+        raise max(faults, key=lambda fault: fault.place)
 
 
 class Terms(Reader):
@@ -228,6 +230,8 @@ class Bodies(Terms):
             if self.is_sign(";"):
                 separator = self.take()
                 items[-1].separator = tree.Node(separator.start, separator.end)
+            elif self.is_sign("{") and self.tokens[self.next - 1].text != "}":
+                break
             elif not self.ends_body() and self.tokens[self.next - 1].text != "}":
                 self.fail(f"';' is missing before '{self.ahead().text}'")
         return tree.Body(start, self.last if items else start, items)
@@ -261,11 +265,11 @@ class Bodies(Terms):
                 kind = tree.For if self.take().text == "for" else tree.While
                 condition, body = self.condition(), self.block()
                 return kind(start, self.last, condition, body)
-        if self.is_sign("(") and self.may_be_body():
-            return self.either(self.group, self.item)
-        return self.item()
+        if not self.is_sign("("):
+            return self.item()
+        return self.either(self.group, self.item) if self.is_body_ahead() else self.either(self.item, self.group)
 
-    def may_be_body(self) -> bool:
+    def is_body_ahead(self) -> bool:
         """Whether behind this parenthesis stands what no term begins with."""
         return self.is_sign("!", "!!", "?", "+", "-+", "(", ahead=1) or (self.is_sign("-", ahead=1) and self.ahead(2).kind != "number")
 
@@ -355,10 +359,10 @@ class Parser(Bodies):
             return self.plan(True)
         if self.is_sign("!"):
             self.take()
-            literal = self.literal()
+            literal = self.named()
             self.need(".")
             return tree.Goal(start, self.last, literal)
-        literal = self.literal()
+        literal = self.named()
         if self.is_sign(":-"):
             self.take()
             body = self.formula()
@@ -388,7 +392,7 @@ class Parser(Bodies):
         if self.is_sign("["):
             annotations = self.list()
             return tree.Label(start, self.last, None, None, annotations)
-        literal = self.literal()
+        literal = self.named()
         return tree.Label(start, self.last, literal.name, literal, literal.annotations)
 
     def trigger(self) -> tree.Trigger:

@@ -96,7 +96,8 @@ class Source:
         yield Piece(place, len(text), text[place:])
 
     def broken_text(self, start: int, end: int, fault: Fault) -> str:
-        self.page.todo(start, f"not read as Jason: {fault.text}", "syntax")
+        self.page.todo(fault.place, f"not read as Jason: {fault.text}", "syntax")
+        self.page.noted.add(start)
         return set_aside(self.page.text[start:end])
 
     def clause_text(self, clause: tree.Clause) -> str:

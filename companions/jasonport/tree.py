@@ -61,15 +61,16 @@ class Named(Node):
         return self.arguments + ([self.annotations] if self.annotations else [])
 
 
+    @property
+    def functor(self) -> Functor:
+        return Functor(self.name, len(self.arguments))
+
+
 class Variable(Named):
     pass
 
 
 class Literal(Named):
-    @property
-    def functor(self) -> Functor:
-        return Functor(self.name, len(self.arguments))
-
     @property
     def is_inner(self) -> bool:
         """Whether it is an internal action, or has a dot in its name for another reason."""
@@ -234,7 +235,7 @@ class Clause(Node):
 
 @dataclass(eq=False)
 class Belief(Clause):
-    literal: Literal
+    literal: Named
 
     def parts(self) -> Sequence[Node]:
         return [self.literal]
@@ -250,7 +251,7 @@ class Directive(Belief):
 
 @dataclass(eq=False)
 class Rule(Clause):
-    head: Literal
+    head: Named
     body: Node
 
     def parts(self) -> Sequence[Node]:
@@ -271,7 +272,7 @@ class Section(Clause):
 @dataclass(eq=False)
 class Label(Node):
     name: Optional[str]
-    literal: Optional[Literal]
+    literal: Optional[Named]
     annotations: Optional[ListTerm]
 
     def parts(self) -> Sequence[Node]:

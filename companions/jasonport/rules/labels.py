@@ -1,10 +1,11 @@
 """Labels: jasonrun has their names alone."""
 from __future__ import annotations
 
+import re
 from typing import TYPE_CHECKING
 
 from .. import tree
-from ..words import flat_name, is_legal
+from ..words import flat_name
 from .table import row
 
 if TYPE_CHECKING:
@@ -18,7 +19,7 @@ CHANGING = ("+", "-", "-+", "++", "--", "+<", "+>")
 @row("other annotations of labels", "D", "dropped", "`all_unifs`, `pref`, `parallel`: X", tests="label_dropped label_todo")
 def label(port: ClausePort, node: tree.Label) -> None:
     names = [it.name if isinstance(it, tree.Named) else "" for it in node.annotations.items] if node.annotations else []
-    if not names and node.name and is_legal(node.name) and not (node.literal and node.literal.arguments):
+    if not names and node.name == legal_label(node.name or "") and not (node.literal and node.literal.arguments):
         return
     for name in names:
         if name == "atomic":
@@ -31,7 +32,7 @@ def label(port: ClausePort, node: tree.Label) -> None:
 
 
 def legal_label(name: str) -> str:
-    return name if is_legal(name) else "l_" + flat_name(name.strip("'")).strip("_")
+    return name if re.fullmatch(r"[a-z]\w*", name, re.A) else "l_" + flat_name(name.strip("'")).strip("_")
 
 
 @row(

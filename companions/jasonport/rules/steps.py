@@ -101,10 +101,11 @@ def act(port: ClausePort, node: tree.Item) -> Answer:
     subject = bare(node.subject)
     if isinstance(subject, tree.Relation):
         text = relation(port, subject)
-        if text.startswith("-"):
-            left = port.text(subject.left)
-            return f"({left}){text[len(left) :]}"
-        return text if subject is not node.subject else None
+        if text.startswith("!"):
+            return text
+        left = port.text(subject.left)
+        # a step that begins with - is a removal
+        return f"({left}){text[len(left) :]}" if subject is node.subject and text.startswith("-") else None
     if not isinstance(subject, tree.Literal):
         if isinstance(subject, tree.Variable):
             raise Todo("var", "a variable in place of an action", subject)
