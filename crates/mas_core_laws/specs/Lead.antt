@@ -6,7 +6,7 @@ use Rattle.mas_board.specs.Boards.{opening}
 use Rattle.mas_board.specs.Seating.{AreLed}
 use Rattle.mas_core.specs.Platform.{Platform, run, opening_platform}
 
--- after any run from the opening no agent that has not left is more than the lead ahead of another that has not left
+-- rule: after any run from the opening no agent that has not left is more than the lead ahead of another that has not left
 abbrev pub NeverFarAhead : {V : Type 0} → Kind V → Type 0
 NeverFarAhead {V} k =
     (agents : List (List ℕ)) (w : World) (cycles lead : ℕ) (minds : List V) (done : Platform V) (names : List ℕ) →

@@ -78,7 +78,7 @@ unread p s r = between s r (box_of p.board.boxes r)
 
 -- ---- the law
 
--- what lay there and what was sent is what was taken and what lies there, in this order
+-- rule: what lay there and what was sent is what was taken and what lies there, in this order
 abbrev pub MailInOrder : {V : Type 0} → Kind V → Type 0
 MailInOrder {V} k =
     (p done : Platform V) (names : List ℕ) (s r : ℕ) → IsAgent (length p.board.boxes) r → run k p names ≡ Some done →

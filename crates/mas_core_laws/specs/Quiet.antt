@@ -83,7 +83,7 @@ pub record ComesToQuiet {V : Type 0} (k : Kind V) (p : Platform V) : Type 0 wher
   pub ran : run k (opening_platform (opening agents world cycles lead) minds) names ≡ Some p
   pub quiet : all_quiet p.board ≡ true
 
--- nothing comes of any turn from then on
+-- rule: where all are quiet nothing comes of any turn from then on
 abbrev pub QuietLasts : {V : Type 0} → Kind V → Type 0
 QuietLasts {V} k =
     (p q r : Platform V) (names : List ℕ) (a : ℕ) → ComesToQuiet k p → run_on k p names ≡ Some q → turn_on k q a ≡ Some r → IsQuietTurn q a r

@@ -30,7 +30,7 @@ abbrev pub sections : (ℕ → List ℕ) → ℕ → ℕ → List ℕ
 sections of a zero = []
 sections of a (suc n) = of a ++ sections of (a + 1) n
 
--- the agents, the facts of the world, and the mail that nobody has read
+-- rule: what comes of a run: the agents, the facts of the world, and the mail that nobody has read
 abbrev pub outcome : {V : Type 0} → Kind V → View → Platform V → List ℕ
 outcome k v p = sections (section_of k v p) 1 (length p.board.seats) ++ (world_text p.board.world ++ mail_text p.board)
 
@@ -44,7 +44,7 @@ is_cut (Gone Stopped) = false
 is_cut (Gone Cycles) = true
 is_cut (Gone Budget) = false
 
--- no agent had to leave for the limit of cycles
+-- rule: no agent had to leave for the limit of cycles
 abbrev pub uncut : List AgentPlace → Bool
 uncut [] = true
 uncut (seat ∷ seats) = not (is_cut seat.phase) && uncut seats

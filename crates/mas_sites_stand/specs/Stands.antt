@@ -61,7 +61,7 @@ entry (e ∷ script) = e
 abbrev pub sending : Option Message → Outs
 sending m = record { action = None; messages = option_to_list m; stop = false; quiet = false }
 
--- it takes the message of the input, and the first of its script, which it sends
+-- rule: a stand takes the message of the input, and the first of its script, which it sends
 abbrev pub stand_cycle : Standing → Input → Cycled Standing
 stand_cycle s i = record {
   mind = record s {

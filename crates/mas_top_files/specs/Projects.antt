@@ -24,12 +24,12 @@ is_agent_file word = ends_with nat_eq word (codes ".asl")
 abbrev pub solo : List ℕ
 solo = codes "solo"
 
--- it stands for a project of one agent, without a world
+-- rule: a word that ends in `.asl` stands for a project of one agent, without a world
 abbrev pub solo_project : List ℕ → ProjectText
 solo_project word = record { name = solo; world = None; agents = record { name = solo; file = word; count = 1; numbered = false } ∷ [] }
 
 -- ---- its cycles
 
--- how many cycles its agents may make together, where each may make so many
+-- rule: how many cycles its agents may make together, where each may make so many
 abbrev pub all_cycles : ProjectText → ℕ → ℕ
 all_cycles p cycles = agents_of p.agents * cycles

@@ -65,7 +65,7 @@ pub record Describe (known : List (List ℕ)) (held : Option (List Filed)) (p : 
   pub world : HasWorld known held p.world source.world
   pub roles : HasRoles held p.agents source.roles
 
--- the word stands for a project whose files describe this source
+-- rule: the word stands for a project whose files describe this source
 pub record HasSource (known : List (List ℕ)) (cycles : ℕ) (held : Option (List Filed)) (word : List ℕ) (source : Source) : Type 0 where
   pub project : ProjectText
   pub asked : IsAsked cycles held word project
@@ -113,7 +113,7 @@ pub record AgentRefused (known : List (List ℕ)) (p : ProjectText) (held : Opti
 abbrev pub PartRefused : List (List ℕ) → ProjectText → Option (List Filed) → ℕ → ℕ → Status → Type 0
 PartRefused known p held before after status = WorldRefused known p.world held before after status ⊎ AgentRefused known p held before after status
 
--- where there are artifacts of these names
+-- rule: the first file that is refused, where there are artifacts of these names, and the status of that
 pub data FirstRefused (known : List (List ℕ)) (cycles : ℕ) (held : Option (List Filed)) (word : List ℕ) (before after : ℕ) (status : Status) : Type 0 where
   project_refused : ProjectRefused held word before after status → FirstRefused known cycles held word before after status
   cycles_refused : CyclesRefused cycles held word status → FirstRefused known cycles held word before after status

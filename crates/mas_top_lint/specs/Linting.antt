@@ -24,7 +24,7 @@ name_or_none (Some name) = name
 abbrev pub of_agent : List (List ℕ) → ℕ → List ℕ
 of_agent names agent = codes "no " ++ name_or_none (name_at names agent)
 
--- the number of the goal of an agent that is not covered, or those of a plan and its item
+-- rule: the line of a verdict: yes, or the agent with the number of the goal that is not covered, or with those of a plan and its item
 abbrev pub verdict_text : List (List ℕ) → Verdict → List ℕ
 verdict_text names Yes = codes "yes\n"
 verdict_text names (Goal agent goal) = of_agent names agent ++ (codes " goal " ++ (decimal goal ++ codes "\n"))

@@ -38,7 +38,7 @@ has_name names name = list_any (bytes_eq name) names
 abbrev pub are_new : List (List ℕ) → List (List ℕ) → Bool
 are_new earlier names = list_all (λ name. not (has_name earlier name)) names
 
--- the agents of these names are not too many together, nor are their cycles, and no two have one name
+-- rule: the agents of these names are not too many together, nor are their cycles, and no two have one name
 pub record Fit (cycles : ℕ) (one two : List (List ℕ)) : Type 0 where
   pub few : length one + length two ≤ most_agents
   pub short : (length one + length two) * cycles ≤ most_cycles_together
@@ -86,7 +86,7 @@ pub record Pair : Type 0 where
 abbrev pub pair : Source → Source → Pair
 pair one two = record { one = one; two = two }
 
--- where these artifacts are handed in; the world of the second may use what that of the first leaves
+-- rule: what the files of two projects describe; the world of the second may use what that of the first leaves
 pub record HasPair (objects : List Used) (held : Option (List Filed)) (wish : Wish) (both : Pair) : Type 0 where
   pub first : ProjectText
   pub second : ProjectText

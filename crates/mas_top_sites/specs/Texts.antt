@@ -20,7 +20,7 @@ pub record IsSiteReport {V : Type 0} (k : Kind V) (o : Options) (site : Ended V)
 abbrev pub between_text : List (List ℕ) → List Message → List ℕ
 between_text names left = codes "between\n" ++ flat_map (message_line names) left
 
--- the reports of both sites, and what is left between them
+-- rule: the reports of both sites, and what is left between them
 abbrev pub sites_text : List ℕ → List ℕ → List ℕ → List ℕ
 sites_text one two between = codes "site 1\n" ++ (one ++ (codes "site 2\n" ++ (two ++ between)))
 
