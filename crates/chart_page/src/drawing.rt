@@ -1,132 +1,128 @@
 //! The pieces of a picture, as text.
 
-ghost use Rattle.std.specs.Prelude.{IsOk, OnOk};
 ghost use Rattle.chart_page.specs.Texts.{Adds};
 
 use crate::columns::{columns, front};
 use crate::escape::put_escaped;
-use crate::faults::Fault;
-use std::io;
-use std::io::Write;
-
-/// A list of bytes takes all that is written, unless memory lacks.
-pub fn wrote(written: io::Result<()>) -> Result<(), Fault>
-    ensures { OnOk result (IsOk written) }
-{
-    match written {
-        Ok(()) => Ok(()),
-        Err(_) => Err(Fault::Memory),
-    }
-}
+use kept_text::filling::Value;
+use kept_text::kept::KeptText;
 
 /// A text of which so many columns are shown: a longer one ends with dots, and its whole stands behind them, to be shown where it is pointed at.
-pub fn put_cut(out: &mut Vec<u8>, text: &[u8], most: usize) -> Result<(), Fault>
-    ensures { OnOk result (Adds out.old.items out.new.items text.now) }
+pub fn put_cut(out: &mut KeptText, text: &[u8], most: usize)
+    ensures { Adds out.old out.new text.now }
 {
     if columns(text) <= most {
-        put_escaped(out, text)?;
-        return Ok(());
+        put_escaped(out, text);
+        return;
     }
-    put_escaped(out, front(text, most.saturating_sub(1)))?;
-    out.extend_from_slice("\u{2026}<title>".as_bytes())?;
-    put_escaped(out, text)?;
-    out.extend_from_slice(b"</title>")?;
-    Ok(())
+    put_escaped(out, front(text, most.saturating_sub(1)));
+    out.put("\u{2026}<title>".as_bytes());
+    put_escaped(out, text);
+    out.put(b"</title>");
 }
 
 /// A text at a place.
-pub fn put_text(
-    out: &mut Vec<u8>,
-    x: u64,
-    y: u64,
-    class: &str,
-    most: usize,
-    text: &[u8],
-) -> Result<(), Fault> {
-    wrote(write!(out, "<text class=\"{class}\" x=\"{x}\" y=\"{y}\">"))?;
-    put_cut(out, text, most)?;
-    wrote(write!(out, "</text>\n"))
+pub fn put_text(out: &mut KeptText, x: u64, y: u64, class: &[u8], most: usize, text: &[u8]) {
+    out.fill(
+        b"<text class=\"{}\" x=\"{}\" y=\"{}\">",
+        &[Value::Bytes(class), Value::Number(x), Value::Number(y)],
+    );
+    put_cut(out, text, most);
+    out.put(b"</text>\n");
 }
 
 /// A small number at a place.
-pub fn put_number(out: &mut Vec<u8>, x: u64, y: u64, number: u64) -> Result<(), Fault> {
-    wrote(write!(
-        out,
-        "<text class=\"small\" x=\"{x}\" y=\"{y}\">{number}</text>\n"
-    ))
+pub fn put_number(out: &mut KeptText, x: u64, y: u64, number: u64) {
+    out.fill(
+        b"<text class=\"small\" x=\"{}\" y=\"{}\">{}</text>\n",
+        &[Value::Number(x), Value::Number(y), Value::Number(number)],
+    );
 }
 
 /// The sign of this name, with its left lower corner at a place; nothing where the name is empty.
-pub fn put_sign(out: &mut Vec<u8>, x: u64, y: u64, sign: &str) -> Result<(), Fault> {
-    if sign.is_empty() {
-        return Ok(());
+pub fn put_sign(out: &mut KeptText, x: u64, y: u64, sign: &[u8]) {
+    if !sign.is_empty() {
+        out.fill(
+            b"<use href=\"#{}\" x=\"{}\" y=\"{}\"/>\n",
+            &[Value::Bytes(sign), Value::Number(x), Value::Number(y)],
+        );
     }
-    wrote(write!(out, "<use href=\"#{sign}\" x=\"{x}\" y=\"{y}\"/>\n"))
 }
 
 /// A box with round corners, by its left upper and its right lower corner. Its class tells how it looks.
-pub fn put_box(
-    out: &mut Vec<u8>,
-    from: (u64, u64),
-    to: (u64, u64),
-    class: &str,
-) -> Result<(), Fault> {
+pub fn put_box(out: &mut KeptText, from: (u64, u64), to: (u64, u64), class: &[u8]) {
     let (x, y) = from;
-    let width = to.0.saturating_sub(x);
-    let height = to.1.saturating_sub(y);
-    wrote(write!(
-        out,
-        "<rect class=\"{class}\" x=\"{x}\" y=\"{y}\" width=\"{width}\" height=\"{height}\" rx=\"2\"/>\n"
-    ))
+    let values = [
+        Value::Bytes(class),
+        Value::Number(x),
+        Value::Number(y),
+        Value::Number(to.0.saturating_sub(x)),
+        Value::Number(to.1.saturating_sub(y)),
+    ];
+    out.fill(
+        b"<rect class=\"{}\" x=\"{}\" y=\"{}\" width=\"{}\" height=\"{}\" rx=\"2\"/>\n",
+        &values,
+    );
 }
 
 /// A straight line from one place to another. Its class tells how it looks.
-pub fn put_line(
-    out: &mut Vec<u8>,
-    from: (u64, u64),
-    to: (u64, u64),
-    class: &str,
-) -> Result<(), Fault> {
-    let (x, y) = from;
-    let (right, bottom) = to;
-    wrote(write!(
-        out,
-        "<line class=\"{class}\" x1=\"{x}\" y1=\"{y}\" x2=\"{right}\" y2=\"{bottom}\"/>\n"
-    ))
+pub fn put_line(out: &mut KeptText, from: (u64, u64), to: (u64, u64), class: &[u8]) {
+    let values = [
+        Value::Bytes(class),
+        Value::Number(from.0),
+        Value::Number(from.1),
+        Value::Number(to.0),
+        Value::Number(to.1),
+    ];
+    out.fill(
+        b"<line class=\"{}\" x1=\"{}\" y1=\"{}\" x2=\"{}\" y2=\"{}\"/>\n",
+        &values,
+    );
 }
 
 /// An arrow of this name and colour that leaves level towards the one bend, and arrives level from the other one.
 pub fn put_curve(
-    out: &mut Vec<u8>,
+    out: &mut KeptText,
     name: (usize, usize),
     from: (u64, u64),
     to: (u64, u64),
     bends: (u64, u64),
-) -> Result<(), Fault> {
-    let (x, y) = from;
+) {
     let (end, bottom) = to;
     let (near, far) = bends;
-    let (number, colour) = name;
     let back = if far < end {
         end.saturating_sub(6)
     } else {
         end.saturating_add(6)
     };
-    let (upper, lower) = (bottom.saturating_sub(3), bottom.saturating_add(3));
-    wrote(write!(
-        out,
-        "<g id=\"m{number}\" class=\"c{colour}\"><path class=\"arrow\" d=\"M{x} {y}C{near} {y} {far} {bottom} {back} {bottom}\"/>"
-    ))?;
-    wrote(write!(
-        out,
-        "<path class=\"head\" d=\"M{end} {bottom}L{back} {upper}V{lower}z\"/></g>\n"
-    ))
+    let values = [
+        Value::Number(name.0 as u64),
+        Value::Number(name.1 as u64),
+        Value::Number(from.0),
+        Value::Number(from.1),
+        Value::Number(near),
+        Value::Number(from.1),
+        Value::Number(far),
+        Value::Number(bottom),
+        Value::Number(back),
+        Value::Number(bottom),
+        Value::Number(end),
+        Value::Number(bottom),
+        Value::Number(back),
+        Value::Number(bottom.saturating_sub(3)),
+        Value::Number(bottom.saturating_add(3)),
+    ];
+    out.fill(
+        b"<g id=\"m{}\" class=\"c{}\"><path class=\"arrow\" d=\"M{} {}C{} {} {} {} {} {}\"/>\
+<path class=\"head\" d=\"M{} {}L{} {}V{}z\"/></g>\n",
+        &values,
+    );
 }
 
 /// A small circle around a place: the end of a message that no one took.
-pub fn put_circle(out: &mut Vec<u8>, x: u64, y: u64) -> Result<(), Fault> {
-    wrote(write!(
-        out,
-        "<circle class=\"lost\" cx=\"{x}\" cy=\"{y}\" r=\"3\"/>\n"
-    ))
+pub fn put_circle(out: &mut KeptText, x: u64, y: u64) {
+    out.fill(
+        b"<circle class=\"lost\" cx=\"{}\" cy=\"{}\" r=\"3\"/>\n",
+        &[Value::Number(x), Value::Number(y)],
+    );
 }

@@ -1,9 +1,10 @@
 //! Texts in a picture.
 
-ghost use Rattle.std.specs.Prelude.{◌≡◌, ◌++◌, OnOk};
+ghost use Rattle.std.specs.Prelude.{◌≡◌};
 ghost use Rattle.chart_page.specs.Escape as spec;
+ghost use Rattle.kept_text.specs.Puts.{Puts};
 
-use std::alloc::AllocError;
+use kept_text::kept::KeptText;
 
 fn is_control(byte: u8) -> bool
     ensures { result ≡ spec.is_control byte }
@@ -11,28 +12,27 @@ fn is_control(byte: u8) -> bool
     byte <= 31 || byte == 127
 }
 
-/// Appends what stands for a byte.
-fn put_byte(out: &mut Vec<u8>, byte: u8) -> Result<(), AllocError>
-    ensures { OnOk result (out.new.items ≡ out.old.items ++ spec.escaped byte) }
+/// Puts what stands for a byte.
+fn put_byte(out: &mut KeptText, byte: u8)
+    ensures { Puts out.old out.new (spec.escaped byte) }
 {
     match byte {
-        b'<' => out.extend_from_slice(b"&lt;"),
-        b'>' => out.extend_from_slice(b"&gt;"),
-        b'&' => out.extend_from_slice(b"&amp;"),
-        b'"' => out.extend_from_slice(b"&quot;"),
-        _ if is_control(byte) => out.extend_from_slice(b"?"),
-        _ => out.extend_from_slice(&[byte]),
+        b'<' => out.put(b"&lt;"),
+        b'>' => out.put(b"&gt;"),
+        b'&' => out.put(b"&amp;"),
+        b'"' => out.put(b"&quot;"),
+        _ if is_control(byte) => out.put(b"?"),
+        _ => out.put(&[byte]),
     }
 }
 
-/// Appends a text that came from the report.
-pub fn put_escaped(out: &mut Vec<u8>, text: &[u8]) -> Result<(), AllocError>
-    ensures { OnOk result (out.new.items ≡ out.old.items ++ spec.escaped_text text.now) }
+/// Puts a text that came from the report.
+pub fn put_escaped(out: &mut KeptText, text: &[u8])
+    ensures { Puts out.old out.new (spec.escaped_text text.now) }
 {
     for byte in text {
-        put_byte(out, *byte)?;
+        put_byte(out, *byte);
     }
-    Ok(())
 }
 
 /// No sign of the picture's own stands in what was escaped.

@@ -88,29 +88,43 @@ fn lane_of_group(lanes: &[Lane<'_>], name: &[u8]) -> Option<usize> {
     None
 }
 
-fn put_agent<'a>(lanes: &mut Lanes<'a>, piece: &Piece<'a>) -> Result<(), AllocError> {
-    for _ in lanes.seats.len()..piece.agent {
-        lanes.seats.push(None)?;
-    }
-    if lanes.scale.is_folded {
-        if let Some(lane) = lane_of_group(lanes.all.as_slice(), piece.text) {
-            if let Some(group) = lanes.all.get_mut(lane) {
-                let order = group.members;
-                group.members = order.saturating_add(1);
-                lanes.seats.push(Some(Seat { lane, order }))?;
-            }
-            return Ok(());
-        }
-    }
+/// Gives an agent the next place in the lane of its group.
+fn put_member(lanes: &mut Lanes<'_>, lane: usize) -> Result<(), AllocError> {
+    let Some(group) = lanes.all.get_mut(lane) else {
+        return Ok(());
+    };
+    let order = group.members;
+    group.members = order.saturating_add(1);
+    lanes.seats.push(Some(Seat { lane, order }))?;
+    Ok(())
+}
+
+/// Gives an agent a lane of its own.
+fn put_lane<'a>(lanes: &mut Lanes<'a>, name: &'a [u8]) -> Result<(), AllocError> {
     let lane = lanes.all.len();
     lanes.seats.push(Some(Seat { lane, order: 0 }))?;
     lanes.all.push(Lane {
-        name: piece.text,
+        name,
         members: 1,
         left: 0,
         width: NARROWEST,
     })?;
     Ok(())
+}
+
+fn put_agent<'a>(lanes: &mut Lanes<'a>, piece: &Piece<'a>) -> Result<(), AllocError> {
+    for _ in lanes.seats.len()..piece.agent {
+        lanes.seats.push(None)?;
+    }
+    let group = if lanes.scale.is_folded {
+        lane_of_group(lanes.all.as_slice(), piece.text)
+    } else {
+        None
+    };
+    match group {
+        Some(lane) => put_member(lanes, lane),
+        None => put_lane(lanes, piece.text),
+    }
 }
 
 /// The seat of an agent.

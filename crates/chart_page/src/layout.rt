@@ -239,6 +239,17 @@ fn put_around(plan: &mut Layout<'_>, pieces: &[Piece<'_>]) {
     put_foot(plan, pieces, top);
 }
 
+fn put_cycles(
+    plan: &mut Layout<'_>,
+    pieces: &[Piece<'_>],
+    cycles: &[Cycle],
+) -> Result<(), AllocError> {
+    for cycle in cycles {
+        put_cycle(plan, pieces, cycle)?;
+    }
+    Ok(())
+}
+
 /// Where all pieces stand.
 pub fn lay_out<'a>(
     alloc: Global,
@@ -246,10 +257,8 @@ pub fn lay_out<'a>(
     report: &Report<'_>,
     pieces: &[Piece<'a>],
 ) -> Result<Layout<'a>, AllocError> {
-    let mut places = Vec::new(alloc);
-    for _ in 0..pieces.len() {
-        places.push(alone(LEFT, TOP))?;
-    }
+    let cycles = in_order(alloc, choice, report, pieces)?;
+    let places = Vec::from_elem(alloc, alone(LEFT, TOP), pieces.len())?;
     let mut plan = Layout {
         lanes: lanes_of(alloc, choice, pieces)?,
         cells: Vec::new(alloc),
@@ -259,9 +268,7 @@ pub fn lay_out<'a>(
         width: LEAST_WIDTH,
         height: 0,
     };
-    for cycle in &in_order(alloc, choice, report, pieces)? {
-        put_cycle(&mut plan, pieces, cycle)?;
-    }
+    put_cycles(&mut plan, pieces, cycles.as_slice())?;
     put_around(&mut plan, pieces);
     Ok(plan)
 }

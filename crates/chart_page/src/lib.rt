@@ -1,6 +1,6 @@
 //! What a report of a run looks like: a picture of it, an SVG, or a page.
 //!
-//! May stand on: nothing but std
+//! May stand on: kept_text
 //!
 //! Must not: open a file, start a thread, run an agent, stand on a crate of the platform.
 #![tactic(auto)]

@@ -18,12 +18,17 @@ pub struct Cycle {
     pub count: usize,
 }
 
-/// How far the turns were followed: of each agent its first cycle that was not met and its turns, the turns in all, and how many cycles
-/// without a line may still be drawn.
+/// How far an agent was followed: its first cycle that was not met, and its turns.
+#[derive(Clone, Copy)]
+struct Followed {
+    next: usize,
+    turns: u64,
+}
+
+/// How far the turns were followed: of each agent, the turns in all, and how many cycles without a line may still be drawn.
 #[derive(Drop)]
 struct Sweep {
-    next: Vec<usize>,
-    turns: Vec<u64>,
+    agents: Vec<Followed>,
     all: u64,
     quiet: u64,
     stretch: Stretch,
@@ -62,12 +67,16 @@ fn at_turn(cycle: Cycle, turn: u64) -> Cycle {
     }
 }
 
-/// Of each agent where its cycles begin.
-fn first_of_each(alloc: Global, agents: usize, cycles: &[Cycle]) -> Result<Vec<usize>, AllocError> {
-    let mut next = Vec::new(alloc);
+/// Of each agent where its cycles begin, and no turns.
+fn first_of_each(
+    alloc: Global,
+    agents: usize,
+    cycles: &[Cycle],
+) -> Result<Vec<Followed>, AllocError> {
+    let mut first = Vec::new(alloc);
     let mut at: usize = 0;
     for agent in 0..agents {
-        next.push(at)?;
+        first.push(Followed { next: at, turns: 0 })?;
         for cycle in cycles.get(at..).unwrap_or(&[]) {
             if cycle.agent != agent {
                 break;
@@ -75,7 +84,14 @@ fn first_of_each(alloc: Global, agents: usize, cycles: &[Cycle]) -> Result<Vec<u
             at = at.saturating_add(1);
         }
     }
-    Ok(next)
+    Ok(first)
+}
+
+fn followed_of(sweep: &Sweep, agent: usize) -> Followed {
+    match sweep.agents.get(agent) {
+        Some(followed) => *followed,
+        None => Followed { next: 0, turns: 0 },
+    }
 }
 
 /// An agent whose turns are followed: how many it had made before them.
@@ -113,34 +129,44 @@ fn put_quiet(sweep: &mut Sweep, made: Made, first: u64, last: u64) -> Result<(),
     Ok(())
 }
 
-/// Takes the cycles that end in the turns of an entry.
-fn put_entry(sweep: &mut Sweep, found: &[Cycle], entry: &Entry) -> Result<(), AllocError> {
-    let turns = sweep.turns.get(entry.agent).copied().unwrap_or(0);
-    let made = Made {
-        agent: entry.agent,
-        turns,
-    };
-    let end = turns.saturating_add(entry.times);
-    let start = sweep.next.get(entry.agent).copied().unwrap_or(0);
-    let mut number = (turns / 2).saturating_add(1);
-    let mut next = start;
-    for cycle in found.get(start..).unwrap_or(&[]) {
-        if cycle.agent != entry.agent || cycle.number > end / 2 {
+/// Takes the cycles of an agent that end in its turns, up to the one of this number, and those without a line between them; how many it took of these.
+fn put_ended(
+    sweep: &mut Sweep,
+    made: Made,
+    cycles: &[Cycle],
+    last: u64,
+) -> Result<usize, AllocError> {
+    let mut number = (made.turns / 2).saturating_add(1);
+    let mut count: usize = 0;
+    for cycle in cycles {
+        if cycle.agent != made.agent || cycle.number > last {
             break;
         }
         put_quiet(sweep, made, number, cycle.number.saturating_sub(1))?;
         let turn = turn_of(sweep, made, cycle.number);
         sweep.cycles.push(at_turn(*cycle, turn))?;
         number = cycle.number.saturating_add(1);
-        next = next.saturating_add(1);
+        count = count.saturating_add(1);
     }
-    put_quiet(sweep, made, number, end / 2)?;
+    put_quiet(sweep, made, number, last)?;
+    Ok(count)
+}
+
+/// Takes the cycles that end in the turns of an entry.
+fn put_entry(sweep: &mut Sweep, found: &[Cycle], entry: &Entry) -> Result<(), AllocError> {
+    let Followed { next, turns } = followed_of(sweep, entry.agent);
+    let made = Made {
+        agent: entry.agent,
+        turns,
+    };
+    let end = turns.saturating_add(entry.times);
+    let count = put_ended(sweep, made, found.get(next..).unwrap_or(&[]), end / 2)?;
     sweep.all = sweep.all.saturating_add(entry.times);
-    if let Some(kept) = sweep.next.get_mut(entry.agent) {
-        *kept = next;
-    }
-    if let Some(kept) = sweep.turns.get_mut(entry.agent) {
-        *kept = end;
+    if let Some(kept) = sweep.agents.get_mut(entry.agent) {
+        *kept = Followed {
+            next: next.saturating_add(count),
+            turns: end,
+        };
     }
     Ok(())
 }
@@ -148,12 +174,19 @@ fn put_entry(sweep: &mut Sweep, found: &[Cycle], entry: &Entry) -> Result<(), Al
 /// The cycles that no turn ends.
 fn put_rest(sweep: &mut Sweep, found: &[Cycle]) -> Result<(), AllocError> {
     for (index, cycle) in found.iter().enumerate() {
-        let next = sweep.next.get(cycle.agent).copied().unwrap_or(0);
-        if index >= next {
+        if index >= followed_of(sweep, cycle.agent).next {
             sweep.cycles.push(*cycle)?;
         }
     }
     Ok(())
+}
+
+/// Takes all cycles that were found, in the order of the entries that end them.
+fn put_all(sweep: &mut Sweep, found: &[Cycle], entries: &[Entry]) -> Result<(), AllocError> {
+    for entry in entries {
+        put_entry(sweep, found, entry)?;
+    }
+    put_rest(sweep, found)
 }
 
 /// The cycles that have pieces, and where all are asked for those without, by the turns that end them; last those that no turn ends.
@@ -164,13 +197,8 @@ pub fn in_order(
     pieces: &[Piece<'_>],
 ) -> Result<Vec<Cycle>, AllocError> {
     let found = with_pieces(alloc, pieces)?;
-    let mut turns = Vec::new(alloc);
-    for _ in 0..report.names.len() {
-        turns.push(0u64)?;
-    }
     let mut sweep = Sweep {
-        next: first_of_each(alloc, report.names.len(), found.as_slice())?,
-        turns,
+        agents: first_of_each(alloc, report.names.len(), found.as_slice())?,
         all: 0,
         quiet: if choice.is_all { MOST_QUIET } else { 0 },
         stretch: choice.turns.unwrap_or(Stretch {
@@ -179,10 +207,7 @@ pub fn in_order(
         }),
         cycles: Vec::new(alloc),
     };
-    for entry in &report.entries {
-        put_entry(&mut sweep, found.as_slice(), entry)?;
-    }
-    put_rest(&mut sweep, found.as_slice())?;
+    put_all(&mut sweep, found.as_slice(), report.entries.as_slice())?;
     let Sweep { cycles, .. } = sweep;
     Ok(cycles)
 }

@@ -1,25 +1,25 @@
 //! The page of a report: its picture, its schedule as a bar, all its lines, and what is told of minds, in one file that needs no other.
 
-ghost use Rattle.std.specs.Prelude.{map, OnOk, IfOk};
-ghost use Rattle.chart_page.specs.Minds.{TellsMinds};
+ghost use Rattle.std.specs.Prelude.{map, IfOk};
+ghost use Rattle.chart_page.specs.Minds.{TellsMinds, texts_of};
 ghost use Rattle.chart_page.specs.Refused.{IsPage};
-ghost use Rattle.chart_page.specs.Texts.{Adds, Grew, HoldsAll};
+ghost use Rattle.chart_page.specs.Texts.{Adds, Grew, HasAll, HoldsAll};
 
 use crate::choice::Choice;
-use crate::drawing::wrote;
 use crate::escape::put_escaped;
 use crate::faults::Fault;
-use crate::messages::messages;
+use crate::messages::{Message, messages};
 use crate::mind_rows::{put_due, put_note, put_rest};
 use crate::minds::Minds;
-use crate::order::in_order;
+use crate::order::{Cycle, in_order};
 use crate::page_parts::{FILTER, FRONT, SCRIPT};
 use crate::picture::{COLOURS, draw};
 use crate::report::Report;
 use crate::shown::{Piece, PieceKind};
 use crate::signs::look_of;
+use kept_text::filling::Value;
+use kept_text::kept::KeptText;
 use std::alloc::{AllocError, Global};
-use std::io::Write;
 
 /// Of a piece the turn that ends its cycle, 0 where there is none, and the piece at the other end of its message.
 #[derive(Clone, Copy)]
@@ -28,34 +28,41 @@ struct Link {
     other: Option<usize>,
 }
 
-/// The links of all pieces.
+/// Notes at the pieces of a cycle the turn that ends it.
+fn put_turn(links: &mut [Link], cycle: &Cycle) {
+    for index in cycle.first..cycle.first.saturating_add(cycle.count) {
+        if let Some(link) = links.get_mut(index) {
+            link.turn = cycle.turn;
+        }
+    }
+}
+
+/// Notes at a piece the other end of its message.
+fn put_other(links: &mut [Link], index: usize, other: usize) {
+    if let Some(link) = links.get_mut(index) {
+        link.other = Some(other);
+    }
+}
+
+/// The links of all pieces, of which these cycles and messages are made.
 fn links(
     alloc: Global,
-    choice: Choice<'_>,
-    report: &Report<'_>,
-    pieces: &[Piece<'_>],
+    count: usize,
+    cycles: &[Cycle],
+    messages: &[Message],
 ) -> Result<Vec<Link>, AllocError> {
-    let mut links = Vec::new(alloc);
-    for _ in 0..pieces.len() {
-        links.push(Link {
-            turn: 0,
-            other: None,
-        })?;
+    let none = Link {
+        turn: 0,
+        other: None,
+    };
+    let mut links = Vec::from_elem(alloc, none, count)?;
+    for cycle in cycles {
+        put_turn(links.as_mut_slice(), cycle);
     }
-    for cycle in &in_order(alloc, choice, report, pieces)? {
-        for index in cycle.first..cycle.first.saturating_add(cycle.count) {
-            if let Some(link) = links.get_mut(index) {
-                link.turn = cycle.turn;
-            }
-        }
-    }
-    for message in &messages(alloc, pieces)? {
-        let Some(taken) = message.taken else { continue };
-        if let Some(link) = links.get_mut(message.sent) {
-            link.other = Some(taken);
-        }
-        if let Some(link) = links.get_mut(taken) {
-            link.other = Some(message.sent);
+    for message in messages {
+        if let Some(taken) = message.taken {
+            put_other(links.as_mut_slice(), message.sent, taken);
+            put_other(links.as_mut_slice(), taken, message.sent);
         }
     }
     Ok(links)
@@ -72,167 +79,141 @@ fn link_of(links: &[Link], index: usize) -> Link {
 }
 
 /// A sign, which the picture of the page defines.
-#[tactic(auto, using(crate::proofs::Texts::grew_same))]
-fn put_sign(out: &mut Vec<u8>, sign: &str) -> Result<(), Fault>
-    ensures { OnOk result (Grew out.old.items out.new.items) }
+fn put_sign(out: &mut KeptText, sign: &[u8])
+    ensures { Grew out.old out.new }
 {
-    if sign.is_empty() {
-        return Ok(());
+    if !sign.is_empty() {
+        out.fill(
+            b"<svg class=\"sign\" viewBox=\"-1 -10 11 12\" aria-hidden=\"true\"><use href=\"#{}\"/></svg>",
+            &[Value::Bytes(sign)],
+        );
     }
-    wrote(write!(
-        out,
-        "<svg class=\"sign\" viewBox=\"-1 -10 11 12\" aria-hidden=\"true\"><use href=\"#{sign}\"/></svg>"
-    ))
 }
 
 /// What stands before the text of a trace's line.
-#[tactic(auto, using(crate::proofs::Texts::grew_trans))]
-fn put_line_front(
-    out: &mut Vec<u8>,
-    index: usize,
-    piece: &Piece<'_>,
-    turn: u64,
-) -> Result<(), Fault>
-    ensures { OnOk result (Grew out.old.items out.new.items) }
+fn put_line_front(out: &mut KeptText, index: usize, piece: &Piece<'_>, turn: u64)
+    ensures { Grew out.old out.new }
 {
     let look = look_of(piece.text);
-    let (class, kind, agent, cycle) = (look.class, look.kind, piece.agent, piece.cycle);
-    wrote(write!(
-        out,
-        "<li id=\"l{index}\" tabindex=\"-1\" class=\"{class}\" data-kind=\"{kind}\" data-agent=\"{agent}\" data-turn=\"{turn}\">"
-    ))?;
-    wrote(write!(
-        out,
-        "<span class=\"at\">{turn}</span><span class=\"at\">{cycle}</span>"
-    ))?;
-    put_sign(out, look.sign)
+    let values = [
+        Value::Number(index as u64),
+        Value::Bytes(look.class),
+        Value::Bytes(look.kind),
+        Value::Number(piece.agent as u64),
+        Value::Number(turn),
+        Value::Number(turn),
+        Value::Number(piece.cycle),
+    ];
+    out.fill(
+        b"<li id=\"l{}\" tabindex=\"-1\" class=\"{}\" data-kind=\"{}\" data-agent=\"{}\" data-turn=\"{}\">\
+<span class=\"at\">{}</span><span class=\"at\">{}</span>",
+        &values,
+    );
+    put_sign(out, look.sign);
 }
 
 /// What stands behind the text of a trace's line: where it has one, the way to the other end of its message.
-fn put_line_back(out: &mut Vec<u8>, link: Link) -> Result<(), Fault>
-    ensures { OnOk result (Grew out.old.items out.new.items) }
+fn put_line_back(out: &mut KeptText, link: Link)
+    ensures { Grew out.old out.new }
 {
-    let Some(other) = link.other else {
-        return wrote(write!(out, "</li>\n"));
-    };
-    wrote(write!(
-        out,
-        " <a class=\"other\" href=\"#l{other}\">other end</a></li>\n"
-    ))
+    match link.other {
+        None => out.put(b"</li>\n"),
+        Some(other) => out.fill(
+            b" <a class=\"other\" href=\"#l{}\">other end</a></li>\n",
+            &[Value::Number(other as u64)],
+        ),
+    }
 }
 
 /// What stands before the text of a piece, as the page has it.
-fn put_before(out: &mut Vec<u8>, index: usize, piece: &Piece<'_>, turn: u64) -> Result<(), Fault>
-    ensures { OnOk result (Grew out.old.items out.new.items) }
+fn put_before(out: &mut KeptText, index: usize, piece: &Piece<'_>, turn: u64)
+    ensures { Grew out.old out.new }
 {
-    let front = match piece.kind {
-        PieceKind::Line => return put_line_front(out, index, piece, turn),
-        PieceKind::Name => {
-            let agent = piece.agent;
-            return wrote(write!(out, "<section class=\"trace\" data-agent=\"{agent}\"><h3>"));
-        }
-        PieceKind::Head => "<p class=\"name\">",
-        PieceKind::World => "</div><section><h2>",
-        PieceKind::Mail => "</ul></section>\n<section><h2>",
-        PieceKind::Count => "</ul></section>\n<section><h2>",
-        PieceKind::Fact | PieceKind::Letter => "<li>",
-        PieceKind::End => "</ol><p class=\"end\">",
-        _ => "<p class=\"small\">",
-    };
-    out.extend_from_slice(front.as_bytes())?;
-    Ok(())
+    match piece.kind {
+        PieceKind::Line => put_line_front(out, index, piece, turn),
+        PieceKind::Name => out.fill(
+            b"<section class=\"trace\" data-agent=\"{}\"><h3>",
+            &[Value::Number(piece.agent as u64)],
+        ),
+        PieceKind::Head => out.put(b"<p class=\"name\">"),
+        PieceKind::World => out.put(b"</div><section><h2>"),
+        PieceKind::Mail | PieceKind::Count => out.put(b"</ul></section>\n<section><h2>"),
+        PieceKind::Fact | PieceKind::Letter => out.put(b"<li>"),
+        PieceKind::End => out.put(b"</ol><p class=\"end\">"),
+        _ => out.put(b"<p class=\"small\">"),
+    }
 }
 
 /// What stands behind the text of a piece.
-fn put_behind(out: &mut Vec<u8>, piece: &Piece<'_>, link: Link) -> Result<(), Fault>
-    ensures { OnOk result (Grew out.old.items out.new.items) }
+fn put_behind(out: &mut KeptText, piece: &Piece<'_>, link: Link)
+    ensures { Grew out.old out.new }
 {
-    let back = match piece.kind {
-        PieceKind::Line => return put_line_back(out, link),
-        PieceKind::Name => "</h3><ol>\n",
-        PieceKind::World | PieceKind::Mail => "</h2><ul>\n",
-        PieceKind::Count => "</h2>\n",
-        PieceKind::Fact | PieceKind::Letter => "</li>\n",
-        PieceKind::End => "</p></section>\n",
-        PieceKind::Options => "</p>\n<div id=\"traces\">\n",
-        PieceKind::Head => "</p>\n",
-        _ => "</p></section>\n",
-    };
-    out.extend_from_slice(back.as_bytes())?;
-    Ok(())
+    match piece.kind {
+        PieceKind::Line => put_line_back(out, link),
+        PieceKind::Name => out.put(b"</h3><ol>\n"),
+        PieceKind::World | PieceKind::Mail => out.put(b"</h2><ul>\n"),
+        PieceKind::Count => out.put(b"</h2>\n"),
+        PieceKind::Fact | PieceKind::Letter => out.put(b"</li>\n"),
+        PieceKind::End => out.put(b"</p></section>\n"),
+        PieceKind::Options => out.put(b"</p>\n<div id=\"traces\">\n"),
+        PieceKind::Head => out.put(b"</p>\n"),
+        _ => out.put(b"</p></section>\n"),
+    }
 }
 
 /// A piece, as the page has it.
-#[tactic(auto, using(crate::proofs::Texts::adds_after, crate::proofs::Texts::adds_before, crate::proofs::Texts::adds_exact))]
-fn put_piece(
-    out: &mut Vec<u8>,
-    links: &[Link],
-    index: usize,
-    piece: &Piece<'_>,
-) -> Result<(), Fault>
-    ensures { OnOk result (Adds out.old.items out.new.items piece.now.text.now) }
+fn put_piece(out: &mut KeptText, links: &[Link], index: usize, piece: &Piece<'_>)
+    ensures { Adds out.old out.new piece.now.text.now }
 {
     let link = link_of(links, index);
-    put_before(out, index, piece, link.turn)?;
-    put_escaped(out, piece.text)?;
-    put_behind(out, piece, link)
+    put_before(out, index, piece, link.turn);
+    put_escaped(out, piece.text);
+    put_behind(out, piece, link);
 }
 
 /// All pieces, and below the lines of each cycle what is told of it.
-fn put_pieces(
-    out: &mut Vec<u8>,
-    links: &[Link],
-    pieces: &[Piece<'_>],
-    minds: &Minds<'_>,
-) -> Result<(), Fault>
-    ensures texts { OnOk result (HoldsAll out.new.items (map (λ p. p.text.now) pieces.now)) }
-    ensures minds { OnOk result (TellsMinds minds.now out.new.items) }
+fn put_pieces(out: &mut KeptText, links: &[Link], pieces: &[Piece<'_>], minds: &Minds<'_>)
+    ensures texts { HasAll out.new (map (λ p. p.text.now) pieces.now) }
+    ensures minds { HasAll out.new (texts_of minds.now.lines.now) }
 {
     let mut next: usize = 0;
     for (index, piece) in pieces.iter().enumerate() {
-        next = put_due(out, minds.lines, next, piece)?;
-        put_piece(out, links, index, piece)?;
+        next = put_due(out, minds.lines, next, piece);
+        put_piece(out, links, index, piece);
     }
-    put_rest(out, minds.lines, next)?;
-    Ok(())
+    put_rest(out, minds.lines, next);
 }
 
 /// A stroke of the bar: the turn that ends a cycle, in the colour of its agent.
-fn put_stroke(
-    out: &mut Vec<u8>,
-    links: &[Link],
-    index: usize,
-    piece: &Piece<'_>,
-    turns: u64,
-) -> Result<(), Fault> {
+fn put_stroke(out: &mut KeptText, links: &[Link], index: usize, piece: &Piece<'_>, turns: u64) {
     let turn = link_of(links, index).turn;
-    let x = turn.saturating_mul(1000) / turns.max(1);
     let colour = piece.agent % COLOURS;
-    let row = piece.agent % COLOURS * 4;
-    wrote(write!(
-        out,
-        "<a href=\"#l{index}\" tabindex=\"-1\"><rect class=\"c{colour}\" x=\"{x}\" y=\"{row}\" width=\"2\" height=\"4\"><title>turn {turn}</title></rect></a>"
-    ))
+    let values = [
+        Value::Number(index as u64),
+        Value::Number(colour as u64),
+        Value::Number(turn.saturating_mul(1000) / turns.max(1)),
+        Value::Number((colour * 4) as u64),
+        Value::Number(turn),
+    ];
+    out.fill(
+        b"<a href=\"#l{}\" tabindex=\"-1\"><rect class=\"c{}\" x=\"{}\" y=\"{}\" width=\"2\" height=\"4\"><title>turn {}</title></rect></a>",
+        &values,
+    );
 }
 
 /// The schedule as a bar: the turns with which the cycles end that have a line.
-fn put_bar(
-    out: &mut Vec<u8>,
-    report: &Report<'_>,
-    links: &[Link],
-    pieces: &[Piece<'_>],
-) -> Result<(), Fault> {
+fn put_bar(out: &mut KeptText, report: &Report<'_>, links: &[Link], pieces: &[Piece<'_>]) {
     let turns = report.count.unwrap_or(0);
-    wrote(write!(
-        out,
-        "</div>\n<svg class=\"turns\" viewBox=\"0 0 1003 48\" preserveAspectRatio=\"none\" role=\"img\" aria-label=\"{turns} turns\">\n"
-    ))?;
+    out.fill(
+        b"</div>\n<svg class=\"turns\" viewBox=\"0 0 1003 48\" preserveAspectRatio=\"none\" role=\"img\" aria-label=\"{} turns\">\n",
+        &[Value::Number(turns)],
+    );
     for (index, piece) in pieces.iter().enumerate() {
         if let PieceKind::Line = piece.kind {
-            put_stroke(out, links, index, piece, turns)?;
+            put_stroke(out, links, index, piece, turns);
         }
     }
-    wrote(write!(out, "</svg>\n"))
+    out.put(b"</svg>\n");
 }
 
 /// The page of pieces.
@@ -247,16 +228,18 @@ pub fn page(
     ensures texts { IfOk result (λ html. HoldsAll html.items (map (λ p. p.text.now) pieces.now)) }
     ensures minds { IfOk result (λ html. TellsMinds minds.now html.items) }
 {
-    let links = links(alloc, choice, report, pieces)?;
+    let cycles = in_order(alloc, choice, report, pieces)?;
+    let messages = messages(alloc, pieces)?;
+    let links = links(alloc, pieces.len(), cycles.as_slice(), messages.as_slice())?;
     let svg = draw(alloc, choice, report, pieces)?;
-    let mut out = Vec::new(alloc);
-    out.extend_from_slice(FRONT.as_bytes())?;
-    out.extend_from_slice(svg.as_slice())?;
-    put_bar(&mut out, report, links.as_slice(), pieces)?;
-    out.extend_from_slice(FILTER.as_bytes())?;
-    put_note(&mut out, minds)?;
-    put_pieces(&mut out, links.as_slice(), pieces, minds)?;
-    out.extend_from_slice(SCRIPT.as_bytes())?;
-    out.extend_from_slice(b"</html>\n")?;
-    Ok(out)
+    let mut out = KeptText::new(alloc);
+    out.put(FRONT);
+    out.put(svg.as_slice());
+    put_bar(&mut out, report, links.as_slice(), pieces);
+    out.put(FILTER);
+    put_note(&mut out, minds);
+    put_pieces(&mut out, links.as_slice(), pieces, minds);
+    out.put(SCRIPT);
+    out.put(b"</html>\n");
+    Ok(out.into_bytes()?)
 }

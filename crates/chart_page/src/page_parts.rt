@@ -1,7 +1,7 @@
 //! What every page has: its style, what filters it, and its script.
 
 /// What stands before the picture.
-pub const FRONT: &str = "<!DOCTYPE html>\n\
+pub const FRONT: &[u8] = b"<!DOCTYPE html>\n\
 <html lang=\"en\"><head><meta charset=\"utf-8\"><meta name=\"viewport\" content=\"width=device-width,initial-scale=1\">\n\
 <title>A run of agents</title><style>\n\
 :root{color-scheme:light dark;--back:#fff;--text:#24292f;--soft:#57606a;--edge:#afb8c1;--box:#f6f8fa;--mail:#0550ae;--does:#6639ba;--done:#0a5c2b;\
@@ -36,14 +36,14 @@ svg g[class^=c],svg rect[class^=c]:not(.cycle),.sign,.picture svg use{filter:bri
 </style></head>\n<body><h1>A run of agents</h1>\n<div class=\"picture\" tabindex=\"0\" role=\"region\" aria-label=\"picture\">\n";
 
 /// What stands between the bar and the lines.
-pub const FILTER: &str =
-    "<form id=\"filter\" hidden><label>text <input id=\"text\" type=\"search\"></label>\
+pub const FILTER: &[u8] =
+    b"<form id=\"filter\" hidden><label>text <input id=\"text\" type=\"search\"></label>\
 <label><input id=\"merge\" type=\"checkbox\"> in the order of turns</label> <output id=\"count\"></output> keys: j next turn, k turn before<br>\
 <fieldset id=\"agents\"><legend>agents</legend></fieldset><fieldset id=\"kinds\"><legend>lines</legend></fieldset></form>\n\
 <main><h2>What the agents did</h2><p class=\"small\">each line behind its turn and its cycle</p>\n";
 
 /// What stands behind the lines.
-pub const SCRIPT: &str = "</main>\n<script>\n(()=>{\n\
+pub const SCRIPT: &[u8] = b"</main>\n<script>\n(()=>{\n\
 const all=(q,n)=>[...(n||document).querySelectorAll(q)],get=i=>document.getElementById(i);\n\
 const rows=all('.trace li'),names={},form=get('filter'),text=get('text'),traces=get('traces');\n\
 all('.trace').forEach(s=>names[s.dataset.agent]=s.querySelector('h3').textContent);\n\

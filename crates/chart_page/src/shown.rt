@@ -137,10 +137,7 @@ fn flag_at(flags: &[bool], index: usize) -> bool
 
 /// How many turns each of so many agents has in the first so many turns.
 fn turns_before(alloc: Global, report: &Report<'_>, turns: u64) -> Result<Vec<u64>, AllocError> {
-    let mut counts = Vec::new(alloc);
-    for _ in 0..report.names.len() {
-        counts.push(0u64)?;
-    }
+    let mut counts = Vec::from_elem(alloc, 0u64, report.names.len())?;
     let mut left = turns;
     for entry in &report.entries {
         let times = entry.times.min(left);

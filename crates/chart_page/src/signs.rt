@@ -3,7 +3,7 @@
 use crate::numbers::cut_at;
 
 /// What stands before everything else but the size: the classes of texts and shapes, and the signs.
-pub const STYLE: &str = "<style>\
+pub const STYLE: &[u8] = b"<style>\
 text{font:11px ui-monospace,Menlo,Consolas,'DejaVu Sans Mono',monospace;fill:#24292f;paint-order:stroke;stroke:#fff;stroke-width:2px;\
 stroke-opacity:.8;stroke-linejoin:round}.many text{font-size:10px}\
 .paper{fill:#fff}text.name{font-weight:bold;font-size:13px}.many text.name{font-size:11px}.end{font-weight:bold}.bad{font-weight:bold;fill:#cf222e}\
@@ -18,7 +18,7 @@ text.small{font-size:9px;fill:#57606a}.many text.small{font-size:9px}\
 .c8{stroke:#3b5bdb;fill:#3b5bdb}.c9{stroke:#5c4033;fill:#5c4033}.c10{stroke:#2b7a0b;fill:#2b7a0b}.c11{stroke:#6b7280;fill:#6b7280}\
 </style>\n";
 
-pub const SIGNS: &str = "<defs>\
+pub const SIGNS: &[u8] = b"<defs>\
 <path id=\"say\" d=\"M0 -8h8v6h-4l-3 3v-3h-1z\" fill=\"#57606a\"/>\
 <path id=\"took\" d=\"M8 -8v8l-7 -4z\" fill=\"#0550ae\"/>\
 <path id=\"sends\" d=\"M1 -8v8l7 -4z\" fill=\"#0550ae\"/>\
@@ -33,37 +33,41 @@ pub const SIGNS: &str = "<defs>\
 /// How a line is shown: what it is called, its class, and its sign.
 #[derive(Clone, Copy)]
 pub struct Style {
-    pub kind: &'static str,
-    pub class: &'static str,
-    pub sign: &'static str,
+    pub kind: &'static [u8],
+    pub class: &'static [u8],
+    pub sign: &'static [u8],
 }
 
-fn with(kind: &'static str, class: &'static str) -> Style {
-    Style {
-        kind,
-        class,
-        sign: kind,
-    }
-}
+/// Of each first word the class of its lines. They have the sign of that name.
+const KINDS: [(&[u8], &[u8]); 9] = [
+    (b"say", b"say"),
+    (b"took", b"mail"),
+    (b"sends", b"mail"),
+    (b"does", b"does"),
+    (b"done", b"done"),
+    (b"failed", b"failed"),
+    (b"drops", b"drops"),
+    (b"spent", b"drops"),
+    (b"stops", b"say"),
+];
 
 /// The look of a line by its first word.
 pub fn look_of(text: &[u8]) -> Style {
     let (word, _) = cut_at(b' ', text);
-    match word {
-        b"say" => with("say", "say"),
-        b"took" => with("took", "mail"),
-        b"sends" => with("sends", "mail"),
-        b"does" => with("does", "does"),
-        b"done" => with("done", "done"),
-        b"failed" => with("failed", "failed"),
-        b"drops" => with("drops", "drops"),
-        b"spent" => with("spent", "drops"),
-        b"stops" => with("stops", "say"),
-        _ => Style {
-            kind: "rule",
-            class: "rule",
-            sign: "",
-        },
+    for (kind, class) in &KINDS {
+        let (kind, class) = (*kind, *class);
+        if kind == word {
+            return Style {
+                kind,
+                class,
+                sign: kind,
+            };
+        }
+    }
+    Style {
+        kind: b"rule",
+        class: b"rule",
+        sign: b"",
     }
 }
 

@@ -1,7 +1,8 @@
-use Rattle.std.proofs.Common.{◌≡◌, ◌++◌, take}
-use Rattle.std.specs.List.{flat_map}
-use Rattle.chart_page.specs.Escape.{escaped}
+-- what stands for the bytes before is put
+use Rattle.std.proofs.Common.{take}
+use Rattle.kept_text.specs.Puts.{Puts}
+use Rattle.chart_page.specs.Escape.{escaped_text}
 use Rattle.chart_page.proofs.escape.put_escaped.Given as goal
 
 abbrev pub invariant-loop-byte : goal.invariant-loop-byte
-invariant-loop-byte l = l.out.items ≡ l.initial.out.items ++ flat_map escaped (take l.byte-index l.text)
+invariant-loop-byte l = Puts l.initial.out l.out (escaped_text (take l.byte-index l.text))
