@@ -1,5 +1,5 @@
 -- A trigger that is counted is small enough.
-use Rattle.std.proofs.Common.{◌≡◌, ◌≤◌, ℕ, nat_le, Bool, true, arith, subst, sym}
+use Rattle.std.proofs.Common.{◌≡◌, nat_le, true}
 use Rattle.std.proofs.lemmas.Bool.{and_parts, leb-true}
 use Rattle.asl_term.specs.Trees.{size, depth}
 use Rattle.asl_term.specs.declared.syntax.Term.TheVariants as term

@@ -1,28 +1,26 @@
 -- Variables that stand nowhere else, and what a match binds them to.
-use Rattle.std.proofs.Common.{◌≡◌, ◌≤◌, ℕ, suc, ◌+◌, Bool, true, false, ◌&&◌, ◌||◌, eqb, cond, List, [], ◌∷◌, ◌++◌, map, length}
+use Rattle.std.proofs.Common.{◌≡◌, ℕ, ◌+◌, Bool, true, false, ◌&&◌, ◌||◌, eqb, cond, List, [], ◌∷◌, ◌++◌, map, length}
 use Rattle.std.proofs.Common.{Option, Some, None, refl, sym, ap, subst, ◌∙◌, arith}
 use Rattle.std.specs.Prelude.{not}
-use Rattle.std.specs.List.{list_any}
 use Rattle.std.specs.Option.{option_map}
 use Rattle.std.specs.Str.{bytes_eq}
 use Rattle.std.proofs.lemmas.Bool.{false≢true, eqb-true}
 use Rattle.std.proofs.lemmas.List.{append-nil, length-map}
 use Rattle.std.proofs.lemmas.List.Folds.{list_any-append}
 use Rattle.asl_term.specs.Trees.{same_var as same}
-use Rattle.asl_term.specs.Variables.{any, occurs, occurs_step}
+use Rattle.asl_term.specs.Variables.{occurs, occurs_step}
 use Rattle.asl_term.specs.declared.syntax.Formula.{Formula}
 use Rattle.asl_term.specs.declared.syntax.LiteralOf.{LiteralOf}
 use Rattle.asl_term.specs.declared.syntax.Term.{Term}
 use Rattle.asl_term.specs.declared.syntax.Term.TheVariants as term
 use Rattle.asl_term.specs.declared.syntax.Term.TheOpen as layer
-use Rattle.asl_term.specs.declared.syntax.Term.TheViews.{out-Term}
 use Rattle.asl_term.specs.declared.syntax.Trigger.{Trigger}
 use Rattle.asl_term.specs.declared.syntax.Var.{Var}
 use Rattle.asl_term.proofs.Terms.{fold_var}
 use Rattle.asl_unify.specs.declared.subst.Pair.{Pair}
 use Rattle.asl_unify.specs.Applied.{put_formula, put_literal, put_trigger}
-use Rattle.asl_unify.specs.Compare.{Question, ask, asks, Move, Go, End, Outcome, Unified, Occurs, find, look, look_var, var_of, var_in}
-use Rattle.asl_unify.specs.Compare.{counted, bind, by_vars, compared, with_left, with_right, step, same_sign, same_frame, Leads, finished, goes}
+use Rattle.asl_unify.specs.Compare.{Question, ask, asks, Go, End, Unified, Occurs, find, look, look_var, var_of, var_in}
+use Rattle.asl_unify.specs.Compare.{counted, bind, by_vars, with_left, with_right, step, same_sign, same_frame, Leads, finished, goes}
 use Rattle.asl_unify.specs.Matches.{annots, matches, on_unified}
 use Rattle.asl_unify.specs.Puts.{put, only, with_pair, with_pairs, value_of, apply, IsSubst}
 use Rattle.asl_unify.specs.Turns.{apply_each, value_in}

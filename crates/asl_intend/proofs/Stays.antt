@@ -16,7 +16,6 @@ use Rattle.asl_term.specs.declared.syntax.Var.{Var}
 use Rattle.asl_unify.specs.declared.subst.Pair.{Pair}
 use Rattle.asl_unify.specs.Applied.{put_formula, put_literal, put_trigger}
 use Rattle.asl_unify.specs.Compare.{find}
-use Rattle.asl_unify.specs.Matches.{matches}
 use Rattle.asl_unify.specs.Puts.{put, value_of}
 use Rattle.asl_unify.specs.Turns.{apply_each, value_in}
 use Rattle.asl_unify.proofs.Agree.{put-agree, same-true}
@@ -29,7 +28,7 @@ use Rattle.asl_intend.specs.declared.entry.StackEntry.{StackEntry}
 use Rattle.asl_intend.specs.Apart.{bound_to, in_pair, in_pairs, in_levels, stands_apart}
 use Rattle.asl_intend.specs.Entries.{seen, seen_first}
 use Rattle.asl_intend.specs.GoalMatches.{first_of, first_found}
-use Rattle.asl_intend.specs.Means.{put_means, applied_means}
+use Rattle.asl_intend.specs.Means.{put_means}
 use Rattle.asl_intend.specs.Stacks.{bound}
 use Rattle.asl_intend.specs.Untouched.{binds, some_binds, stands_bound, some_stands, are_disjoint, pushed_first, LeavesEntry, StaysUnder, bound_each}
 use Rattle.asl_intend.proofs.Logs.{map_joined}

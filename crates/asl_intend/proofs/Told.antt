@@ -1,5 +1,5 @@
 -- What is told of a trigger, with what is put into it.
-use Rattle.std.proofs.Common.{◌≡◌, ◌∙◌, List, [], ◌∷◌, ◌++◌, map, drop, refl, sym, ap, false}
+use Rattle.std.proofs.Common.{◌≡◌, List, [], ◌∷◌, ◌++◌, map, drop, refl, sym, ap, false}
 use Rattle.std.proofs.lemmas.List.{length-map}
 use Rattle.asl_term.specs.declared.syntax.Term.{Term}
 use Rattle.asl_term.specs.declared.syntax.Trigger.{Trigger}

@@ -1,5 +1,5 @@
 -- The trigger of an event, into which substitutions are still to be put where it is large.
-use Rattle.std.specs.Prelude.{◌≡◌, false, List, [], ◌∷◌, length}
+use Rattle.std.specs.Prelude.{◌≡◌, false, [], ◌∷◌, length}
 use Rattle.asl_term.specs.declared.syntax.Var.{Var}
 use Rattle.asl_term.specs.declared.syntax.LiteralOf.{LiteralOf}
 use Rattle.asl_term.specs.declared.syntax.Term.{Term}

@@ -12,7 +12,7 @@ use asl_term_queue::queue::Queue;
 use std::alloc::Global;
 
 /// Why a goal failed.
-#[derive(Clone, Copy, Debug, PartialEq, Eq, Drop)]
+#[derive(Clone, Copy, PartialEq, Eq, Drop)]
 pub enum Error {
     NoRelevant,
     NoApplicable,

@@ -162,8 +162,7 @@ fn stays_apart(alloc: Global, m: &Means, e: &StackEntry, rest: Later<'_>) -> Res
     if !stands_apart(&m.trigger.lit, &e.trigger.lit, e.own.pairs(), rest) {
         return Ok(false);
     }
-    let stays = leaves(alloc, m, &e.own, rest)?;
-    Ok(stays)
+    leaves(alloc, m, &e.own, rest)
 }
 
 /// An entry of means with a substitution.

@@ -276,10 +276,7 @@ impl Stack {
         let found = entry_under(alloc, m, e, log)?;
         match found {
             None => Ok(false),
-            Some(entry) => {
-                let done = self.put_over(alloc, entry, log)?;
-                Ok(done)
-            }
+            Some(entry) => self.put_over(alloc, entry, log),
         }
     }
 
@@ -296,8 +293,7 @@ impl Stack {
                 if e.since > log.len() {
                     return Ok(false);
                 }
-                let done = self.push_under(alloc, m, e, log)?;
-                Ok(done)
+                self.push_under(alloc, m, e, log)
             }
         }
     }
@@ -312,8 +308,7 @@ impl Stack {
         ensures stays { IfOk result (λ r. r ≡ false → self.new ≡ self.old) }
     {
         let entry = kept_entry(alloc, e)?;
-        let done = self.put_over(alloc, entry, log)?;
-        Ok(done)
+        self.put_over(alloc, entry, log)
     }
 
     /// The same for the trigger of an event. False where it is built, too.
@@ -327,8 +322,7 @@ impl Stack {
                 if e.since > log.len() {
                     return Ok(false);
                 }
-                let done = self.push_bare_under(alloc, e, log)?;
-                Ok(done)
+                self.push_bare_under(alloc, e, log)
             }
         }
     }

@@ -1,9 +1,8 @@
-use Rattle.std.proofs.Common.{rules, ◌∙◌, ◌≡◌, ◌∷◌, [], ap, sym, subst, map, reverse, true}
+use Rattle.std.proofs.Common.{rules, ◌∙◌, ◌≡◌, ◌∷◌, [], ap, sym, subst, map, true}
 use Rattle.std.proofs.lemmas.Result.{IfOk-weaker}
 use Rattle.std.specs.List.{AllByRecursion}
 use Rattle.asl_unify.specs.Logs.{later}
 use Rattle.asl_unify.specs.Turns.{value_in}
-use Rattle.asl_intend.specs.Entries.{seen}
 use Rattle.asl_intend.specs.Means.{put_means}
 use Rattle.asl_intend.specs.Untouched.{are_disjoint, LeavesEntry}
 use Rattle.asl_intend.proofs.Stays.{stack_left}
