@@ -6,7 +6,7 @@ use asl_term::sequence::Seq;
 
 /// A row of a step. A step asks its rows in this order, but for ClrLimit, which it asks before ClrInt2, and for those of
 /// an internal action: IaBig, IaSpent, IaFail, AskOut, IaGone, IaOk. The first whose condition holds applies.
-#[derive(Clone, Copy, Debug, PartialEq, Eq, Drop)]
+#[derive(Clone, Copy, Drop)]
 pub enum Row {
     Percept0,
     Percept1,
@@ -73,7 +73,7 @@ pub enum Row {
 }
 
 /// Why a stack failed, and what became of it.
-#[derive(Clone, Copy, Debug, PartialEq, Eq, Drop)]
+#[derive(Clone, Copy, Drop)]
 pub struct Fall {
     pub error: Error,
     pub fell: Fell,

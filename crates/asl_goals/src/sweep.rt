@@ -19,7 +19,7 @@ use std::alloc::Global;
 use std::mem;
 
 /// What becomes of the lowest means of the goal: it ends as if its body were empty, or it fails.
-#[derive(Clone, Copy, Debug, PartialEq, Eq, Drop)]
+#[derive(Clone, Copy, Drop)]
 pub enum Way {
     Succeed,
     Fail,

@@ -6,7 +6,7 @@ ghost use Rattle.asl_lexer.specs.Spelling as spelling;
 ghost use Rattle.asl_lexer.specs.Scan as scan;
 
 /// What stands at the front that is no token.
-#[derive(Clone, Copy, Debug, PartialEq, Eq)]
+#[derive(Clone, Copy, Drop)]
 pub enum Blank {
     None,
     /// A blank byte or a comment of so many bytes.

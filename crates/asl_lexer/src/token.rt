@@ -33,7 +33,7 @@ pub struct Tok {
 pub type Toks = Seq<Tok>;
 
 /// Where a byte stands: how many bytes are before it, and its line and column, counted from 1.
-#[derive(Clone, Copy, Debug, PartialEq, Eq, Drop)]
+#[derive(Clone, Copy, Drop)]
 pub struct Place {
     pub at: u64,
     pub line: u64,
@@ -41,7 +41,7 @@ pub struct Place {
 }
 
 /// Why bytes have no tokens. Each place counts from 0.
-#[derive(Clone, Copy, Debug, PartialEq, Eq, Drop)]
+#[derive(Clone, Copy, Debug, Drop)]
 pub enum LexFault {
     Memory,
     /// A byte that stands in no token: in a string a control byte, or a backslash that escapes nothing.

@@ -53,7 +53,7 @@ pub fn tests(alloc: Global, plans: &[Plan], g: &Literal) -> Result<bool, Starved
 }
 
 /// The agents whose plans have to be for a goal that is sent.
-#[derive(Clone, Copy, Debug, Drop)]
+#[derive(Clone, Copy, Drop)]
 pub enum Receivers {
     All,
     One(u32),

@@ -13,7 +13,7 @@ use std::alloc::Global;
 pub type AgentTexts = Seq<AgentText>;
 
 /// The first goal or item that fails, with the number of its agent and its place there, counted from 1.
-#[derive(Clone, Copy, Debug, PartialEq, Eq, Drop)]
+#[derive(Clone, Copy, Drop)]
 pub enum Verdict {
     Yes,
     Goal { agent: u32, goal: u64 },

@@ -5,7 +5,7 @@ use asl_term::sequence::Seq;
 use asl_term::syntax::{Clause, Formula, Formulas, Literal, Plan, Trigger};
 
 /// The signs of the items of a body.
-#[derive(Clone, Copy, Debug, PartialEq, Eq, Drop)]
+#[derive(Clone, Copy, Drop)]
 pub enum ItemSign {
     Achieve,
     Spawn,

@@ -6,7 +6,7 @@ use asl_lexer::token::LexFault;
 use asl_term::sequence::Starved;
 
 /// Why a source is refused. Clauses are counted from 1.
-#[derive(Clone, Copy, Debug, PartialEq, Eq, Drop)]
+#[derive(Clone, Copy, Debug, Drop)]
 pub enum TextFault {
     Memory,
     /// It has no tokens.

@@ -11,7 +11,7 @@ pub enum Bounded<T, L> {
 }
 
 /// What is still asked of an expression that is past the limits, since a clause may yet be none.
-#[derive(Clone, Copy, Debug, PartialEq, Eq, Drop)]
+#[derive(Clone, Copy, Drop)]
 pub struct Outline {
     /// It may stand as a term.
     pub term: bool,

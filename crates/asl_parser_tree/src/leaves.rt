@@ -15,7 +15,7 @@ use asl_term::syntax::{Op, RelOp, Term, Text, Var};
 use std::alloc::Global;
 
 /// A level of operators of one strength, which associate to the left.
-#[derive(Clone, Copy, Debug, PartialEq, Eq, Drop)]
+#[derive(Clone, Copy, Drop)]
 pub enum OperatorLevel {
     Or,
     And,
@@ -24,14 +24,14 @@ pub enum OperatorLevel {
 }
 
 /// Brackets.
-#[derive(Clone, Copy, Debug, PartialEq, Eq, Drop)]
+#[derive(Clone, Copy, Drop)]
 pub enum BracketShape {
     Round,
     Square,
 }
 
 /// How a primary begins.
-#[derive(Clone, Copy, Debug, PartialEq, Eq, Drop)]
+#[derive(Clone, Copy, Drop)]
 pub enum Start {
     /// `(`
     Bracket,

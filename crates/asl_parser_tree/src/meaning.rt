@@ -28,7 +28,7 @@ pub enum Meaning {
 }
 
 /// What stands between two operands of one level.
-#[derive(Clone, Copy, Debug, PartialEq, Eq, Drop)]
+#[derive(Clone, Copy, Drop)]
 pub enum Joint {
     Or,
     And,
@@ -36,7 +36,7 @@ pub enum Joint {
 }
 
 /// What stands before an operand.
-#[derive(Clone, Copy, Debug, PartialEq, Eq, Drop)]
+#[derive(Clone, Copy, Drop)]
 pub enum Prefix {
     Not,
     Minus,

@@ -3,7 +3,7 @@
 use asl_term::syntax::Text;
 
 /// Which piece comes.
-#[derive(Clone, Copy, Debug, PartialEq, Eq, Drop)]
+#[derive(Clone, Copy, Drop)]
 pub enum NextPiece {
     /// The name of the project.
     Title,
