@@ -13,7 +13,7 @@ use std::alloc::Global;
 use std::marker::Model;
 
 /// Where an agent is: between two cycles, in one, or gone.
-#[derive(Clone, Copy, Debug, PartialEq, Eq, Drop)]
+#[derive(Clone, Copy, Drop)]
 pub enum Phase {
     Idle,
     Busy,
@@ -22,7 +22,7 @@ pub enum Phase {
 
 /// An agent's place on the board: its phase, how many cycles it has begun, the version at which it was quiet
 /// last (where its last cycle was quiet), and the version that it met at its last Sense.
-#[derive(Clone, Copy, Debug, PartialEq, Eq, Drop)]
+#[derive(Clone, Copy, Drop)]
 pub struct AgentPlace {
     pub phase: Phase,
     pub cycle: u64,

@@ -34,7 +34,7 @@ impl Drop for Shown {
 }
 
 /// How far a list goes: it is whole; or more states were met than were to be followed; or no run was found with the outcome of a state at rest.
-#[derive(Clone, Copy, Debug, PartialEq, Eq, Drop)]
+#[derive(Clone, Copy, Drop)]
 pub enum Extent {
     All,
     Bound,

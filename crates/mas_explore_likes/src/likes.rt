@@ -37,7 +37,7 @@ impl<M: Likened> Drop for MetMind<M> {
 }
 
 /// The mind of this number, in a view.
-#[derive(Clone, Copy, Debug, PartialEq, Eq, Drop)]
+#[derive(Clone, Copy, PartialEq, Eq, Drop)]
 pub struct Liking {
     pub mind: u64,
     pub view: View,
@@ -54,7 +54,7 @@ impl Known for Liking {
 }
 
 /// The number of a mind that stands for all that are alike, and how many cycles it made at most.
-#[derive(Clone, Copy, Debug, PartialEq, Eq, Drop)]
+#[derive(Clone, Copy, Drop)]
 pub struct Settled {
     pub mind: u64,
     pub most: u64,

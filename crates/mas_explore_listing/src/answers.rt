@@ -8,7 +8,7 @@ use asl_term::syntax::Text;
 use mas_explore::listing::{Extent, Listing, Shown};
 
 /// What is claimed of a line: no outcome has it, or each has.
-#[derive(Clone, Copy, Debug, PartialEq, Eq, Drop)]
+#[derive(Clone, Copy, Drop)]
 pub enum Claim {
     Never,
     Always,
@@ -23,7 +23,7 @@ pub struct Question {
 
 /// The claim holds for all runs; the outcome at this place of the list speaks against it, and none before it; or none speaks against it, and the list is
 /// not whole.
-#[derive(Clone, Copy, Debug, PartialEq, Eq, Drop)]
+#[derive(Clone, Copy, Drop)]
 pub enum Answer {
     Holds,
     Fails(u64),

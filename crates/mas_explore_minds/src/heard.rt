@@ -5,7 +5,7 @@ use mas_explore_tables::table::Known;
 use mas_mind::mind::Feedback;
 
 /// What befalls a mind: a cycle on percepts and the oldest message of a box, or it is told what became of its action.
-#[derive(Clone, Copy, Debug, PartialEq, Eq, Drop)]
+#[derive(Clone, Copy, PartialEq, Eq, Drop)]
 pub enum Heard {
     Given { sight: u64, front: u64 },
     Told(Feedback),
@@ -26,7 +26,7 @@ impl Known for Heard {
 }
 
 /// A cycle of a mind, on percepts and the oldest message of a box.
-#[derive(Clone, Copy, Debug, PartialEq, Eq, Drop)]
+#[derive(Clone, Copy, PartialEq, Eq, Drop)]
 pub struct Cycle {
     pub mind: u64,
     pub sight: u64,
@@ -44,7 +44,7 @@ impl Known for Cycle {
 }
 
 /// What comes of a cycle: nothing, where it was quiet and there was no message; else a mind and a thought.
-#[derive(Clone, Copy, Debug, PartialEq, Eq, Drop)]
+#[derive(Clone, Copy, Drop)]
 pub enum Thinking {
     Nothing,
     Led { mind: u64, thought: u64 },

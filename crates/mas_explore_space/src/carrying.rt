@@ -115,7 +115,7 @@ fn tell<M: Mind, A: Artifact, F: Fresh<M> + FreshWorld<A>>(
 }
 
 /// The numbers of a world and a mind.
-#[derive(Clone, Copy, Debug, PartialEq, Eq, Drop)]
+#[derive(Clone, Copy, Drop)]
 struct Both {
     world: u64,
     mind: u64,

@@ -15,7 +15,7 @@ use mas_world::artifact::Artifact;
 use std::alloc::Global;
 
 /// The world of this number, as the agent of this number sees it.
-#[derive(Clone, Copy, Debug, PartialEq, Eq, Drop)]
+#[derive(Clone, Copy, PartialEq, Eq, Drop)]
 pub struct Seeing {
     pub world: u64,
     pub agent: u32,
@@ -32,7 +32,7 @@ impl Known for Seeing {
 }
 
 /// The action of the thought of this number, of an agent, on a world.
-#[derive(Clone, Copy, Debug, PartialEq, Eq, Drop)]
+#[derive(Clone, Copy, PartialEq, Eq, Drop)]
 pub struct Acting {
     pub world: u64,
     pub agent: u32,

@@ -13,7 +13,7 @@ use mas_mind::mind::{Feedback, Messages, Thought};
 use std::alloc::Global;
 
 /// What a board holds of an agent: the version that it met at its last Sense, and whether it was quiet then.
-#[derive(Clone, Copy, Debug, PartialEq, Eq, Drop)]
+#[derive(Clone, Copy, Drop)]
 struct Mark {
     met: u64,
     quiet: bool,

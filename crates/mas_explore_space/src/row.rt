@@ -10,7 +10,7 @@ use mas_mind::mind::End;
 use std::alloc::Global;
 
 /// What an agent does next: a cycle; it carries out the outs of the thought of this number; it leaves, since its budget was spent; nothing.
-#[derive(Clone, Copy, Debug, PartialEq, Eq, Drop)]
+#[derive(Clone, Copy, PartialEq, Eq, Drop)]
 pub enum Stance {
     Idle,
     Busy(u64),
@@ -19,7 +19,7 @@ pub enum Stance {
 }
 
 /// The numbers of an agent's mind and of its box, and what it does next.
-#[derive(Clone, Copy, Debug, PartialEq, Eq, Drop)]
+#[derive(Clone, Copy, PartialEq, Eq, Drop)]
 pub struct Seat {
     pub mind: u64,
     pub mail: u64,

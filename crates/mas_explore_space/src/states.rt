@@ -31,7 +31,7 @@ use std::alloc::Global;
 use std::marker::{Model, PhantomData};
 
 /// From which state, and by the move of which agent, a state was met first.
-#[derive(Clone, Copy, Debug, PartialEq, Eq, Drop)]
+#[derive(Clone, Copy, Drop)]
 pub struct Came {
     pub from: u64,
     pub agent: u32,

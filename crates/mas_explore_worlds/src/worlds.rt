@@ -117,7 +117,7 @@ pub fn percepts_in<A: Artifact, F: FreshWorld<A>>(
 }
 
 /// What the world did, and the number of the world after it.
-#[derive(Clone, Copy, Debug, PartialEq, Eq, Drop)]
+#[derive(Clone, Copy, Drop)]
 pub struct Acted {
     pub world: u64,
     pub feedback: Feedback,

@@ -4,7 +4,7 @@ ghost use Rattle.std.specs.Prelude.{◌≤◌, ◌<◌, List, Option, ℕ, lengt
 ghost use Rattle.mas_io.specs.Sink.{PutFits};
 
 /// What became of a piece: how many of its bytes were taken, from the first on.
-#[derive(Clone, Copy, Debug, PartialEq, Eq)]
+#[derive(Clone, Copy, PartialEq, Eq)]
 pub enum Put {
     Took(usize),
     Failed,

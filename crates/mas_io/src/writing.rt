@@ -8,7 +8,7 @@ ghost use Rattle.mas_io.specs.Writing.{IsCut};
 use crate::sink::{Put, Sink};
 
 /// A put failed.
-#[derive(Clone, Copy, Debug, PartialEq, Eq)]
+#[derive(Clone, Copy)]
 pub struct NotWritten;
 
 /// Puts until all is taken. After an error a prefix is written.

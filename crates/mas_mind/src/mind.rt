@@ -7,7 +7,7 @@ use asl_term::sequence::Seq;
 use asl_term::syntax::{Literal, Literals, Term};
 
 /// What a message asks of its receiver.
-#[derive(Clone, Copy, Debug, PartialEq, Eq, Drop)]
+#[derive(Clone, Copy, PartialEq, Eq, Drop)]
 pub enum Verb {
     Tell,
     Untell,
@@ -89,14 +89,14 @@ pub enum Thought {
 }
 
 /// What became of an action: whether the world did it.
-#[derive(Clone, Copy, Debug, PartialEq, Eq, Drop)]
+#[derive(Clone, Copy, PartialEq, Eq, Drop)]
 pub enum Feedback {
     Done,
     Failed,
 }
 
 /// How an agent's part in a run ended.
-#[derive(Clone, Copy, Debug, PartialEq, Eq, Drop)]
+#[derive(Clone, Copy, Drop)]
 pub enum End {
     Quiet,
     Stopped,
@@ -105,7 +105,7 @@ pub enum End {
 }
 
 /// Which lines a trace shows.
-#[derive(Clone, Copy, Debug, PartialEq, Eq, Drop)]
+#[derive(Clone, Copy, PartialEq, Eq, Drop)]
 pub enum Level {
     Say,
     Acts,

@@ -8,7 +8,7 @@ use asl_term::sequence::Starved;
 use asl_term::syntax::Text;
 
 /// Why a call of a disk was refused: want of memory, or a fault of the disk.
-#[derive(Clone, Copy, Debug, PartialEq, Eq, Drop)]
+#[derive(Clone, Copy, Drop)]
 pub enum DiskFail {
     Memory,
     Failed,
@@ -25,7 +25,7 @@ impl From<Starved> for DiskFail {
 }
 
 /// Whether there is a file to be read and written.
-#[derive(Clone, Copy, Debug, PartialEq, Eq, Drop)]
+#[derive(Clone, Copy, Drop)]
 pub enum Picked {
     Ready,
     Missing,

@@ -5,7 +5,7 @@ use mas_record_disk::disk::DiskFail;
 
 /// Why no journal was opened: want of memory, a fault of the disk, a file that does not begin as a journal, or one of too
 /// many bytes.
-#[derive(Clone, Copy, Debug, PartialEq, Eq, Drop)]
+#[derive(Clone, Copy, Drop)]
 pub enum BackWhy {
     Memory,
     Failed,

@@ -8,7 +8,7 @@ use mas_world::artifact::Artifact;
 
 /// Why a run was not recorded to its end: want of memory, or a fault of the disk; there is no such file, it does not begin as
 /// a journal, or it has too many bytes; or at this place, counted from 1, stands the first of its turns that is none.
-#[derive(Clone, Copy, Debug, PartialEq, Eq, Drop)]
+#[derive(Clone, Copy, PartialEq, Eq, Drop)]
 pub enum RecordFault {
     Memory,
     Disk,

@@ -8,7 +8,7 @@ use mas_mind::mind::Level;
 
 /// The cycles of each agent, by how many cycles one may be ahead of another, the rules one inside another
 /// and the tries of one search, and which lines a trace shows.
-#[derive(Clone, Copy, Debug, PartialEq, Eq)]
+#[derive(Clone, Copy)]
 pub struct Options {
     pub cycles: u64,
     pub lead: u64,

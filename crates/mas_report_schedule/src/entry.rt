@@ -9,7 +9,7 @@ use asl_term::syntax::{Numbers, Text};
 use std::alloc::Global;
 
 /// The number of an agent, so many times one after the other: written `A` for once, and `AxK` for K times.
-#[derive(Clone, Copy, Debug, PartialEq, Eq)]
+#[derive(Clone, Copy)]
 pub struct ScheduleEntry {
     pub agent: u64,
     pub times: u64,

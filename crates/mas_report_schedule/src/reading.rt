@@ -16,7 +16,7 @@ const MOST_NUMBERS: u64 = 5_000_000;
 const MOST_AGENT: u64 = 65_535;
 
 /// Why bytes are no schedule: the number of the first line that is not as it has to be, if memory did not lack.
-#[derive(Clone, Copy, Debug, PartialEq, Eq, Drop)]
+#[derive(Clone, Copy, Debug, Drop)]
 pub enum LineFault {
     Memory,
     BadLine(u64),

@@ -39,7 +39,7 @@ pub enum How<'a> {
 }
 
 /// Why bytes are no schedule along which a source is run to its end.
-#[derive(Clone, Copy, Debug, PartialEq, Eq, Drop)]
+#[derive(Clone, Copy, Drop)]
 pub enum ScheduleFault {
     Line(LineFault),
     Play(PlayFault),

@@ -41,7 +41,7 @@ pub enum Reason {
 
 /// What passes a limit: the bytes of a file, the trees of a clause, the agents of a project, or the cycles that they may
 /// make together.
-#[derive(Clone, Copy, Debug, PartialEq, Eq, Drop)]
+#[derive(Clone, Copy, Drop)]
 pub enum What {
     File,
     Clause,
