@@ -21,13 +21,25 @@ pub enum TokKind {
 /// A token. Of a string the text is its content, with the escapes resolved; of an Inner its name without the
 /// dot; of the others the bytes as they stand. Its place counts from 0, line and column from 1, and a column
 /// counts bytes.
-#[derive(Drop)]
 pub struct Tok {
     pub kind: TokKind,
     pub text: Text,
     pub at: u64,
     pub line: u64,
     pub column: u64,
+}
+
+/// By hand, so that a crate above that lets one go proves nothing of its parts.
+impl Drop for Tok {
+    fn drop(self) {
+        let Tok {
+            kind: _,
+            text: _,
+            at: _,
+            line: _,
+            column: _,
+        } = self;
+    }
 }
 
 pub type Toks = Seq<Tok>;
