@@ -11,12 +11,24 @@ use asl_term::sequence::{Seq, Starved};
 use asl_term::syntax::{Literal, Literals, Text};
 use std::alloc::Global;
 
-/// What an act that acts takes away and adds, and the names of the artifacts that it drops.
+/// What an act that acts takes away and adds, and the names of the artifacts that it drops. The names come out as the deed is carried out, so that nothing
+/// is dropped before.
 #[derive(Drop)]
 pub struct Deed {
-    pub dels: Literals,
-    pub adds: Literals,
-    pub drops: Seq<Text>,
+    dels: Literals,
+    adds: Literals,
+    drops: Seq<Text>,
+}
+
+impl Deed {
+    /// A deed of these parts.
+    pub fn of(dels: Literals, adds: Literals, drops: Seq<Text>) -> Deed
+        ensures dels { result.dels ≡ dels }
+        ensures adds { result.adds ≡ adds }
+        ensures drops { result.drops ≡ drops }
+    {
+        Deed { dels, adds, drops }
+    }
 }
 
 fn same_fact(f: &Literal, g: &Literal) -> bool
@@ -93,7 +105,7 @@ fn take_away(facts: &mut Literals, n: u64, dels: &[Literal])
 }
 
 /// The facts become what they are after the deed; where memory is wanting they stay.
-pub fn carry_out(alloc: Global, facts: &mut Literals, deed: &Deed) -> Result<(), Starved>
+fn change(alloc: Global, facts: &mut Literals, deed: &Deed) -> Result<(), Starved>
     ensures ok { OnOk result (facts.new ≡ acts.done deed.now facts.old) }
     ensures err { OnErr result (facts.new ≡ facts.old) }
 {
@@ -102,4 +114,23 @@ pub fn carry_out(alloc: Global, facts: &mut Literals, deed: &Deed) -> Result<(),
     facts.append_all(new)?;
     take_away(facts, n, deed.dels.as_slice());
     Ok(())
+}
+
+/// The facts become what they are after the deed, and the names of the artifacts that it drops come out; where memory is wanting the facts stay.
+pub fn carry_out(alloc: Global, facts: &mut Literals, deed: Deed) -> Result<Seq<Text>, Starved>
+    ensures ok { OnOk result (facts.new ≡ acts.done deed facts.old) }
+    ensures drops { IfOk result (λ names. names ≡ deed.drops) }
+    ensures err { OnErr result (facts.new ≡ facts.old) }
+{
+    let changed = change(alloc, facts, &deed);
+    let Deed { dels, adds, drops } = deed;
+    drop(dels);
+    drop(adds);
+    match changed {
+        Ok(()) => Ok(drops),
+        Err(starved) => {
+            drop(drops);
+            Err(starved)
+        }
+    }
 }

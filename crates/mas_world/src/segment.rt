@@ -73,10 +73,11 @@ impl Segment {
         )
     }
 
-    /// The facts become what they are after the deed; where memory is wanting they stay.
-    pub fn carry_out(&mut self, alloc: Global, deed: &Deed) -> Result<(), Starved>
-        requires { ArePlain deed.now.adds }
-        ensures ok { OnOk result (self.new ≡ spec.segment self.old.acts (acts.done deed.now self.old.facts)) }
+    /// The facts become what they are after the deed, and the names of the artifacts that it drops come out; where memory is wanting the facts stay.
+    pub fn carry_out(&mut self, alloc: Global, deed: Deed) -> Result<Seq<Text>, Starved>
+        requires { ArePlain deed.adds }
+        ensures ok { OnOk result (self.new ≡ spec.segment self.old.acts (acts.done deed self.old.facts)) }
+        ensures drops { IfOk result (λ names. names ≡ deed.drops) }
         ensures err { OnErr result (self.new ≡ self.old) }
     {
         carry_out(alloc, &mut self.facts, deed)
@@ -95,9 +96,8 @@ impl Segment {
         let Some(deed) = self.decided(alloc, agent, action)? else {
             return Ok(Feedback::Failed);
         };
-        let done = self.carry_out(alloc, &deed);
-        drop(deed);
-        done?;
+        let names = self.carry_out(alloc, deed)?;
+        drop(names);
         Ok(Feedback::Done)
     }
 

@@ -118,7 +118,7 @@ fn deed(alloc: Global, a: &Act, s: &Subst) -> Result<Option<Deed>, Starved>
     let Some(adds) = effects(alloc, a.adds.as_slice(), s)? else {
         return Ok(None);
     };
-    Ok(Some(Deed { dels, adds, drops }))
+    Ok(Some(Deed::of(dels, adds, drops)))
 }
 
 /// What the act does on these facts, if it acts.

@@ -192,9 +192,9 @@ impl<A: Artifact> World<A> {
         let Some(deed) = self.file.decided(alloc, agent, action)? else {
             return self.used.act(alloc, agent, action);
         };
-        self.file.carry_out(alloc, &deed)?;
-        self.used.drop_all(deed.drops.as_slice());
-        drop(deed);
+        let names = self.file.carry_out(alloc, deed)?;
+        self.used.drop_all(names.as_slice());
+        drop(names);
         Ok(Feedback::Done)
     }
 
