@@ -22,7 +22,7 @@ use Rattle.asl_plans.specs.declared.entry.OwnedPlan.{OwnedPlan}
 use Rattle.asl_plans.specs.declared.library.Choice.{Choice}
 use Rattle.asl_plans.specs.FiledPlaces.{filed_plans, has_trigger, is_filed}
 use Rattle.asl_plans.specs.Libraries.{plan_at}
-use Rattle.asl_plans.specs.Plans.{first_way, kept, relevant_from, ways}
+use Rattle.asl_plans.specs.Plans.{first_way, kept, relevant_from}
 use Rattle.asl_plans.proofs.Chosen.{filed_ways, no_way}
 use Rattle.asl_plans.proofs.FiledPlans.{passes}
 use Rattle.asl_intend.specs.declared.agenda.Event.{Event}

@@ -42,7 +42,7 @@ use Rattle.asl_cycle.specs.declared.config.Applied.TheVariants as applied
 use Rattle.asl_cycle.specs.declared.config.After.{After}
 use Rattle.asl_cycle.specs.declared.config.After.TheVariants as after
 use Rattle.asl_cycle.specs.Steps as step
-use Rattle.asl_cycle.specs.Steps.{Stepped, written}
+use Rattle.asl_cycle.specs.Steps.{written}
 use Rattle.asl_cycle.specs.Cycle as spec
 use Rattle.asl_cycle.specs.Turns.{Left, TakesTurns, CyclesTakeTurns, OthersStay, CyclesKeepOthers, dropped_by_message, dropped_by_head, dropped_by_first}
 use Rattle.asl_cycle.specs.inner.Acting.{IsSound, falls, clear_back, exec_running, exec_sound}

@@ -72,9 +72,6 @@ call_send h s = search (sendable, seq_send, arg_send) depth 12
 expr_field_send : IsSend (expr.the_field).row
 expr_field_send = search (sendable, send-Expr, term_send, literal.the_field_send, relation_field_send, call_send, boxed_send)
 
-trigger_send : IsSend trigger.the_row
-trigger_send = search (sendable, as_row_send, kind.the_field_send, literal.the_field_send, literal.the_send, term_send) depth 12
-
 trigger_field_send : IsSend (trigger.the_field).row
 trigger_field_send = search (sendable, as_row_send, kind.the_field_send, literal.the_field_send, literal.the_send, term_send, term_field_send) depth 12
 

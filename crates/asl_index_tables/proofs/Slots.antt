@@ -1,10 +1,10 @@
 -- Where things stand in slots, and what a change of one slot makes of them.
-use Rattle.std.proofs.Common.{◌≡◌, ◌≤◌, ◌<◌, ℕ, zero, suc, ◌+◌, ◌-◌, ◌||◌, Bool, true, false, List, [], ◌∷◌, ◌++◌, map, length, take, drop, Option, Some, None, cond, refl, ap, sym, ◌∙◌, subst, arith}
+use Rattle.std.proofs.Common.{◌≡◌, ◌≤◌, ◌<◌, ℕ, zero, suc, ◌+◌, ◌-◌, Bool, true, false, List, [], ◌∷◌, ◌++◌, map, length, take, drop, Option, Some, None, cond, refl, ap, sym, ◌∙◌, subst, arith}
 use Rattle.std.specs.Prelude.{◌==◌, option_to_list}
-use Rattle.std.specs.List.{slice_get, slice_set, filter, list_any}
-use Rattle.std.proofs.lemmas.Bool.{false≢true, true≢false, eqb-true, eq-eqb}
+use Rattle.std.specs.List.{slice_get, slice_set, filter}
+use Rattle.std.proofs.lemmas.Bool.{eqb-true, eq-eqb}
 use Rattle.asl_index_tables.specs.Frames.{without}
-use Rattle.asl_index_tables.specs.Slots.{kept, packed, places, content, at_slot, rank}
+use Rattle.asl_index_tables.specs.Slots.{kept, places, at_slot, rank}
 
 -- the k-th of those that pass a test, and its slot
 pub record IsNth {A : Type 0} (test : A → Bool) (s : List (Option A)) (k i : ℕ) : Type 0 where

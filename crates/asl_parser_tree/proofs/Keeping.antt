@@ -14,7 +14,6 @@ use Rattle.asl_term.specs.declared.syntax.Term.TheVariants as term
 use Rattle.asl_term.specs.declared.syntax.Expr.{Expr}
 use Rattle.asl_term.specs.declared.syntax.Expr.TheVariants as expr
 use Rattle.asl_term.specs.Trees as tree
-use Rattle.asl_term.specs.Trees.{all, or_true}
 use Rattle.asl_term.specs.Exprs as exprs
 use Rattle.asl_term.proofs.Terms.{fold_num, fold_str, fold_var, fold_lit, fold_list, fold_op}
 use Rattle.asl_term.proofs.Exprs.{fold_true, fold_false, fold_holds, fold_rel, fold_inner, fold_not, fold_and, fold_or}
@@ -26,8 +25,8 @@ use Rattle.asl_parser_tree.specs.declared.meaning.Prefix.{Prefix}
 use Rattle.asl_parser_tree.specs.declared.meaning.Prefix.TheVariants as prefix
 use Rattle.asl_parser_tree.specs.declared.bounded.Bounded.TheVariants.{Within, Past}
 use Rattle.asl_parser_tree.specs.declared.bounded.Outline.{Outline}
-use Rattle.asl_parser_tree.specs.Meanings.{◌>>=◌, arith as op_of, either_of, both_of, is_pure, is_deed, wants_formula}
-use Rattle.asl_parser_tree.specs.Meanings.{joined as true_joined, compared as true_compared, prefixed as true_prefixed, called as true_called, as_terms as true_terms, as_args as true_args}
+use Rattle.asl_parser_tree.specs.Meanings.{◌>>=◌, arith as op_of, either_of, both_of, is_pure}
+use Rattle.asl_parser_tree.specs.Meanings.{joined as true_joined, compared as true_compared, prefixed as true_prefixed}
 use Rattle.asl_parser_tree.specs.Meanings as meanings
 use Rattle.asl_parser_tree.specs.Leaves.{variable}
 use Rattle.asl_parser_tree.specs.Limits.{within_term, within_literal, within_expr}

@@ -1,7 +1,6 @@
 -- Arguments that tell by themselves what a step of their comparison does.
 use Rattle.std.proofs.Common.{◌≡◌, ℕ, zero, suc, Bool, true, List, [], ◌∷◌, ◌++◌, map, drop, Option, Some, None, cond, refl, sym, ap, ◌∙◌, ◌≤◌, length, append_assoc, arith}
 use Rattle.std.specs.List.{slice_get}
-use Rattle.std.specs.Ordering.{int_eq}
 use Rattle.std.proofs.lemmas.Bool.{false≢true}
 use Rattle.asl_term.specs.declared.syntax.Var.{Var}
 use Rattle.asl_term.specs.declared.syntax.Term.{Term}

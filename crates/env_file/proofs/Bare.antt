@@ -1,5 +1,5 @@
 -- What a clause says has no annotations.
-use Rattle.std.proofs.Common.{◌≡◌, ℕ, suc, ℤ, pos, Bool, true, false, ◌&&◌, ◌||◌, cond, List, [], ◌∷◌, ◌++◌, map, length, Option, Some, None, refl, sym, ap, subst, ◌∙◌}
+use Rattle.std.proofs.Common.{◌≡◌, ℕ, pos, Bool, true, false, ◌&&◌, ◌||◌, cond, List, [], ◌∷◌, ◌++◌, map, length, Option, Some, None, refl, sym, ap, subst, ◌∙◌}
 use Rattle.std.specs.List.{list_all}
 use Rattle.std.specs.Option.{option_map}
 use Rattle.asl_lexer.specs.declared.token.Sign.TheVariants as sign
@@ -9,7 +9,6 @@ use Rattle.asl_term.specs.declared.syntax.RelOp.{RelOp}
 use Rattle.asl_term.specs.declared.syntax.Relation.{Relation}
 use Rattle.asl_term.specs.declared.syntax.LiteralOf.{LiteralOf}
 use Rattle.asl_term.specs.declared.syntax.ListingOf.{ListingOf}
-use Rattle.asl_term.specs.declared.syntax.CallOf.{CallOf}
 use Rattle.asl_term.specs.declared.syntax.Term.{Term}
 use Rattle.asl_term.specs.declared.syntax.Term.TheVariants as term
 use Rattle.asl_term.specs.declared.syntax.Expr.{Expr}
@@ -25,21 +24,19 @@ use Rattle.asl_parser_tree.specs.declared.meaning.Joint.{Joint}
 use Rattle.asl_parser_tree.specs.declared.meaning.Joint.TheVariants as joint
 use Rattle.asl_parser_tree.specs.declared.meaning.Prefix.{Prefix}
 use Rattle.asl_parser_tree.specs.declared.meaning.Prefix.TheVariants as prefix
-use Rattle.asl_parser_tree.specs.declared.leaves.BracketShape.{BracketShape}
 use Rattle.asl_parser_tree.specs.declared.leaves.BracketShape.TheVariants as shape
-use Rattle.asl_parser_tree.specs.Meanings.{◌>>=◌, as_term, as_terms, as_formula, as_args, both_terms, both_formulas, arith, either_of, both_of, atom, truth_name, joined, compared, prefixed, called, is_pure, is_deed}
-use Rattle.asl_parser_tree.specs.Leaves.{variable}
+use Rattle.asl_parser_tree.specs.Meanings.{◌>>=◌, as_term, as_terms, as_formula, as_args, both_terms, both_formulas, arith, either_of, both_of, truth_name, joined, compared, prefixed, called, is_pure, is_deed}
 use Rattle.asl_parser_expr.specs.Grammar.{Rule, Reads, just_or, just_and, just_negation, just_relation, just_sum, just_product, just_signed, chained, related, negated, subtracted, a_number, a_negative, a_string, a_variable, a_truth, a_literal, a_list, in_brackets, a_call, ReadsItems, last_item, next_item, ReadsParts, no_parts, round_parts, square_parts, ReadsAtom, an_atom, ReadsLiteral, is_held, is_denied, ReadsList, empty_list, some_list, ReadsTail, no_tail, variable_tail, list_tail}
 use Rattle.asl_parser_expr.proofs.Sound.{bind_some}
 use Rattle.asl_parser_tree.proofs.Options.{some_is}
-use Rattle.asl_parser.specs.Sentences.{ReadsHead, a_head, ReadsFormula, a_formula}
+use Rattle.asl_parser.specs.Sentences.{ReadsHead, a_head, a_formula}
 use Rattle.env_file.specs.declared.statement.Part.{Part}
 use Rattle.env_file.specs.declared.statement.Part.TheVariants.{Holds, Denied, Related}
 use Rattle.env_file.specs.declared.statement.Effect.{Effect}
 use Rattle.env_file.specs.declared.statement.Statement.{Statement}
 use Rattle.env_file.specs.Statements.{ends_literal, opens_square, has_annots, before, ReadsGuard, no_guard, a_guard, ReadsEffect, a_change, a_drop, no_change, ReadsEffects, only_effect, more_effects, States, a_fact, a_hide, a_use, an_act, Says}
-use Rattle.env_file.specs.Guards.{denied, both, parts_step, parts, guard_parts}
-use Rattle.env_file.specs.Bare.{are_none, bare_step, is_bare, is_bare_literal, is_bare_part, is_bare_effect, IsBare}
+use Rattle.env_file.specs.Guards.{denied, parts_step, parts, guard_parts}
+use Rattle.env_file.specs.Bare.{bare_step, is_bare, is_bare_literal, is_bare_part, is_bare_effect, IsBare}
 
 -- no annotations are among these tokens
 abbrev Free : List Lexeme → Type 0

@@ -1,11 +1,11 @@
 -- A clause whose brackets are within the limit is a clause within it.
-use Rattle.std.proofs.Common.{◌≡◌, ℕ, ◌+◌, Bool, true, false, List, [], ◌∷◌, Option, Some, None, codes, refl}
+use Rattle.std.proofs.Common.{◌≡◌, ℕ, ◌+◌, Bool, true, false, List, ◌∷◌, Option, Some, codes, refl}
 use Rattle.asl_lexer.specs.declared.token.Sign.TheVariants as sign
 use Rattle.asl_term.specs.declared.syntax.LiteralOf.{LiteralOf}
 use Rattle.asl_term.specs.declared.syntax.Term.{Term}
 use Rattle.asl_term.specs.declared.syntax.Expr.{Expr}
 use Rattle.asl_parser_tree.specs.declared.lexeme.Lexeme.{Lexeme}
-use Rattle.asl_parser_tree.specs.declared.lexeme.Lexeme.TheVariants.{Atom, Var, Truth, Not, Sign, End}
+use Rattle.asl_parser_tree.specs.declared.lexeme.Lexeme.TheVariants.{Atom, Var, Truth, Not, Sign}
 use Rattle.asl_parser_tree.specs.declared.lexeme.Lexeme.TheVariants as lexeme
 use Rattle.asl_parser_tree.specs.Limits.{too_deep}
 use Rattle.asl_parser_expr.proofs.Within.{Fits, within, within_literal}

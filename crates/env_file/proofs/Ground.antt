@@ -1,5 +1,5 @@
 -- The facts of a world file have no variables, no arithmetic, and none stands twice.
-use Rattle.std.proofs.Common.{◌≡◌, ℕ, suc, Bool, true, false, ◌&&◌, ◌||◌, cond, if◌then◌else◌, List, [], ◌∷◌, ◌++◌, map, length, Option, Some, None, Result, Ok, Err, codes, refl, sym, ap, subst, ◌∙◌}
+use Rattle.std.proofs.Common.{◌≡◌, ℕ, Bool, true, false, ◌&&◌, ◌||◌, cond, if◌then◌else◌, List, [], ◌∷◌, ◌++◌, map, length, Option, Some, None, Result, Ok, Err, refl, ap, subst, ◌∙◌}
 use Rattle.std.specs.List.{list_any, list_all}
 use Rattle.std.specs.Option.{option_map}
 use Rattle.asl_lexer.specs.declared.token.Tok.{Tok}
@@ -22,8 +22,6 @@ use Rattle.asl_parser_tree.specs.declared.meaning.Joint.TheVariants as joint
 use Rattle.asl_parser_tree.specs.declared.meaning.Prefix.{Prefix}
 use Rattle.asl_parser_tree.specs.declared.meaning.Prefix.TheVariants as prefix
 use Rattle.asl_term.specs.declared.syntax.RelOp.{RelOp}
-use Rattle.asl_term.specs.declared.syntax.Expr.{Expr}
-use Rattle.asl_term.specs.declared.syntax.ArgOf.{ArgOf}
 use Rattle.asl_parser_tree.specs.declared.leaves.BracketShape.{BracketShape}
 use Rattle.asl_parser_tree.specs.Meanings.{◌>>=◌, as_term, as_terms, as_formula, as_args, both_terms, both_formulas, arith, either_of, both_of, truth_name, joined, compared, prefixed, called, is_pure, is_deed}
 use Rattle.asl_parser_tree.specs.Plain.{is_plain_literal}
@@ -31,7 +29,6 @@ use Rattle.asl_parser_expr.specs.Grammar.{Rule, Reads, just_or, just_and, just_n
 use Rattle.asl_parser_expr.proofs.Sound.{bind_some}
 use Rattle.asl_parser_tree.proofs.Options.{some_is}
 use Rattle.asl_parser.specs.Sentences.{ReadsHead, a_head}
-use Rattle.asl_parser.proofs.Answered.{ok_is}
 use Rattle.mas_world.specs.declared.acts.WorldText.{WorldText}
 use Rattle.env_file.specs.declared.fault.WorldFault.{WorldFault}
 use Rattle.env_file.specs.declared.fault.WorldFault.TheVariants.{Clause, UnknownArtifact}
@@ -39,12 +36,12 @@ use Rattle.env_file.specs.declared.statement.Part.{Part}
 use Rattle.env_file.specs.declared.statement.WrittenAct.{WrittenAct}
 use Rattle.env_file.specs.declared.statement.Statement.{Statement}
 use Rattle.env_file.specs.declared.statement.Statement.TheVariants as statement
-use Rattle.env_file.specs.Statements.{is_variable, States, a_fact, a_hide, a_use, an_act, Says}
+use Rattle.env_file.specs.Statements.{is_variable, States, a_fact, a_hide, a_use, an_act}
 use Rattle.env_file.specs.Guards.{said_parts}
 use Rattle.env_file.specs.Binding.{unbound}
 use Rattle.mas_world.specs.Facts.{same_fact}
 use Rattle.mas_world.proofs.Sound.{fact_equiv}
-use Rattle.env_file.specs.Worlds.{with_fact, with_use, has_name, bound_made, made, nothing, Answers, all_read, is_read, IsWorld}
+use Rattle.env_file.specs.Worlds.{with_fact, with_use, has_name, bound_made, made, Answers, all_read, is_read, IsWorld}
 
 -- no two are the same
 abbrev pub are_once : List (LiteralOf Term) → Bool

@@ -1,10 +1,6 @@
 -- A formula has simple parts exactly where it has the parts of a guard.
 use Rattle.std.proofs.Common.{◌≡◌, Bool, true, false, ◌&&◌, List, [], ◌∷◌, ◌++◌, Option, Some, None, refl, sym, ap, ◌∙◌}
 use Rattle.std.specs.Option.{is_some}
-use Rattle.asl_term.specs.declared.syntax.LiteralOf.{LiteralOf}
-use Rattle.asl_term.specs.declared.syntax.Relation.{Relation}
-use Rattle.asl_term.specs.declared.syntax.CallOf.{CallOf}
-use Rattle.asl_term.specs.declared.syntax.Term.{Term}
 use Rattle.asl_term.specs.declared.syntax.Expr.{Expr}
 use Rattle.asl_term.specs.declared.syntax.Expr.TheVariants as expr
 use Rattle.asl_term.proofs.Exprs.{fold_true, fold_false, fold_holds, fold_rel, fold_inner, fold_not, fold_and, fold_or, by_cases}

@@ -1,10 +1,10 @@
 -- What the solutions of a guard bind.
 use Rattle.std.proofs.Common.{◌≡◌, ℕ, zero, suc, ◌<◌, Bool, true, false, ◌&&◌, cond, eqb, List, [], ◌∷◌, ◌++◌, length, map, get_or, Option, Some, None, refl, ap, sym, ◌∙◌, subst, arith}
 use Rattle.std.specs.Prelude.{Ok, Err}
-use Rattle.std.specs.Option.{option_and_then, option_to_list}
+use Rattle.std.specs.Option.{option_and_then}
 use Rattle.std.specs.Result.{result_ok}
 use Rattle.std.specs.List.{AllByRecursion, Contains, list_all, flat_map}
-use Rattle.std.proofs.lemmas.Bool.{false≢true, eqb-true}
+use Rattle.std.proofs.lemmas.Bool.{eqb-true}
 use Rattle.std.specs.Str.{bytes_eq}
 use Rattle.asl_term.specs.declared.syntax.Var.{Var}
 use Rattle.asl_term.specs.declared.syntax.LiteralOf.{LiteralOf}
@@ -15,25 +15,24 @@ use Rattle.asl_term.specs.declared.syntax.Term.{Term}
 use Rattle.asl_term.specs.declared.syntax.Term.TheVariants as term
 use Rattle.asl_term.specs.Exprs.{is_ground_literal}
 use Rattle.asl_term.specs.Trees.{all, is_ground}
-use Rattle.asl_term.specs.Variables.{vars, vars_step, variables}
+use Rattle.asl_term.specs.Variables.{vars, variables}
 use Rattle.asl_term.proofs.Grounds.{ground_lit}
-use Rattle.asl_term.proofs.Terms.{fold_var}
 use Rattle.asl_unify.specs.declared.subst.Pair.{Pair}
-use Rattle.asl_unify.specs.Applied.{applied_literal, applied_relation, within_literal}
+use Rattle.asl_unify.specs.Applied.{applied_literal, within_literal}
 use Rattle.asl_unify.specs.Compare.{ask, asks, same_frame, same_sign, Outcome, Unified, Failed}
-use Rattle.asl_unify.specs.Comparing.{holds, Holding, Gives, Fails, Passes}
+use Rattle.asl_unify.specs.Comparing.{holds, Gives}
 use Rattle.asl_unify.specs.Matches.{agreed, matches}
 use Rattle.asl_unify.specs.Puts.{put, apply, value_of, IsSubst, Extends, MostGeneral}
-use Rattle.asl_unify.specs.Settling.{Settled, Failing, and_then, settle, settle_literal, settle_relation}
+use Rattle.asl_unify.specs.Settling.{Settled, and_then, settle, settle_literal}
 use Rattle.asl_unify.specs.Unified.{unified}
-use Rattle.asl_unify.specs.Unifiers.{UnifiesAll, IsChoice, IsMatch, IsGiven, IsGivenBy}
+use Rattle.asl_unify.specs.Unifiers.{UnifiesAll, IsMatch, IsGiven, IsGivenBy}
 use Rattle.asl_unify.proofs.General.{put-lit, extension-solves}
 use Rattle.asl_unify.proofs.Laws.{put-var, put-apply}
 use Rattle.asl_unify.proofs.Matched.{matches-general, holds-given}
 use Rattle.asl_unify.proofs.Unified.{unified_general}
 use Rattle.mas_world.specs.declared.acts.Act.{Act}
 use Rattle.mas_world.specs.Acts.{atom, entered, if_ground, effect}
-use Rattle.mas_world.specs.Guards.{first_of, ready, found, if_none, if_ready, if_holds}
+use Rattle.mas_world.specs.Guards.{first_of, ready, found, if_none, if_ready}
 use Rattle.env_file.proofs.Values.{both_true, both_are, all_joined, no_vars, has_value, put_ground, ground_put, settled_vars, settled_literal_vars, variables_all}
 
 -- ---- lists

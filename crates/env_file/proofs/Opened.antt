@@ -1,5 +1,5 @@
 -- The world of a file can be opened.
-use Rattle.std.proofs.Common.{◌≡◌, ℕ, Bool, true, false, ◌&&◌, ◌||◌, if◌then◌else◌, List, [], ◌∷◌, ◌++◌, map, Option, Some, None, Result, Ok, Err, refl, sym, ap, subst, ◌∙◌}
+use Rattle.std.proofs.Common.{◌≡◌, ℕ, Bool, true, false, ◌&&◌, ◌||◌, if◌then◌else◌, List, [], ◌∷◌, ◌++◌, Option, Some, None, Result, Ok, Err, refl, sym, ap, subst, ◌∙◌}
 use Rattle.std.specs.List.{list_any, list_all, AllByRecursion, IsDistinct}
 use Rattle.asl_lexer.specs.declared.token.Tok.{Tok}
 use Rattle.asl_term.specs.declared.syntax.LiteralOf.{LiteralOf}
@@ -8,9 +8,8 @@ use Rattle.asl_term.specs.declared.syntax.Term.TheVariants as term
 use Rattle.asl_term.specs.declared.syntax.Term.TheOpen.{Term-F}
 use Rattle.asl_term.specs.declared.syntax.Term.TheOpen as layer
 use Rattle.asl_term.specs.declared.syntax.Term.TheFolds.{fold-Term}
-use Rattle.asl_term.specs.Trees.{all}
 use Rattle.asl_term.specs.Names.{with_name}
-use Rattle.asl_term.proofs.Terms.{map_literal, fold_lit}
+use Rattle.asl_term.proofs.Terms.{fold_lit}
 use Rattle.asl_parser_tree.specs.Plain.{plain_step, is_plain, is_plain_literal}
 use Rattle.mas_world.specs.declared.acts.WorldText.{WorldText}
 use Rattle.mas_world.specs.Facts.{settled_step, is_settled, is_settled_literal, same_fact, AreFacts}
@@ -23,7 +22,7 @@ use Rattle.env_file.specs.declared.statement.Statement.TheVariants as statement
 use Rattle.env_file.specs.Guards.{said_parts}
 use Rattle.env_file.specs.Binding.{unbound}
 use Rattle.env_file.specs.Worlds.{has_name, with_use, bound_made, made, Answers, all_read, is_read, IsWorld}
-use Rattle.env_file.proofs.Ground.{are_once, AreRead, read_facts}
+use Rattle.env_file.proofs.Ground.{are_once, read_facts}
 
 -- ---- without arithmetic
 

@@ -1,5 +1,5 @@
 -- Bytes have one answer.
-use Rattle.std.proofs.Common.{◌≡◌, ℕ, suc, ◌<◌, Bool, true, false, cond, List, [], ◌∷◌, Option, Some, None, Result, Ok, Err, refl, sym, ap, ◌∙◌, length, arith}
+use Rattle.std.proofs.Common.{◌≡◌, ℕ, ◌<◌, Bool, true, false, cond, List, [], ◌∷◌, Option, Some, None, Result, Ok, Err, refl, sym, ap, ◌∙◌, length, arith}
 use Rattle.asl_lexer.specs.declared.token.Tok.{Tok}
 use Rattle.asl_lexer.specs.declared.token.LexFault.{LexFault}
 use Rattle.asl_lexer.specs.Words.{pieces, is_end}
@@ -21,7 +21,7 @@ use Rattle.env_file.specs.Statements.{States, a_fact, a_hide, a_use, an_act, Say
 use Rattle.env_file.specs.Limits.{is_within}
 use Rattle.env_file.specs.Holding.{KeptStatement}
 use Rattle.env_file.specs.Speaking.{statement_by}
-use Rattle.env_file.specs.Worlds.{nothing, made, Answers, all_read, brackets, no_clause, large, is_refused, is_read, HasAnswer, IsAnswer}
+use Rattle.env_file.specs.Worlds.{nothing, Answers, all_read, brackets, no_clause, large, is_refused, is_read, HasAnswer, IsAnswer}
 use Rattle.env_file.specs.Answering.{said, piece_by, onward, answer_by}
 use Rattle.env_file.proofs.Answered.{limited_by, said_kept, rest}
 use Rattle.env_file.proofs.Spoken.{sound_statement}

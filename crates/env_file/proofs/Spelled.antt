@@ -9,8 +9,7 @@ use Rattle.asl_term.specs.declared.syntax.LiteralOf.{LiteralOf}
 use Rattle.asl_term.specs.declared.syntax.Term.{Term}
 use Rattle.asl_term.specs.declared.syntax.Expr.{Expr}
 use Rattle.asl_parser_tree.specs.declared.lexeme.Lexeme.{Lexeme}
-use Rattle.asl_parser_tree.specs.declared.lexeme.Lexeme.TheVariants.{Atom, Truth, Not, Sign, End}
-use Rattle.asl_parser_tree.specs.declared.lexeme.Lexeme.TheVariants as lexeme
+use Rattle.asl_parser_tree.specs.declared.lexeme.Lexeme.TheVariants.{Atom, Sign, End}
 use Rattle.asl_parser_tree.specs.declared.bounded.Bounded.TheVariants.{Within}
 use Rattle.asl_parser_tree.specs.Meanings.{◌>>=◌}
 use Rattle.asl_parser_expr.specs.Grammar.{ReadsLiteral, is_held, is_denied, an_atom, ReadsParts, no_parts, round_parts, square_parts, sum}
@@ -18,20 +17,19 @@ use Rattle.asl_parser_tree.specs.declared.meaning.Meaning.{Meaning}
 use Rattle.asl_parser_tree.specs.declared.leaves.BracketShape.TheVariants as shape
 use Rattle.asl_parser_tree.specs.Holding.{Bounds, KeptLiteral, KeptExpr, literal_plain, hold_literal, hold_formula}
 use Rattle.asl_parser_tree.specs.Leaves.{Front, after_comma}
-use Rattle.asl_parser_expr.specs.Reading.{literal_by, inside}
 use Rattle.asl_parser_tree.proofs.Keeping.{formula_held}
 use Rattle.asl_parser_expr.proofs.Shorter.{shorter_literal}
 use Rattle.asl_parser_expr.proofs.Complete.{StopsPrimary, StopsOr, reads_or, reads_literal}
 use Rattle.asl_parser.specs.Sentences.{label_of, adds_of, ReadsFormula, a_formula, ReadsHead, a_head}
-use Rattle.asl_parser.specs.Speaking.{as_condition, after_colon, first_of, formula_by, head_by}
+use Rattle.asl_parser.specs.Speaking.{as_condition, first_of, formula_by, head_by}
 use Rattle.asl_parser.proofs.Weighed.{plain_held}
 use Rattle.env_file.specs.declared.statement.Effect.{Effect}
 use Rattle.env_file.specs.declared.statement.Effect.TheVariants.{Dropped}
 use Rattle.env_file.specs.declared.statement.Statement.{Statement}
 use Rattle.env_file.specs.declared.statement.Statement.TheVariants as statement
-use Rattle.env_file.specs.Statements.{is_word, is_variable, doer_of, has_annots, ReadsGuard, no_guard, a_guard, ReadsEffect, a_change, a_drop, no_change, ReadsEffects, only_effect, more_effects, States, a_fact, a_hide, a_use, an_act, Says}
-use Rattle.env_file.specs.Holding.{KeptGuard, KeptEffect, KeptEffects, KeptStatement, guard_of, effect_of, before, hold_guard, hold_effect, hold_effects, hold_statement, fact_of, act_with}
-use Rattle.env_file.specs.Speaking.{after_word, after_right_arrow, is_name, starts_with_name, before_name, when_last, hide_of, use_of, named_by, doer_by, nothing_by, dropped_by, word_by, as_guard, effect_list_by, some_guard_by, guard_by, change_by, effect_by, effects_by, act_of, with_effects_by, with_guard_by, act_by, fact_by, act_or_fact, use_or_other, bare_by, statement_by}
+use Rattle.env_file.specs.Statements.{is_word, is_variable, doer_of, ReadsGuard, no_guard, a_guard, ReadsEffect, a_change, a_drop, no_change, ReadsEffects, only_effect, more_effects, States, a_fact, a_hide, a_use, an_act, Says}
+use Rattle.env_file.specs.Holding.{KeptGuard, KeptEffect, KeptEffects, KeptStatement, effect_of, before, hold_guard, hold_effect, hold_effects, hold_statement, fact_of}
+use Rattle.env_file.specs.Speaking.{after_word, starts_with_name, before_name, when_last, hide_of, use_of, named_by, doer_by, nothing_by, dropped_by, word_by, as_guard, effect_list_by, guard_by, change_by, effect_by, effects_by, with_effects_by, with_guard_by, act_by, fact_by, bare_by, statement_by}
 use Rattle.env_file.proofs.Guarded.{parts_told}
 use Rattle.env_file.proofs.Weighed.{guard_there as guard_kept, effect_made, before_made, fact_made, hide_small, use_small, act_made}
 

@@ -1,7 +1,7 @@
 -- What is read as a clause is one.
 use Rattle.std.proofs.Common.{◌≡◌, ℕ, zero, suc, Bool, true, false, cond, List, [], ◌∷◌, length, Option, Some, None, codes, refl, sym, ap, subst, ◌∙◌}
 use Rattle.std.specs.List.{list_any}
-use Rattle.std.specs.Option.{option_map, option_map_or}
+use Rattle.std.specs.Option.{option_map_or}
 use Rattle.asl_lexer.specs.declared.token.Sign.TheVariants as sign
 use Rattle.asl_term.specs.declared.syntax.LiteralOf.{LiteralOf}
 use Rattle.asl_term.specs.declared.syntax.Term.{Term}
@@ -24,7 +24,7 @@ use Rattle.env_file.specs.declared.statement.Effect.TheVariants.{Dropped}
 use Rattle.env_file.specs.declared.statement.Statement.{Statement}
 use Rattle.env_file.specs.Statements.{is_word, is_variable, doer_of, has_annots}
 use Rattle.env_file.specs.Holding.{KeptGuard, KeptEffect, KeptEffects, KeptStatement, guard_of, effect_of, before, fact_of, act_with}
-use Rattle.env_file.specs.Speaking.{after_word, after_right_arrow, after_true, is_name, starts_with_name, before_name, when_last, hide_of, use_of, named_by, doer_by, nothing_by, dropped_by, word_by, effect_list_by, guard_by, change_by, effect_by, effects_by, with_effects_by, with_guard_by, act_by, fact_by, act_or_fact, use_or_other, bare_by, statement_by}
+use Rattle.env_file.specs.Speaking.{after_word, after_right_arrow, after_true, starts_with_name, before_name, when_last, hide_of, use_of, named_by, doer_by, nothing_by, dropped_by, word_by, effect_list_by, guard_by, change_by, effect_by, effects_by, with_effects_by, with_guard_by, act_by, fact_by, act_or_fact, use_or_other, bare_by, statement_by}
 use Rattle.env_file.proofs.Made.{ReadsGuard, no_guard, a_guard, ReadsEffect, a_change, a_drop, no_change, ReadsEffects, only_effect, more_effects, States, a_fact, a_hide, a_use, an_act, Says, says}
 
 -- ---- single tokens

@@ -3,7 +3,7 @@ use Rattle.std.proofs.Common.{◌≡◌, ℕ, Bool, true, false, cond, List, Opt
 use Rattle.asl_lexer.specs.declared.token.Tok.{Tok}
 use Rattle.asl_lexer.specs.declared.token.LexFault.{LexFault}
 use Rattle.asl_lexer.specs.Words.{pieces, is_end}
-use Rattle.asl_lexer.specs.Lexing.{AreTokens, Lexes, start}
+use Rattle.asl_lexer.specs.Lexing.{Lexes, start}
 use Rattle.asl_lexer.proofs.Total as lexer
 use Rattle.mas_world.specs.declared.acts.WorldText.{WorldText}
 use Rattle.env_file.specs.declared.fault.WorldFault.{WorldFault}

@@ -1,5 +1,5 @@
 -- Terms and the values of their variables.
-use Rattle.std.proofs.Common.{◌≡◌, ℤ, ℕ, Bool, true, false, ◌&&◌, ◌||◌, cond, List, [], ◌∷◌, ◌++◌, map, Option, Some, None, unwrap_or, refl, ap, sym, ◌∙◌, subst}
+use Rattle.std.proofs.Common.{◌≡◌, ℤ, Bool, true, false, ◌&&◌, ◌||◌, cond, List, [], ◌∷◌, ◌++◌, map, Option, Some, None, unwrap_or, refl, ap, sym, ◌∙◌}
 use Rattle.std.specs.Prelude.{Ok, Err}
 use Rattle.std.specs.Option.{option_map}
 use Rattle.std.specs.List.{AllByRecursion, list_all, list_any}
@@ -19,7 +19,7 @@ use Rattle.asl_term.specs.Variables.{joined, vars, vars_step, with_var, noted, v
 use Rattle.asl_term.proofs.Same.{same_var_true}
 use Rattle.asl_term.proofs.Terms.{OfTail, by_cases, fold_num, fold_str, fold_var, fold_lit, fold_list, fold_op, out_made}
 use Rattle.asl_term.proofs.Grounds.{ground_num, ground_str, ground_var, ground_lit, ground_list, ground_op}
-use Rattle.asl_unify.specs.Puts.{nil, ending, cons, cons_list, as_list, list_of, merged, put, put_step}
+use Rattle.asl_unify.specs.Puts.{nil, ending, cons, cons_list, as_list, merged, put, put_step}
 use Rattle.asl_unify.specs.Settling.{Settled, and_then, each, if_any, number_in, number_of, or_failing, value, value_if, operation, with_parts, settle, settle_step, settle_literal, Failing}
 use Rattle.asl_unify.proofs.General.{put-lit, put-op}
 use Rattle.asl_unify.proofs.Laws.{put-var}

@@ -1,5 +1,5 @@
 -- What is kept of a clause is what is made of what is kept of its parts.
-use Rattle.std.proofs.Common.{◌≡◌, ℕ, Bool, true, false, ◌&&◌, ◌⊎◌, inl, inr, List, [], ◌∷◌, ◌++◌, Option, Some, None, if◌then◌else◌, refl, sym, ap, ◌∙◌}
+use Rattle.std.proofs.Common.{◌≡◌, ℕ, Bool, true, false, ◌&&◌, inl, inr, List, [], ◌∷◌, Option, Some, None, if◌then◌else◌, refl, sym, ap, ◌∙◌}
 use Rattle.std.specs.Option.{option_map}
 use Rattle.std.specs.List.{list_all}
 use Rattle.std.proofs.lemmas.Bool.{and_from, and_cases, and_left, and_right}
@@ -10,7 +10,7 @@ use Rattle.asl_parser_tree.specs.declared.bounded.Bounded.TheVariants.{Within, P
 use Rattle.asl_parser_tree.specs.Conjuncts.{has_parts}
 use Rattle.asl_parser_tree.specs.Plain.{is_plain_literal, is_action}
 use Rattle.asl_parser_tree.specs.Limits.{within_literal}
-use Rattle.asl_parser_tree.specs.Holding.{Bounds, limited, unlimited, bounded, fits_term, fits_literal, fits_expr, has_small_parts, keep_if, literal_outline, hold_literal, hold_formula}
+use Rattle.asl_parser_tree.specs.Holding.{Bounds, limited, unlimited, bounded, fits_term, fits_expr, has_small_parts, keep_if, literal_outline, hold_literal, hold_formula}
 use Rattle.asl_parser_tree.proofs.Options.{some_is}
 use Rattle.asl_parser_tree.proofs.Past.{falls, all_terms, never, literal_past}
 use Rattle.env_file.specs.declared.statement.Effect.{Effect}
@@ -19,7 +19,7 @@ use Rattle.env_file.specs.declared.statement.Statement.{Statement}
 use Rattle.env_file.specs.declared.statement.Statement.TheVariants as statement
 use Rattle.env_file.specs.Statements.{before as true_before, changed}
 use Rattle.env_file.specs.Limits.{within_guard, within_effect, is_within}
-use Rattle.env_file.specs.Holding.{KeptGuard, KeptEffect, KeptEffects, KeptStatement, guard_of, effect_of, before, fits_guard, hold_guard, is_small_effect, hold_effect, hold_effects, hold_statement, fact_of, act_with}
+use Rattle.env_file.specs.Holding.{KeptGuard, guard_of, effect_of, before, fits_guard, hold_guard, is_small_effect, hold_effect, hold_effects, hold_statement, fact_of, act_with}
 
 -- ---- limits
 

@@ -1,5 +1,5 @@
 -- What the reader of world files does, on lists. That it is the answer is shown in `proofs/`.
-use Rattle.std.specs.Prelude.{◌≡◌, ℕ, suc, Bool, true, false, List, [], ◌∷◌, Result, Ok, Err, Option, Some, None, if◌then◌else◌}
+use Rattle.std.specs.Prelude.{◌≡◌, ℕ, suc, List, [], ◌∷◌, Result, Ok, Err, Option, Some, None, if◌then◌else◌}
 use Rattle.asl_lexer.specs.declared.token.Tok.{Tok}
 use Rattle.asl_parser_tree.specs.Lexemes.{lexemes}
 use Rattle.asl_parser_tree.specs.declared.bounded.Bounded.TheVariants.{Within, Past}
@@ -7,7 +7,7 @@ use Rattle.asl_parser_tree.specs.Holding.{limited}
 use Rattle.asl_parser_tree.specs.Limits.{most_brackets, too_deep}
 use Rattle.mas_world.specs.declared.acts.WorldText.{WorldText}
 use Rattle.env_file.specs.declared.fault.WorldFault.{WorldFault}
-use Rattle.env_file.specs.declared.fault.WorldFault.TheVariants.{Memory, Lex, Clause, Limit, Unbound, UnknownArtifact}
+use Rattle.env_file.specs.declared.fault.WorldFault.TheVariants.{Memory, Clause, Limit}
 use Rattle.env_file.specs.Holding.{KeptStatement}
 use Rattle.env_file.specs.Speaking.{statement_by}
 use Rattle.env_file.specs.Worlds.{made}

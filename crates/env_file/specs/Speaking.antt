@@ -1,7 +1,7 @@
 -- What the reader of clauses does, on lists. That it is the grammar is shown in `proofs/`.
 use Rattle.std.specs.Prelude.{ℕ, zero, suc, Bool, true, false, List, [], ◌∷◌, length, Option, Some, None, codes, if◌then◌else◌}
 use Rattle.std.specs.List.{list_any}
-use Rattle.std.specs.Option.{option_map, option_map_or}
+use Rattle.std.specs.Option.{option_map_or}
 use Rattle.asl_lexer.specs.declared.token.Sign.TheVariants as sign
 use Rattle.asl_term.specs.declared.syntax.Term.{Term}
 use Rattle.asl_parser_tree.specs.declared.lexeme.Lexeme.{Lexeme}

@@ -1,6 +1,6 @@
 -- A world file: what its clauses say together, and which is refused first.
-use Rattle.std.specs.Prelude.{◌≡◌, ℕ, suc, Bool, true, false, ◌&&◌, List, [], ◌∷◌, ◌++◌, Option, Some, None, Result, Ok, Err, if◌then◌else◌}
-use Rattle.std.specs.List.{flat_map, list_any, list_all}
+use Rattle.std.specs.Prelude.{◌≡◌, ℕ, suc, Bool, true, false, List, [], ◌∷◌, ◌++◌, Option, Some, None, Result, Ok, Err, if◌then◌else◌}
+use Rattle.std.specs.List.{flat_map, list_any}
 use Rattle.std.specs.Option.{option_to_list}
 use Rattle.std.specs.Str.{bytes_eq}
 use Rattle.asl_lexer.specs.declared.token.Tok.{Tok}
@@ -9,8 +9,6 @@ use Rattle.asl_lexer.specs.Lexing.{AreTokens, IsFirstFault}
 use Rattle.asl_term.specs.declared.syntax.LiteralOf.{LiteralOf}
 use Rattle.asl_term.specs.declared.syntax.Term.{Term}
 use Rattle.asl_term.specs.Names.{with_name}
-use Rattle.asl_term.specs.Exprs.{is_ground_literal}
-use Rattle.asl_parser_tree.specs.Plain.{is_plain_literal}
 use Rattle.asl_parser_tree.specs.Lexemes.{lexemes}
 use Rattle.asl_parser_tree.specs.Limits.{most_brackets, too_deep}
 use Rattle.mas_world.specs.declared.acts.Act.{Act}

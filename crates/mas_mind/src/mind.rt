@@ -96,7 +96,7 @@ pub enum Feedback {
 }
 
 /// How an agent's part in a run ended.
-#[derive(Clone, Copy, Drop)]
+#[derive(Clone, Copy, PartialEq, Eq, Drop)]
 pub enum End {
     Quiet,
     Stopped,

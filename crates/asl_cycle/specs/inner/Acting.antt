@@ -26,7 +26,7 @@ use Rattle.asl_intend.specs.declared.agenda.Error.{Error}
 use Rattle.asl_intend.specs.declared.agenda.Error.TheVariants as error
 use Rattle.asl_intend.specs.declared.agenda.Agenda.{Agenda}
 use Rattle.asl_fail.specs.Fails.{fails, is_raised, raised, popped_one, dropped}
-use Rattle.asl_intend.specs.Stacks.{head, has_head, has_means, without_head, is_bounded, is_bounded_trigger}
+use Rattle.asl_intend.specs.Stacks.{head, has_head, has_means, is_bounded, is_bounded_trigger}
 use Rattle.asl_exec_circumstance.specs.declared.rows.Row.{Row}
 use Rattle.asl_exec_circumstance.specs.declared.rows.Row.TheVariants as row
 use Rattle.asl_exec_circumstance.specs.declared.went.Went.{Went}

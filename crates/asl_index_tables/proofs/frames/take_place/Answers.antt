@@ -1,4 +1,4 @@
-use Rattle.std.proofs.Common.{rules, sym, ◌∙◌}
+use Rattle.std.proofs.Common.{rules, ◌∙◌}
 use Rattle.asl_index_tables.proofs.Groups.{place_out, place_none}
 use Rattle.asl_index_tables.proofs.frames.take_place.Goals as goal
 

@@ -1,4 +1,4 @@
-use Rattle.std.proofs.Common.{rules, ◌≡◌, ap, ◌∙◌}
+use Rattle.std.proofs.Common.{rules, ap, ◌∙◌}
 use Rattle.asl_unify.specs.Puts.{apply}
 use Rattle.asl_unify.specs.Settling.{settle}
 use Rattle.asl_unify_early.proofs.Settling.{for_number}
