@@ -69,6 +69,16 @@ fn is_budget(phase: Phase) -> bool
     }
 }
 
+/// Appends these pieces, one behind the other.
+fn put_pieces(out: &mut Text, pieces: &[&[u8]]) -> Result<(), Starved>
+    ensures { OnOk result (out.new ≡ out.old ++ flat_map (λ p. p.now) pieces.now) }
+{
+    for piece in pieces {
+        out.append(*piece)?;
+    }
+    Ok(())
+}
+
 fn put_field(alloc: Global, out: &mut Text, word: &[u8], n: u64) -> Result<(), Starved>
     ensures { OnOk result (out.new ≡ out.old ++ spec.field word.now n) }
 {
@@ -92,9 +102,7 @@ pub fn put_options(alloc: Global, out: &mut Text, o: &Options) -> Result<(), Sta
     ensures { OnOk result (out.new ≡ out.old ++ spec.options_line o.now) }
 {
     put_limits(alloc, out, o)?;
-    out.append(b" level ")?;
-    out.append(level_word(o.level))?;
-    out.append(b"\n")
+    put_pieces(out, &[b" level ", level_word(o.level), b"\n"])
 }
 
 /// Appends the line with which the section of an agent begins.
@@ -102,9 +110,7 @@ pub fn put_options(alloc: Global, out: &mut Text, o: &Options) -> Result<(), Sta
 pub fn put_agent_line(out: &mut Text, name: &[u8]) -> Result<(), Starved>
     ensures { OnOk result (out.new ≡ out.old ++ spec.agent_line name.now) }
 {
-    out.append(b"agent ")?;
-    out.append(name)?;
-    out.append(b"\n")
+    put_pieces(out, &[b"agent ", name, b"\n"])
 }
 
 #[tactic(auto, unfolding(crate::specs::Report::end_line))]
@@ -117,9 +123,7 @@ fn put_end_line(
 ) -> Result<(), Starved>
     ensures { OnOk result (out.new ≡ out.old ++ spec.end_line name.now phase cycle) }
 {
-    out.append(b"end ")?;
-    out.append(name)?;
-    out.append(b" ")?;
+    put_pieces(out, &[b"end ", name, b" "])?;
     out.append(phase_word(phase))?;
     put_field(alloc, out, b" ", cycle)?;
     out.append(b"\n")
@@ -217,11 +221,8 @@ pub fn put_world<A: Artifact>(alloc: Global, out: &mut Text, w: &World<A>) -> Re
 fn put_route(out: &mut Text, names: &Names, m: &Message) -> Result<(), Starved>
     ensures { OnOk result (out.new ≡ out.old ++ spec.route_text names.now m.now) }
 {
-    out.append(b"for ")?;
-    out.append(name_of(names, m.to))?;
-    out.append(b" from ")?;
-    out.append(name_of(names, m.from))?;
-    out.append(b" ")
+    let (to, from) = (name_of(names, m.to), name_of(names, m.from));
+    put_pieces(out, &[b"for ", to, b" from ", from, b" "])
 }
 
 /// Appends what a message says.
@@ -229,8 +230,7 @@ fn put_route(out: &mut Text, names: &Names, m: &Message) -> Result<(), Starved>
 fn put_content(out: &mut Text, m: &Message) -> Result<(), Starved>
     ensures { OnOk result (out.new ≡ out.old ++ spec.content_text m.now) }
 {
-    out.append(verb_text(m.verb).as_bytes())?;
-    out.append(b" ")?;
+    put_pieces(out, &[verb_text(m.verb).as_bytes(), b" "])?;
     print(&m.content, out)?;
     out.append(b"\n")
 }

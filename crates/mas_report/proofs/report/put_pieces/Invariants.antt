@@ -1,0 +1,6 @@
+use Rattle.std.proofs.Common.{◌≡◌, ◌++◌, drop}
+use Rattle.std.specs.List.{flat_map}
+use Rattle.mas_report.proofs.report.put_pieces.Given as goal
+
+abbrev pub invariant-loop-piece : goal.invariant-loop-piece
+invariant-loop-piece l = l.out ++ flat_map (λ p. p.now) (drop l.piece-index l.pieces) ≡ l.fn.out ++ flat_map (λ p. p.now) l.pieces
