@@ -20,9 +20,9 @@ use asl_term::sequence::{Seq, Starved};
 use crossbeam_queue::{Pass, RuledArrayQueue};
 use mas_board::board::Board;
 use mas_board::seats::Sensed;
-use mas_board_turns::patience::Patience;
 use mas_board_turns::view::{Departs, Making, Nothing, SideView, SplitsSide};
 use mas_mind::mind::{Feedback, Outs};
+use mas_patience::patience::Patience;
 use mas_world::artifact::Artifact;
 use std::alloc::Global;
 use std::marker::Brand;
@@ -30,6 +30,9 @@ use std::snapshot::Snapshot;
 use std::sync::Wait;
 use std::thread;
 use std::thread::Threads;
+
+/// A worker that finds the board taken sleeps so many nanoseconds at first.
+const FIRST_SLEEP: u64 = 50_000;
 
 pub type BatonQueue<A> = RuledArrayQueue<Parcel<Board<A>>, SideView, BatonRule>;
 
@@ -94,7 +97,7 @@ impl<A: Artifact> Baton<A> {
         ensures seat { spec.HasSeat self.now true seat.new }
         ensures met { spec.Met seat.old seat.new result }
     {
-        let mut patience = Patience::new();
+        let mut patience = Patience::new(FIRST_SLEEP);
         for _ in rt.forever() {
             if let Some(board) = self.line.try_pop_as::<BatonTakes>(&mut seat.pass) {
                 return board;

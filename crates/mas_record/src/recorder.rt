@@ -27,9 +27,9 @@ use asl_term::sequence::Starved;
 use crossbeam_queue::{Pass, RuledArrayQueue};
 use mas_board::board::Board;
 use mas_board::seats::{Phase, Sensed};
-use mas_board_turns::patience::Patience;
 use mas_board_turns::view::{Departs, Making, Nothing};
 use mas_mind::mind::{Feedback, Outs};
+use mas_patience::patience::Patience;
 use mas_record_disk::disk::{Disk, DiskFail};
 use mas_record_journal::back::{Back, BackWhy};
 use mas_record_journal::journal::Journal;
@@ -37,16 +37,20 @@ use mas_world::artifact::Artifact;
 use std::alloc::Global;
 use std::marker::Brand;
 use std::snapshot::Snapshot;
-use std::sync::Wait;
+use std::sync::{Mutex, Wait};
 use std::thread;
 use std::thread::Threads;
 
+/// A worker that finds board and journal taken sleeps so many nanoseconds at first: whoever has them waits for the disk.
+const FIRST_SLEEP: u64 = 800_000;
+
 pub type RecorderQueue<A, D> = RuledArrayQueue<Deck<A, D>, DeckView<D>, RecorderRule>;
 
-/// The place of board and journal between two calls.
+/// The place of board and journal between two calls, and the door before which all sleep who wait for them but one.
 #[derive(Drop)]
 pub struct Recorder<A: Artifact, D: Disk + Send> {
     pub line: RecorderQueue<A, D>,
+    pub door: Mutex<()>,
 }
 
 /// Lays board and journal out for the agents, with a ticket for each, in order. Want of memory gives the disk back as it was.
@@ -69,7 +73,10 @@ pub fn open_recorder<R: Threads + Wait + Sync, A: Artifact, D: Disk + Send>(
     let Ok((line, pass)) = RecorderQueue::ruled(alloc, 1) else {
         return Err(starved(journal));
     };
-    let recorder = Recorder { line };
+    let recorder = Recorder {
+        line,
+        door: Mutex::new(()),
+    };
     only_now(&journal);
     let mut pass = recorder.begin(rt, pass, Deck { board, journal });
     for k in 0..agents {
@@ -216,13 +223,17 @@ impl<A: Artifact, D: Disk + Send> Recorder<A, D> {
         unreachable!()
     }
 
-    /// Takes board and journal.
+    /// Takes board and journal. Of those who find them taken one looks again and again; the others sleep until it has them.
     fn take<R: Wait>(&self, rt: &R, ticket: &mut Ticket<A, D>) -> Deck<A, D>
         requires { spec.IsTicketOf self.now ticket.old }
         ensures ticket { spec.HasTicket self.now true ticket.new }
         ensures met { spec.Met D.state ticket.old ticket.new result }
     {
-        let mut patience = Patience::new();
+        if let Some(deck) = self.line.try_pop_as::<RecorderTakes>(&mut ticket.pass) {
+            return deck;
+        }
+        let _door = self.door.lock(rt);
+        let mut patience = Patience::new(FIRST_SLEEP);
         for _ in rt.forever() {
             if let Some(deck) = self.line.try_pop_as::<RecorderTakes>(&mut ticket.pass) {
                 return deck;

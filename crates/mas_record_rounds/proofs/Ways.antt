@@ -1,6 +1,6 @@
 -- What rounds make of shares, one after another.
 use Rattle.std.proofs.Common.{◌≡◌, ℕ, zero, suc, ◌+◌, Bool, true, false, if◌then◌else◌, Result, Ok, Err, List, [], ◌∷◌, ◌++◌, sym, refl, ap, ◌∙◌, subst, arith}
-use Rattle.std.specs.Prelude.{All}
+use Rattle.std.specs.Prelude.{All, slice_index_or}
 use Rattle.mas_board_lists.specs.Lists.{Each}
 use Rattle.mas_mind.specs.Minds.{Kind}
 use Rattle.mas_board.specs.Boards.{is_gone}
@@ -149,6 +149,51 @@ module _ {V A D : Type 0} (k : Kind V) (r : Recorder A D) where
       let a = none_came p.sharers q.sharers q.came (h.each 0 p (omega arith)) (c 0 q (omega arith)) in
       let b = all_none_came ps qs (rest_came p ps q qs h) (rest_so true q qs c) in
       here_append q.sharers (all_of qs) ∙ (omega arith)
+
+  -- ---- rounds after rounds
+
+  went_on : (x y z : Sharer V A D) → SharerWent k r (thinking_of x) x y → SharerWent k r (thinking_of y) y z → SharerWent k r (thinking_of x) x z
+  went_on x y z a w =
+      let rests : resting y.mind ≡ thinking_of y = λ i. record { mind = y.mind; thought = sym a.none i } in
+      record {
+        stays = stays_on x y z a.stays w.stays;
+        shares = w.shares;
+        none = w.none;
+        way = went_more k (thinking_of x) (thinking_of y) (resting z.mind) (turns_of x.ticket) (turns_of y.ticket) (turns_of z.ticket)
+            (subst (λ (t : Thinking V). Went k (thinking_of x) (turns_of x.ticket) (turns_of y.ticket) t) rests a.way) w.way;
+      }
+
+  came_more : (b : Bool) (old mid new : List (Sharer V A D)) (first last : Result ℕ DeckFault) → CameTo k r old mid first → CameSo b first
+      → CameTo k r mid new last → CameTo k r old new last
+  came_more b old mid new first (Ok n) h c g = record {
+    each = both_chain (λ s t. SharerWent k r (thinking_of s) s t) (λ s t. SharerWent k r (thinking_of s) s t) (λ s t. SharerWent k r (thinking_of s) s t) old mid new
+        went_on (went_came b old mid first h c) g.each;
+    here_is = g.here_is;
+  }
+  came_more b old mid new first (Err f) h c g = record {
+    each = both_chain (λ s t. SharerWent k r (thinking_of s) s t) (Stays r) (Stays r) old mid new (λ x y z w s. stays_on x y z w.stays s)
+        (went_came b old mid first h c) g.each;
+    torn = g.torn;
+  }
+
+  pub came_on : (b : Bool) (ps qs rs : List (Share V A D)) → AllCame k r ps qs → AllCameSo qs b → AllCame k r qs rs → AllCame k r ps rs
+  came_on b ps qs rs h c g = record {
+    count = g.count ∙ h.count;
+    each = λ i d l.
+        let n = h.count in
+        let p = slice_index_or ps i d in
+        let q = slice_index_or qs i d in
+        let s = slice_index_or rs i d in
+        came_more b p.sharers q.sharers s.sharers q.came s.came (h.each i d l) (c i d (omega arith)) (g.each i d (omega arith));
+  }
+
+  pub came_may_go : (b : Bool) (ps qs : List (Share V A D)) → AllCame k r ps qs → AllCameSo qs b → All (MayGo k r) qs
+  came_may_go b ps qs h c = λ i d l.
+      let n = h.count in
+      let p = slice_index_or ps i d in
+      let q = slice_index_or qs i d in
+      both_each (λ s t. SharerWent k r (thinking_of s) s t) (Shares k r) p.sharers q.sharers (λ x u w. w.shares)
+      (went_came b p.sharers q.sharers q.came (h.each i d (omega arith)) (c i d l))
 
   -- what the shares came to, as it was read
   pub came_so : (b d : Bool) (seen shares : List (Share V A D)) → seen ≡ shares → d ≡ b → AllCameSo seen d → AllCameSo shares b

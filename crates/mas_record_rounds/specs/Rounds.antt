@@ -17,13 +17,13 @@ CameSo false (Ok here) = Unit {0}
 CameSo ended (Err f) = ⊥
 
 module _ {V A D : Type 0} where
-  -- ---- one round
+  -- ---- a stretch of rounds
 
   -- all its agents are sharers of this recorder
   abbrev pub MayGo : Kind V → Recorder A D → Share V A D → Type 0
   MayGo k r s = Each (Shares k r) s.sharers
 
-  -- a round was made of these agents, or a call was refused
+  -- rounds were made of these agents, or a call was refused
   abbrev pub CameTo : Kind V → Recorder A D → List (Sharer V A D) → List (Sharer V A D) → Result ℕ DeckFault → Type 0
   CameTo k r old new (Ok here) = AllWent k r old new here
   CameTo k r old new (Err f) = AllStay r old new f
@@ -31,7 +31,7 @@ module _ {V A D : Type 0} where
   abbrev pub HasCome : Kind V → Recorder A D → Share V A D → Share V A D → Type 0
   HasCome k r old new = CameTo k r old.sharers new.sharers new.came
 
-  -- each of these shares made a round
+  -- each of these shares made its rounds
   pub record AllCame (k : Kind V) (r : Recorder A D) (old new : List (Share V A D)) : Type 0 where
     pub count : length new ≡ length old
     pub each : (i : ℕ) (d : Share V A D) → i < length old → HasCome k r (slice_index_or old i d) (slice_index_or new i d)

@@ -1,4 +1,4 @@
-//! Rounds of all shares, side by side.
+//! Rounds of all shares, side by side. Threads are started for a stretch of rounds, since to start one takes time.
 
 ghost use Rattle.std.specs.Prelude.{◌<◌, All, OnOk, MatchResult};
 ghost use Rattle.std.specs.Thread.{IsSync};
@@ -19,6 +19,9 @@ use std::sync::Wait;
 use std::thread;
 use std::thread::Threads;
 
+/// So many rounds a worker makes before it meets the others: as many as an agent may usually be ahead of another.
+const STRETCH: u32 = 8;
+
 /// A round of one share.
 fn go<R: Threads + Wait + Sync, M: Mind, A: Artifact, D: Disk + Send>(
     rt: &R,
@@ -30,41 +33,6 @@ fn go<R: Threads + Wait + Sync, M: Mind, A: Artifact, D: Disk + Send>(
     ensures { spec.HasCome M.kind recorder.now share.old share.new }
 {
     share.came = record_round(rt, alloc, recorder, &mut share.sharers);
-}
-
-/// A round of each share, by so many workers.
-fn all_go<R: Threads + Wait + Sync, M: Mind + Send, A: Artifact + Send, D: Disk + Send>(
-    rt: &R,
-    alloc: Global,
-    recorder: &Recorder<A, D>,
-    shares: &mut [Share<M, A, D>],
-    workers: u32,
-)
-    requires some { 0 < workers }
-    requires may { All (spec.MayGo M.kind recorder.now) shares.old }
-    ensures { spec.AllCame M.kind recorder.now shares.old shares.new }
-{
-    let work = |_: usize, share: &mut Share<M, A, D>|
-        requires { IsSync R.row × spec.MayGo M.kind recorder.now share.now }
-        ensures { spec.HasCome M.kind recorder.entry.now share.entry.now share.exit.now }
-    { go(rt, alloc, recorder, share) };
-    thread::for_each_mut(rt, shares, workers as usize, &work);
-}
-
-/// The same of a list of shares.
-fn all_gone<R: Threads + Wait + Sync, M: Mind + Send, A: Artifact + Send, D: Disk + Send>(
-    rt: &R,
-    alloc: Global,
-    recorder: &Recorder<A, D>,
-    mut shares: Vec<Share<M, A, D>>,
-    workers: u32,
-) -> Vec<Share<M, A, D>>
-    requires some { 0 < workers }
-    requires may { All (spec.MayGo M.kind recorder.now) shares.items }
-    ensures { spec.AllCame M.kind recorder.now shares.items result.items }
-{
-    all_go(rt, alloc, recorder, shares.as_mut_slice(), workers);
-    shares
 }
 
 /// Whether every agent of these shares has left; or why a round was refused.
@@ -83,6 +51,77 @@ fn come_to<M: Mind, A: Artifact, D: Disk + Send>(
     Ok(ended)
 }
 
+/// A round of each of these shares, in order.
+fn each_goes<R: Threads + Wait + Sync, M: Mind, A: Artifact, D: Disk + Send>(
+    rt: &R,
+    alloc: Global,
+    recorder: &Recorder<A, D>,
+    shares: &mut [Share<M, A, D>],
+)
+    requires { All (spec.MayGo M.kind recorder.now) shares.old }
+    ensures { spec.AllCame M.kind recorder.now shares.old shares.new }
+{
+    for k in 0..shares.len() {
+        go(rt, alloc, recorder, &mut shares[k]);
+    }
+}
+
+/// Rounds of these shares, until every agent of them has left, a round is refused, or the stretch is over.
+fn stretch<R: Threads + Wait + Sync, M: Mind, A: Artifact, D: Disk + Send>(
+    rt: &R,
+    alloc: Global,
+    recorder: &Recorder<A, D>,
+    shares: &mut [Share<M, A, D>],
+)
+    requires { All (spec.MayGo M.kind recorder.now) shares.old }
+    ensures { spec.AllCame M.kind recorder.now shares.old shares.new }
+{
+    each_goes(rt, alloc, recorder, shares);
+    for _ in 1..STRETCH {
+        match come_to(shares) {
+            Ok(false) => each_goes(rt, alloc, recorder, shares),
+            Ok(true) => return,
+            Err(_) => return,
+        }
+    }
+}
+
+/// A stretch of all shares, by so many workers: each has some that lie side by side.
+fn all_go<R: Threads + Wait + Sync, M: Mind + Send, A: Artifact + Send, D: Disk + Send>(
+    rt: &R,
+    alloc: Global,
+    recorder: &Recorder<A, D>,
+    shares: &mut [Share<M, A, D>],
+    workers: u32,
+)
+    requires some { 0 < workers }
+    requires may { All (spec.MayGo M.kind recorder.now) shares.old }
+    ensures { spec.AllCame M.kind recorder.now shares.old shares.new }
+{
+    let work = |_: usize, part: &mut [Share<M, A, D>]|
+        requires { IsSync R.row × All (spec.MayGo M.kind recorder.now) part.now }
+        ensures { spec.AllCame M.kind recorder.entry.now part.entry.now part.exit.now }
+    { stretch(rt, alloc, recorder, part) };
+    let size = shares.len().div_ceil(workers as usize).max(1);
+    thread::for_each_chunk_mut(rt, shares, size, &work);
+}
+
+/// The same of a list of shares.
+fn all_gone<R: Threads + Wait + Sync, M: Mind + Send, A: Artifact + Send, D: Disk + Send>(
+    rt: &R,
+    alloc: Global,
+    recorder: &Recorder<A, D>,
+    mut shares: Vec<Share<M, A, D>>,
+    workers: u32,
+) -> Vec<Share<M, A, D>>
+    requires some { 0 < workers }
+    requires may { All (spec.MayGo M.kind recorder.now) shares.items }
+    ensures { spec.AllCame M.kind recorder.now shares.items result.items }
+{
+    all_go(rt, alloc, recorder, shares.as_mut_slice(), workers);
+    shares
+}
+
 /// The shares after their rounds, and whether every agent has left or why a round was refused.
 #[derive(Drop)]
 pub struct Ended<M: Mind, A: Artifact, D: Disk + Send> {
@@ -90,7 +129,7 @@ pub struct Ended<M: Mind, A: Artifact, D: Disk + Send> {
     pub came: Result<(), DeckFault>,
 }
 
-/// Round after round by so many workers, until every agent has left, or a round is refused.
+/// Stretch after stretch by so many workers, until every agent has left, or a round is refused.
 pub fn rounds<R: Threads + Wait + Sync, M: Mind + Send, A: Artifact + Send, D: Disk + Send>(
     rt: &R,
     alloc: Global,

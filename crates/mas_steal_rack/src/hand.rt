@@ -11,9 +11,13 @@ use crate::agent::ReadyAgent;
 use crate::deque::{Door, Key, Owner, push};
 use crate::looks::{Look, Round};
 use crate::turns::{AgentTurned, Turns};
+use mas_patience::patience::Patience;
 use std::collections::VecDeque;
 use std::sync::Wait;
 use std::thread::Threads;
+
+/// A worker whose agents are all ahead of another one sleeps so many nanoseconds at first.
+const FIRST_SLEEP: u64 = 50_000;
 
 /// The deques of all workers, as thieves see them.
 #[derive(Drop)]
@@ -306,6 +310,15 @@ impl<T: ReadyAgent> Hand<T> {
     }
 }
 
+// Waits a while where the last agents of a worker were all ahead of another one, which somebody else has in hand.
+fn give_way<R: Wait>(rt: &R, patience: &mut Patience, ahead: bool) {
+    if ahead {
+        patience.wait(rt);
+    } else {
+        patience.found();
+    }
+}
+
 /// Works until it finds no agent: its list is empty, and its own deque and each other one had none, each at a step of its
 /// last look, or it has kept as many as it has room for. Each agent that has ended is kept.
 pub fn steal_worker<T: ReadyAgent, W: Turns<T>, R: Threads + Wait + Sync>(
@@ -321,6 +334,7 @@ pub fn steal_worker<T: ReadyAgent, W: Turns<T>, R: Threads + Wait + Sync>(
     ensures worked { Worked T.number (W.ended work.now) hand.old hand.new }
     ensures over { IsOver hand.old.place (length rack.now.doors.items) hand.new result }
 {
+    let mut patience = Patience::new(FIRST_SLEEP);
     for _ in rt.forever() {
         let Look { agent, own, others } = hand.next(rt, rack);
         let Some(agent) = agent else {
@@ -332,6 +346,7 @@ pub fn steal_worker<T: ReadyAgent, W: Turns<T>, R: Threads + Wait + Sync>(
         };
         let turned = work.turn(rt, agent);
         hand.settle(rack, turned);
+        give_way(rt, &mut patience, hand.ahead);
     }
     unreachable!()
 }
