@@ -7,5 +7,4 @@ sys.path[0] = os.path.dirname(os.path.dirname(os.path.realpath(__file__)))
 from jasonport.command import main  # noqa: E402
 
 if __name__ == "__main__":
-    sys.setrecursionlimit(50_000)
     sys.exit(main(sys.argv[1:]))

@@ -154,7 +154,9 @@ class ClausePort:
             self.write(node, "true")
 
     def body(self, body: tree.Body) -> None:
-        """Ports the steps of a body; a `;` stands between them and nowhere else."""
+        """Ports the steps of a body; a `;` stands between them and nowhere else, and there is one step at least."""
+        if not body.items:
+            self.write(body, "true")
         for item in body.items:
             self.statement(item)
             is_last = item is body.items[-1]

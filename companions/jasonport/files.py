@@ -13,6 +13,7 @@ from .jacamo import read_jcm
 from .notes import Note, Page
 from .porting import Porting
 from .project import SOURCE_FOLDERS, Agent, Project, find_source, is_same_project, project_text, read_mas2j
+from .rules.table import row
 from .source import Source, read_text, relative_name
 from .words import call, flat_name, lower_first
 
@@ -115,6 +116,12 @@ def world_name(project: Project) -> Optional[str]:
     return name if re.fullmatch(r"[A-Za-z_]\w*", name, re.A) else "World"
 
 
+@row(
+    "an environment in Java",
+    "X",
+    "a `.env` with each action that the sources use, done by whom it may be and without effect; what usual lines of the class say stands in it as comments",
+    tests="project_java",
+)
 def world(porting: Porting, project: Project, name: str) -> str:
     """The world that stands beside the project; else a beginning of one, with the actions of the sources."""
     path = os.path.join(porting.folder, name + ".env")

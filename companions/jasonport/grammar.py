@@ -1,15 +1,18 @@
 """The grammar of Jason 3: from a text to its clauses. No rule of the port stands here."""
 from __future__ import annotations
 
+import sys
 from contextlib import contextmanager
 from typing import Callable, Iterator, NoReturn, Optional, Union
 
 from . import tree
 from .lexer import Fault, Token, tokens
+from .words import flat_name, free_name
 
 LEVELS = 250  # jasonrun has as many levels in a clause
 CHANGES = ("!", "!!", "?", "+", "-", "-+", "++", "--", "+<", "+>")
 RELATIONS = ("<", "<=", ">", ">=", "==", "\\==", "=", "=..")
+sys.setrecursionlimit(max(sys.getrecursionlimit(), 40 * LEVELS))  # a level takes a dozen calls
 
 
 class Reader:
@@ -17,6 +20,9 @@ class Reader:
 
     def __init__(self, source: str):
         self.source, self.tokens, self.next, self.level = source, tokens(source), 0, 0
+        self.variables = {token.text: token.text for token in self.tokens if token.kind == "variable"}
+        for name in [name for name in self.variables if not name.isascii()]:
+            self.variables[name] = free_name(flat_name(name), self.variables.values())
 
     def ahead(self, count: int = 0) -> Token:
         return self.tokens[min(self.next + count, len(self.tokens) - 1)]
@@ -190,9 +196,11 @@ class Terms(Reader):
             namespace, negated = token.text, self.negated() or negated
             token = self.name(start)
         given = self.arguments() if token.kind == "atom" and self.is_sign("(") else []
+        behind_name = token.end if given else self.last
         annotations = self.list() if self.is_sign("[") else None
         kind = tree.Variable if token.kind == "variable" else tree.Literal
-        return kind(start, self.last, token.text, token.end, negated, namespace, given, annotations)
+        name = self.variables.get(token.text, token.text)
+        return kind(start, self.last, name, token.end, behind_name, negated, namespace, given, annotations)
 
     def negated(self) -> bool:
         if self.is_sign("~"):

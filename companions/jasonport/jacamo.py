@@ -6,6 +6,7 @@ import re
 from .lexer import Fault
 from .notes import Page
 from .project import Agent, Project, ProjectReader, Token, at_commas, java_class
+from .rules.table import row
 
 NAMES = re.compile(r"[\w-]+")
 GONE = {
@@ -29,7 +30,7 @@ class JcmReader(ProjectReader):
             if self.ahead().kind == "end":
                 self.fail("'}' is missing at the end of the file")
             self.part()
-        return self.project
+        return self.whole()
 
     def part(self) -> None:
         word = self.name()
@@ -109,5 +110,6 @@ class JcmReader(ProjectReader):
         return self.page.text[start : self.ahead().place].strip().rstrip(";").strip()
 
 
+@row("`.jcm`", "D", "its agents, with their sources, beliefs, goals and instances, as a `.mas2j`", "workspaces, organisations, `join`, `focus`, `roles`: X", tests="project_jcm")
 def read_jcm(page: Page) -> Project:
     return JcmReader(page).read()

@@ -6,7 +6,7 @@ from typing import NamedTuple
 
 TOKEN = re.compile(
     r'''
- (?P<blank>[ \t\r\n\f]+|//[^\n]*|/\*.*?\*/)
+ (?P<blank>[ \t\r\n]+|//[^\n]*|/\*.*?\*/)
 |(?P<number>\d+(?:\.\d+)?(?:[eE][+-]?\d+)?)
 |(?P<string>"""(?:.*?)"""|"(?:[^"\\\n]|\\.)*")
 |(?P<variable>[A-Z_]\w*)

@@ -3,7 +3,7 @@ from __future__ import annotations
 
 from typing import NamedTuple, Optional
 
-from .tree import Named, Node
+from .tree import Named, Node, Variable
 
 
 class Printer:
@@ -19,7 +19,7 @@ class Printer:
         self.anew[node] = text
 
     def rename(self, node: Named, name: str) -> None:
-        """What stands up to the end of the name of a literal becomes this text."""
+        """What stands up to the end of the name of a literal becomes this text. Parentheses with nothing in them are left out in any case."""
         self.names[node] = name
 
     def is_anew(self, node: Node) -> bool:
@@ -39,15 +39,23 @@ class Printer:
         if node in self.anew:
             return self.anew[node]
         found, place = [], node.start
-        if isinstance(node, Named) and node in self.names:
-            found.append(self.names[node])
-            place = node.name_end
+        if isinstance(node, Named):
+            found.append(self.name_text(node))
+            place = node.behind_name
         for part in node.parts():
             found.append(self.source[place : part.start])
             found.append(self.text(part))
             place = part.end
         found.append(self.source[place : node.end])
         return "".join(found)
+
+
+    def name_text(self, node: Named) -> str:
+        """What is written up to the end of a name. The grammar gives variables other names where their letters are none of jasonrun's."""
+        if node in self.names:
+            return self.names[node]
+        text = self.source[node.start : node.name_end]
+        return node.name if isinstance(node, Variable) and text.isidentifier() and text != node.name else text
 
 
 class Piece(NamedTuple):

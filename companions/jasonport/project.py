@@ -8,9 +8,10 @@ from typing import NamedTuple, NoReturn, Optional
 
 from .lexer import Fault
 from .notes import Page
+from .rules.table import row
 from .words import flat_name, is_legal, lower_first
 
-TOKEN = re.compile(r'(?P<blank>\s+|//[^\n]*|/\*.*?\*/)|(?P<string>"[^"\n]*")|(?P<word>[\w.$/\\-]+)|(?P<sign>.)', re.S)
+TOKEN = re.compile(r'(?P<blank>[ \t\r\n]+|//[^\n]*|/\*.*?\*/)|(?P<string>"[^"\n]*")|(?P<word>[\w.$/\\-]+)|(?P<sign>.)', re.S)
 SECTIONS = ("infrastructure", "environment", "executionControl", "agents", "directives", "classpath", "aslsourcepath")
 CLASSES = ("agentArchClass", "agentClass", "beliefBaseClass")
 SOURCE_FOLDERS = ("src/agt", "src/asl", "asl")
@@ -116,6 +117,14 @@ class ProjectReader:
             self.fail(f"a name is missing before '{self.ahead().text}'" if self.ahead().kind != "end" else "a name is missing at the end of the file")
         return self.take()
 
+    def whole(self) -> Project:
+        """The project, once all is read."""
+        if not self.project.agents:
+            self.fail("the project has no agent")
+        if self.ahead().kind != "end":
+            self.fail("nothing may stand behind the project")
+        return self.project
+
     def skip_past(self, *ends: str) -> None:
         """Goes on to behind the next of these, or to the end."""
         while self.ahead().kind != "end" and self.take().text not in ends:
@@ -134,7 +143,7 @@ class Mas2jReader(ProjectReader):
             if self.ahead().kind == "end":
                 self.fail("'}' is missing at the end of the file")
             self.section()
-        return self.project
+        return self.whole()
 
     def section(self) -> None:
         word = self.ahead()
@@ -227,6 +236,7 @@ class Mas2jReader(ProjectReader):
                 self.project.note(token, f"the option {name}={value} is dropped", "project")
 
 
+@row("agentClass, agentArchClass, beliefBaseClass", "X", "dropped", tests="project_java project_jcm")
 def java_class(project: Project, token: Token, named: str) -> None:
     """A class of an agent."""
     project.page.todo(token.place, f"{named} is a class in Java, and dropped: rules, plans, the world", "java")
@@ -267,6 +277,13 @@ def file_word(name: str) -> str:
     return name if re.fullmatch(r"[a-z]\w*\.asl", name, re.A) else f'"{name}"'
 
 
+@row(
+    "`.mas2j`: infrastructure, agents with upper case, `#N`, files, aslSourcePath, options",
+    "D",
+    "written anew, where it says something else than blanks and comments; `beliefs=`, `goals=` go into a source of the agent's own",
+    "`verbose`, hosts, executionControl and so on are dropped",
+    tests="project project_kept project_actions",
+)
 def project_text(project: Project, environment: Optional[str], files: dict[int, str]) -> str:
     """The text of the project; `files` has the source of each agent by its number."""
     lines = [f"MAS {project.name} {{", "    infrastructure: Centralised"]

@@ -48,10 +48,12 @@ class ListTerm(Node):
 
 @dataclass(eq=False)
 class Named(Node):
-    """A variable or a literal. A namespace is a name, or empty where `::` stands alone; `name_end` is the place behind the name."""
+    """A variable or a literal. A namespace is a name, or empty where `::` stands alone; `name_end` is the place behind the name, `behind_name` that behind
+    parentheses with nothing in them as well."""
 
     name: str
     name_end: int
+    behind_name: int
     negated: bool
     namespace: Optional[str]
     arguments: list[Node]
@@ -353,6 +355,11 @@ def conjuncts(node: Node) -> list[Node]:
 def is_literal(node: Optional[Node], *names: str) -> bool:
     """Whether a node is a literal, of one of these names where some are given."""
     return isinstance(node, Literal) and (not names or node.name in names)
+
+
+def is_truth(node: Node) -> bool:
+    """Whether a node is `true` or `false`, and nothing more."""
+    return isinstance(node, Literal) and node.name in ("true", "false") and not node.parts() and node.namespace is None and not node.negated
 
 
 def of_kind(node: Optional[Node], *kinds: type) -> Iterator:

@@ -53,6 +53,8 @@ def inner_action(port: ClausePort, node: tree.Literal, in_context: bool) -> Answ
     """Ports an internal action: by its rule, else as one that jasonrun has."""
     if node.name[0] != ".":
         raise Todo("java", f"an internal action of its own, {node.name}: a rule, or an action of the world", node)
+    if node.namespace is not None or node.negated or node.annotations:
+        raise Todo("ia", f"{node.name} with a namespace, ~ or annotations", node)
     name = node.name[1:]
     if in_context and name in ACTING:
         raise Todo("intend" if name in ("desire", "intend") else "ia", f"{node.name} in a context", node)

@@ -28,7 +28,7 @@ def condition(port: ClausePort, node: tree.Literal) -> None:
         text = inner_action(port, node, in_context=True)
         if text is not None:
             port.write(node, text)
-    elif node.name not in ("true", "false") or node.arguments:
+    elif not tree.is_truth(node):
         literal(port, node)
 
 

@@ -24,6 +24,7 @@ def send(port: ClausePort, node: tree.Literal, in_context: bool) -> Answer:
     if in_context or len(node.arguments) < 3:
         raise Todo("ia", f".send with {len(node.arguments)} arguments", node)
     check_verb(node)
+    port.term(node.arguments[1])
     content(port, node)
     for answer in node.arguments[3:4]:
         port.term(answer)

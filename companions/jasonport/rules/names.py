@@ -29,6 +29,8 @@ def rename(port: ClausePort, node: tree.Named, in_namespace: bool) -> None:
     space, here = node.namespace, port.source.namespace
     if space is not None and space[:1].isupper():
         raise Todo("ns", "a variable as a namespace", node)
+    if space and not is_legal(space):
+        raise Todo("ns", f"{space} is no namespace", node)
     new = legal_name(port, node)
     if space is None:
         whole = here if in_namespace else ""
@@ -49,6 +51,8 @@ def literal(port: ClausePort, node: tree.Node, in_head: bool = False, in_namespa
         raise Todo("var", "a variable in place of a literal", node)
     if not isinstance(node, tree.Literal):
         raise Todo("syntax", "a literal is wanted", node)
+    if node.name[0] == ".":
+        raise Todo("syntax", "an internal action can't stand here", node)
     rename(port, node, in_namespace)
     for part in node.parts():
         port.term(part, in_head)

@@ -6,7 +6,9 @@ from typing import TYPE_CHECKING
 from .. import tree
 from ..notes import Todo
 from ..words import call, flat_name
+from .names import literal
 from .table import row, section
+from .waiting import event_of
 
 if TYPE_CHECKING:
     from ..clause import ClausePort
@@ -27,6 +29,7 @@ CAUGHT = ("test_failed", "action_failed", "ia_failed", "no_relevant")
 )
 def pattern(port: ClausePort, node: tree.Section) -> str:
     name, arguments = node.literal.name, node.literal.arguments
+    port_arguments(port, arguments)
     goal, tried = port.text(arguments[0]), port.additions.fresh("tried")
     found = [f"+!{goal} : {goal}."]
     ways = 0
@@ -46,6 +49,13 @@ def pattern(port: ClausePort, node: tree.Section) -> str:
         node, f"{name} is written out; a goal that failed is gone until its failure plan has it anew: name a goal above it where it is to be ended then", "pattern"
     )
     return "\n".join(it for it in found if it)
+
+
+def port_arguments(port: ClausePort, arguments: list[tree.Node]) -> None:
+    for argument in arguments:
+        literal(port, argument, in_head=True)
+    if port.questions:
+        raise Todo("arith", "arithmetic with variables in a directive", port.clause)
 
 
 def is_way(clause: tree.Clause, goal: tree.Node) -> bool:
@@ -85,6 +95,7 @@ def commitment(port: ClausePort, name: str, goal: str, arguments: list[tree.Node
 
 @section("mg")
 def maintenance(port: ClausePort, node: tree.Section) -> str:
+    port_arguments(port, node.literal.arguments[:1])
     goal = port.text(node.literal.arguments[0])
     port.note(node, "mg is written out", "pattern")
     return "\n".join([f"-{goal} <- !{goal}.", *map(port.source.clause_text, node.clauses)])
@@ -95,10 +106,11 @@ def one_at_a_time(port: ClausePort, node: tree.Section) -> str:
     if len(node.literal.arguments) != 3:
         raise Todo("directive", "sga has three arguments", node)
     event, context, wanted = node.literal.arguments
-    name = flat_name(getattr(tree.bare(wanted), "name", "goal"))
+    port_arguments(port, [wanted])
+    port.formula(context)
+    name = flat_name(wanted.name)
     busy_with, waits, serve = (port.additions.fresh(name + end) for end in ("_next", "_waits", "_serve"))
-    goal, trigger, busy = port.text(wanted), port.original(event).strip('"'), f"{busy_with}_busy"
-    trigger = trigger if trigger[:1] in ("+", "-") else f"+{trigger}"
+    goal, trigger, busy = port.text(wanted), event_text(port, event), f"{busy_with}_busy"
     marked = call(waits, [goal])
     port.note(
         node,
@@ -115,3 +127,12 @@ def one_at_a_time(port: ClausePort, node: tree.Section) -> str:
             f"-!{busy_with}({goal}).",
         ]
     )
+
+
+def event_text(port: ClausePort, event: tree.Node) -> str:
+    """The trigger that an argument of a directive is: a belief, or an event in a string or in braces."""
+    expected = event_of(event)
+    if expected is not None:
+        return expected.trigger.sign + expected.trigger.kind + expected.literal(port)
+    literal(port, event, in_head=True)
+    return "+" + port.text(event)

@@ -110,10 +110,8 @@ def act(port: ClausePort, node: tree.Item) -> Answer:
         if isinstance(subject, tree.Variable):
             raise Todo("var", "a variable in place of an action", subject)
         return test(port, subject)
-    if subject.name == "true" and not subject.arguments:
-        return None
-    if subject.name == "false":
-        return ".fail"
+    if tree.is_truth(subject):
+        return None if subject.name == "true" else ".fail"
     return inner_step(port, subject) if subject.is_inner else world_action(port, subject)
 
 

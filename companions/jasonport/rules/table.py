@@ -35,6 +35,7 @@ class Row(NamedTuple):
     becomes: str
     difference: str
     tests: tuple[str, ...]
+    module: str
 
     def __str__(self) -> str:
         cells = [self.construct, self.how, self.becomes, self.difference, ", ".join(self.tests)]
@@ -48,7 +49,7 @@ def row(construct: str, how: str, becomes: str, difference: str = "", *, tests: 
     """Puts a row of docs/PORT.md above the function that carries it. `tests` are names of cases, with blanks between them."""
 
     def mark(function: Callable) -> Callable:
-        ROWS.append(Row(construct, how, becomes, difference, tuple(tests.split())))
+        ROWS.append(Row(construct, how, becomes, difference, tuple(tests.split()), function.__module__))
         return function
 
     return mark

@@ -78,7 +78,7 @@ def negative(port: ClausePort, node: tree.Negative, in_head: bool) -> None:
 def literal(port: ClausePort, node: tree.Literal, in_head: bool) -> None:
     if node.name[0] == "." or node.name.startswith("math."):
         called(port, node)
-    elif node.name not in ("true", "false") or node.arguments or node.annotations:
+    elif not tree.is_truth(node):
         rename(port, node, in_namespace=False)
         for part in node.parts():
             port.term(part, in_head)

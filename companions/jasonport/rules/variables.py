@@ -15,12 +15,19 @@ if TYPE_CHECKING:
     from ..source import Source
 
 
+def is_for_all(plan: tree.Plan) -> bool:
+    """Whether a plan has no context, and no annotation that asks for more than some value: no error of its own."""
+    annotations = plan.trigger.literal.annotations
+    asked = [argument for it in (annotations.items if annotations else []) for argument in getattr(it, "arguments", []) or [it]]
+    return plan.context is None and all(isinstance(it, tree.Variable) for it in asked)
+
+
 def has_own_plan(source: Source, plan: tree.Plan, goal: Functor) -> bool:
-    """Whether a plan without context, for this goal alone, stands before the plan for all; for goals themselves, whether one stands anywhere."""
+    """Whether a plan for this goal alone, whatever is asked, stands before the plan for all goals; of plans that achieve, whether one stands anywhere."""
     others = [
         it
         for it in source.plans
-        if (it.trigger.sign, it.trigger.kind) == (plan.trigger.sign, "!") and isinstance(it.trigger.literal, tree.Literal) and it.context is None
+        if (it.trigger.sign, it.trigger.kind) == (plan.trigger.sign, "!") and isinstance(it.trigger.literal, tree.Literal) and is_for_all(it)
     ]
     return any(it.trigger.literal.functor == goal and (it.start < plan.start or plan.trigger.sign == "+") for it in others)
 
