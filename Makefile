@@ -1,6 +1,6 @@
 # make              proves and builds jasonrun, jasonlook, explore and chart, in crates/*/out (the first time takes hours: docs/PERFORMANCE.md)
 # make trial        builds them without the proofs, in minutes, for ./jasonrun, ./jasonlook, ./explore and ./chart
-# make install      puts the four programs, the manual pages, the completions, the documents, the examples and the files of editors into PREFIX
+# make install      puts the four programs, jasonport, the manual pages, the completions, the documents, the examples and the files of editors into PREFIX
 # make uninstall    removes them
 # make dist         packs them, for x86-64 Linux with glibc 2.34 or later, into dist/; SHA256SUMS there has the checksum
 
@@ -89,6 +89,12 @@ install: all
 	cp -r VERSION README.md CONTRIBUTING.md CHANGELOG.md LICENSE-MIT LICENSE-APACHE editors "$(own)"
 	find examples -type f ! -path '*/out/*' -exec cp --parents -t "$(own)" {} +
 	cp -r docs/*.md docs/*.1 docs/help.sh docs/pictures "$(own)/docs"
+	install -m 755 jasonport "$(bin)"
+	install -m 644 docs/jasonport.1 "$(man)"
+	install -m 644 completions/jasonport.bash "$(bash)/jasonport"
+	install -m 644 completions/_jasonport "$(zsh)"
+	install -m 644 completions/jasonport.fish "$(fish)"
+	find companions -name '*.py' ! -path '*/tests/*' -exec cp --parents -t "$(own)" {} +
 	chmod -R u=rwX,go=rX "$(own)" "$(exec)"
 
 uninstall:
@@ -96,6 +102,7 @@ uninstall:
 	rm -f "$(man)/jasonrun.1" "$(man)/jasonlook.1" "$(man)/explore.1" "$(man)/chart.1"
 	rm -f "$(bash)/jasonrun" "$(zsh)/_jasonrun" "$(fish)/jasonrun.fish" "$(bash)/jasonlook" "$(zsh)/_jasonlook" "$(fish)/jasonlook.fish"
 	rm -f "$(bash)/explore" "$(zsh)/_explore" "$(fish)/explore.fish" "$(bash)/chart" "$(zsh)/_chart" "$(fish)/chart.fish"
+	rm -f "$(bin)/jasonport" "$(man)/jasonport.1" "$(bash)/jasonport" "$(zsh)/_jasonport" "$(fish)/jasonport.fish"
 	rm -rf "$(own)" "$(exec)"
 
 # The programs are stripped, so their checksums are others than those of crates/*/out.

@@ -33,5 +33,6 @@ def condition(port: ClausePort, node: tree.Literal) -> None:
 
 
 @put(FORMULAS, tree.Variable)
+@row("a variable as an action, formula or belief, or with annotations", "X", "", tests="variables_todo")
 def variable(port: ClausePort, node: tree.Variable) -> None:
     raise Todo("var", "a variable in place of a formula", node)

@@ -39,7 +39,7 @@ def include(port: ClausePort, node: tree.Directive) -> str:
     return f"// from {name}\n{text.rstrip()}\n// end of {name}"
 
 
-@row('`{ include("f", ns) }`', "D", "`ns__p` for the beliefs and goals of the file", "messages; a variable as namespace: X", tests="include_namespace")
+@row('`{ include("f", h) }`', "D", "`h__p` for the beliefs and goals of the file", "messages; a variable as namespace: X", tests="include_namespace")
 def namespace_of(port: ClausePort, node: tree.Directive, name: str) -> str:
     """The namespace of the file: the second argument, else that of the file that includes it."""
     if len(node.literal.arguments) < 2:

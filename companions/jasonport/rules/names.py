@@ -23,7 +23,7 @@ def legal_name(port: ClausePort, node: tree.Named) -> Optional[str]:
     return new
 
 
-@row("`ns::p`", "D", "`ns__p`", "messages from outside have to say so; a variable as a namespace: X", tests="ns namespace_todo")
+@row("`h::p(X)`", "D", "`h__p(X)`", "messages from outside have to say so; a variable as a namespace: X", tests="ns namespace_todo")
 def rename(port: ClausePort, node: tree.Named, in_namespace: bool) -> None:
     """Writes the name of a literal so that jasonrun has it. Beliefs and goals stand in the namespace of their file."""
     space, here = node.namespace, port.source.namespace
