@@ -86,7 +86,7 @@ def find_jasonlook() -> Optional[str]:
         return shutil.which(named)
     top = os.path.dirname(os.path.dirname(os.path.dirname(os.path.realpath(__file__))))
     beside = [os.path.join(top, "jasonlook"), os.path.join(top, "crates/jasonlook/out/jasonlook"), os.path.join(top, "../../bin/jasonlook")]
-    return next((it for it in beside if os.path.isfile(it) and os.access(it, os.X_OK)), None) or shutil.which("jasonlook")
+    return next((it for it in map(os.path.normpath, beside) if os.path.isfile(it) and os.access(it, os.X_OK)), None) or shutil.which("jasonlook")
 
 
 class Gate:

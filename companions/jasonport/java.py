@@ -41,6 +41,12 @@ def literal_of(expression: str, constants: dict[str, str]) -> Optional[str]:
 
 
 def variable(word: str) -> str:
+    """A variable for a value: an argument of the action as the acts here name it, the agent that does it, else by its name."""
+    argument = re.search(r"getTerm\((\d+)\)", word)
+    if argument:
+        return f"X{int(argument.group(1)) + 1}"
+    if word in ("ag", "agName"):
+        return "A"
     name = re.sub(r"\W+", "_", word).strip("_")
     return name[:1].upper() + name[1:]
 

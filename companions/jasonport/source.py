@@ -61,12 +61,12 @@ class Source:
         return (node for clause in self.clauses for node in tree.of_kind(clause, *kinds))
 
     def named_goals(self) -> list[Functor]:
-        """The goals that initial goals, steps and triggers name, each once."""
+        """The goals that initial goals, steps and triggers name, each once; not the event that Jason makes of a message."""
         found = []
         for clause in self.all_clauses():
             for node in clause.walk():
                 literal = goal_of(node)
-                if isinstance(literal, tree.Literal):
+                if isinstance(literal, tree.Literal) and literal.name != "kqml_received":
                     found.append(Functor(("~" if literal.negated else "") + literal.name, len(literal.arguments)))
         return list(dict.fromkeys(found))
 
