@@ -7,10 +7,11 @@ let current_compiler = "jasonrun"
 let s:cpo = &cpo
 set cpo&vim
 
-" A name with backticks would be a command for glob(), and one with <cWORD> would be replaced by :make.
+" A name with backticks would be a command for glob(). In :make one with <cWORD> would be replaced, and what stands behind a bar would be a command of Vim's;
+" a ! means nothing there, and shellescape() puts a backslash before it.
 let s:beside = glob(fnameescape(expand("%:p:h")) . "/*.mas2j", 0, 1)
 let s:project = expand("%:e") !=# "mas2j" && len(s:beside) == 1 ? fnamemodify(s:beside[0], ":.") : "%"
-let s:word = s:project ==# "%" ? "%:S" : shellescape(s:project, 1)
+let s:word = s:project ==# "%" ? "%:S" : escape(substitute(shellescape(s:project, 1), '\\!', '!', "g"), "|")
 let s:program = get(g:, "jasonlook_program", "jasonlook")
 let &l:makeprg = "(" . s:program . " where " . s:word . " && " . s:program . " hints " . s:word . ")"
 
