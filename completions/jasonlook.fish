@@ -10,6 +10,14 @@ function __jasonlook_in
     test (count $words) -gt 1; and test $words[2] = $argv[1]
 end
 
+# projects, sources and folders
+function __jasonlook_projects
+    begin
+        __fish_complete_suffix .mas2j
+        __fish_complete_suffix .asl
+    end | string match -r '^(?:[^\t]*/|[^\t]*\.(?:mas2j|asl))(?:\t.*)?$'
+end
+
 complete -c jasonlook -f
 complete -c jasonlook -n __jasonlook_first -a where -d 'what is refused, with line and column'
 complete -c jasonlook -n __jasonlook_first -a hints -d 'what is read and looks wrong'
@@ -19,8 +27,8 @@ complete -c jasonlook -n __jasonlook_first -a drops -d 'what was dropped, has fa
 complete -c jasonlook -n __jasonlook_first -a page -d 'the run as a page, with what changed in minds'
 complete -c jasonlook -n __jasonlook_first -l help -d 'the commands'
 complete -c jasonlook -n __jasonlook_first -l version -d 'the version'
-complete -c jasonlook -n '__jasonlook_in where' -a '(__fish_complete_suffix .mas2j; __fish_complete_suffix .asl)'
-complete -c jasonlook -n '__jasonlook_in hints' -a '(__fish_complete_suffix .mas2j; __fish_complete_suffix .asl)'
+complete -c jasonlook -n '__jasonlook_in where' -a '(__jasonlook_projects)'
+complete -c jasonlook -n '__jasonlook_in hints' -a '(__jasonlook_projects)'
 complete -c jasonlook -n '__jasonlook_in messages' -F
 complete -c jasonlook -n '__jasonlook_in messages' -l csv -d 'a table for a spreadsheet'
 complete -c jasonlook -n '__jasonlook_in mind' -F

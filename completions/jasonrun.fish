@@ -30,6 +30,14 @@ function __jasonrun_name
     test $names -eq $argv[1]
 end
 
+# projects, sources and folders
+function __jasonrun_projects
+    begin
+        __fish_complete_suffix .mas2j
+        __fish_complete_suffix .asl
+    end | string match -r '^(?:[^\t]*/|[^\t]*\.(?:mas2j|asl))(?:\t.*)?$'
+end
+
 complete -c jasonrun -f
 complete -c jasonrun -n __jasonrun_first -a run -d 'run a project, or one agent'
 complete -c jasonrun -n __jasonrun_first -a replay -d 'run it along the order of turns in a file'
@@ -45,8 +53,8 @@ complete -c jasonrun -n __jasonrun_first -l help -d 'all commands'
 complete -c jasonrun -n __jasonrun_first -l version -d 'version and commit'
 complete -c jasonrun -n '__jasonrun_in help' -a "$all"
 
-complete -c jasonrun -n '__jasonrun_name 0 run replay check renew record resume sites lint' -a '(__fish_complete_suffix .mas2j; __fish_complete_suffix .asl)'
-complete -c jasonrun -n '__jasonrun_name 1 sites' -a '(__fish_complete_suffix .mas2j; __fish_complete_suffix .asl)'
+complete -c jasonrun -n '__jasonrun_name 0 run replay check renew record resume sites lint' -a '(__jasonrun_projects)'
+complete -c jasonrun -n '__jasonrun_name 1 sites' -a '(__jasonrun_projects)'
 complete -c jasonrun -n '__jasonrun_name 1 replay check renew record resume' -F
 complete -c jasonrun -n '__jasonrun_in run replay record resume sites' -l cycles -x -d 'cycles of each agent, 1 to 1000000 (1000)'
 complete -c jasonrun -n '__jasonrun_in run replay record resume sites' -l lead -x -d 'cycles that an agent may be ahead, 1 to 1000 (8)'
