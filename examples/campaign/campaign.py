@@ -63,23 +63,32 @@ def lines_of(folder):
     return [line.split(" ", 2) for line in (folder / "runs.txt").read_text().splitlines()]
 
 
-def run(folder, *numbers):
+def make_run(folder, name, k, options):
     """The report of a run goes to NAME/RUN.report; NAME/RUN.done, written last, has its status and what `check` said."""
+    report, done = folder / name / f"{k}.report", folder / name / f"{k}.done"
+    if done.exists():
+        return
+    source = str(folder / name / "campaign.mas2j")
+    with open(report, "wb") as out:
+        status = subprocess.run([PROGRAM, "run", source, *options.split()], stdout=out).returncode
+    check = subprocess.run([PROGRAM, "check", source, str(report)], capture_output=True, text=True).stdout.strip()
+    whole = done.with_suffix(".new")
+    whole.write_text(f"{status} {check or 'fault'}\n")
+    whole.rename(done)
+
+
+def run(folder, *numbers):
+    """Makes the runs of these lines that there are, and then tells of those that there are not."""
     if not shutil.which(PROGRAM):
         sys.exit(f"campaign.py: there is no program {PROGRAM}: put jasonrun into the path, or its name into the variable JASONRUN")
     lines = lines_of(folder)
+    there = {str(number): line for number, line in enumerate(lines, 1)}
     for number in numbers:
-        name, k, options = lines[int(number) - 1]
-        report, done = folder / name / f"{k}.report", folder / name / f"{k}.done"
-        if done.exists():
-            continue
-        source = str(folder / name / "campaign.mas2j")
-        with open(report, "wb") as out:
-            status = subprocess.run([PROGRAM, "run", source, *options.split()], stdout=out).returncode
-        check = subprocess.run([PROGRAM, "check", source, str(report)], capture_output=True, text=True).stdout.strip()
-        whole = done.with_suffix(".new")
-        whole.write_text(f"{status} {check or 'fault'}\n")
-        whole.rename(done)
+        if number in there:
+            make_run(folder, *there[number])
+    missing = [number for number in numbers if number not in there]
+    if missing:
+        sys.exit(f"campaign.py: {folder / 'runs.txt'} has {len(lines)} lines, and no line {', '.join(missing)}")
 
 
 def row(folder, name, k, options):
