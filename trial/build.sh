@@ -119,7 +119,7 @@ build_trial() {
     rt version >"$new/kit"
     sum=$(sum_of_sources "$new/kit")
     program=$top/.trial/$sum/$name
-    say 'building once, two to five minutes on a free processor, unproved; `make` proves (README.md, "Run it")'
+    say 'building once, about two minutes on a free processor, unproved; `make` proves (README.md, "Run it")'
     build_in_links || catch_program
     with_short_call "$new/$name" >/dev/null </dev/null 9>&- || fail 'the trial build does not run on this machine'
     [ "$sum" = "$(sum_of_sources "$new/kit")" ] || fail 'a source was changed during the build: call again'
