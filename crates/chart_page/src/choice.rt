@@ -52,18 +52,35 @@ fn stretch_of(word: &[u8]) -> Option<Stretch> {
     Some(Stretch { from, to })
 }
 
+/// Whether a word is this option.
+fn is_option(word: &[u8], option: &[u8]) -> bool {
+    word == option
+}
+
+/// Takes an option; then what the next word is.
+fn take_option(asked: &mut Asked<'_>, word: &[u8]) -> Option<Awaited> {
+    if is_option(word, b"--agents") {
+        return Some(Awaited::Names);
+    }
+    if is_option(word, b"--turns") {
+        return Some(Awaited::Turns);
+    }
+    if is_option(word, b"--all") {
+        asked.is_all = true;
+    } else if is_option(word, b"--page") {
+        asked.is_page = true;
+    } else {
+        return None;
+    }
+    Some(Awaited::Option)
+}
+
 /// Takes one word; then what the next one is.
 fn take<'a>(asked: &mut Asked<'a>, awaited: Awaited, word: &'a [u8]) -> Option<Awaited> {
     match awaited {
         Awaited::Names => asked.names = Some(word),
         Awaited::Turns => asked.turns = Some(stretch_of(word)?),
-        Awaited::Option => match word {
-            b"--all" => asked.is_all = true,
-            b"--page" => asked.is_page = true,
-            b"--agents" => return Some(Awaited::Names),
-            b"--turns" => return Some(Awaited::Turns),
-            _ => return None,
-        },
+        Awaited::Option => return take_option(asked, word),
     }
     Some(Awaited::Option)
 }

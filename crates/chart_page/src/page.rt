@@ -44,27 +44,34 @@ fn put_other(links: &mut [Link], index: usize, other: usize) {
     }
 }
 
-/// The links of all pieces, of which these cycles and messages are made.
+/// Notes at these links what cycles and messages tell.
+fn put_links(links: &mut [Link], cycles: &[Cycle], messages: &[Message]) {
+    for cycle in cycles {
+        put_turn(links, cycle);
+    }
+    for message in messages {
+        if let Some(taken) = message.taken {
+            put_other(links, message.sent, taken);
+            put_other(links, taken, message.sent);
+        }
+    }
+}
+
+/// The links of all pieces.
 fn links(
     alloc: Global,
-    count: usize,
-    cycles: &[Cycle],
-    messages: &[Message],
+    choice: Choice<'_>,
+    report: &Report<'_>,
+    pieces: &[Piece<'_>],
 ) -> Result<Vec<Link>, AllocError> {
     let none = Link {
         turn: 0,
         other: None,
     };
-    let mut links = Vec::from_elem(alloc, none, count)?;
-    for cycle in cycles {
-        put_turn(links.as_mut_slice(), cycle);
-    }
-    for message in messages {
-        if let Some(taken) = message.taken {
-            put_other(links.as_mut_slice(), message.sent, taken);
-            put_other(links.as_mut_slice(), taken, message.sent);
-        }
-    }
+    let cycles = in_order(alloc, choice, report, pieces)?;
+    let messages = messages(alloc, pieces)?;
+    let mut links = Vec::from_elem(alloc, none, pieces.len())?;
+    put_links(links.as_mut_slice(), cycles.as_slice(), messages.as_slice());
     Ok(links)
 }
 
@@ -228,9 +235,7 @@ pub fn page(
     ensures texts { IfOk result (λ html. HoldsAll html.items (map (λ p. p.text.now) pieces.now)) }
     ensures minds { IfOk result (λ html. TellsMinds minds.now html.items) }
 {
-    let cycles = in_order(alloc, choice, report, pieces)?;
-    let messages = messages(alloc, pieces)?;
-    let links = links(alloc, pieces.len(), cycles.as_slice(), messages.as_slice())?;
+    let links = links(alloc, choice, report, pieces)?;
     let svg = draw(alloc, choice, report, pieces)?;
     let mut out = KeptText::new(alloc);
     out.put(FRONT);

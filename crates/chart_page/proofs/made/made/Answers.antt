@@ -1,7 +1,7 @@
-use Rattle.std.proofs.Common.{◌≡◌, ◌==◌, ◌∙◌, ap, subst, List, ℕ, map}
+use Rattle.std.proofs.Common.{◌≡◌, ◌==◌, ◌∙◌, ap, sym, subst, codes, List, ℕ, map, IfOk, if◌then◌else◌}
 use Rattle.std.specs.List.{slice_split}
 use Rattle.chart_page.specs.Texts.{HoldsAll}
-use Rattle.chart_page.specs.Refused.{ShowsText}
+use Rattle.chart_page.specs.Refused.{Ends, ShowsText}
 use Rattle.chart_page.proofs.Shows.{if_ok, shows}
 use Rattle.chart_page.proofs.made.made.Goals as goal
 
@@ -26,3 +26,14 @@ returns-in-Ok-clause-shown c =
     (λ made h. shows c.args.choice text lines texts made.items split c.in_ok-pieces-in-Ok.ensures
     (subst (λ ps. HoldsAll made.items (map (λ p. p.text.now) ps)) c.as_slice-else-choice.ensures.value h))
     c.draw.ensures.texts
+
+pub returns-then-choice-clause-whole : goal.returns-then-choice-clause-whole
+returns-then-choice-clause-whole c =
+    subst (λ b. IfOk c.page.result (λ made. Ends made.items (if b then codes "</html>" else codes "</svg>"))) (sym c.if-choice.true) c.page.ensures.whole
+
+pub returns-then-choice-clause-minds : goal.returns-then-choice-clause-minds
+returns-then-choice-clause-minds c = λ is_page. c.page.ensures.minds
+
+pub returns-in-Ok-clause-whole : goal.returns-in-Ok-clause-whole
+returns-in-Ok-clause-whole c =
+    subst (λ b. IfOk c.draw.result (λ made. Ends made.items (if b then codes "</html>" else codes "</svg>"))) (sym c.if-choice.false) c.draw.ensures.whole
