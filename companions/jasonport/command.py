@@ -102,7 +102,8 @@ class Gate:
             self.unasked = "jasonlook was not found"
             return True
         try:
-            call = subprocess.run([os.path.abspath(program), "where", os.path.join(".", main)], cwd=folder, capture_output=True, encoding="utf-8", errors="replace")
+            words = [os.path.abspath(program), "where", os.path.join(".", main)]
+            call = subprocess.run(words, cwd=folder, capture_output=True, encoding="utf-8", errors="replace")
         except OSError as error:
             self.unasked = f"{program} can't be run: {error.strerror}"
             return True
@@ -163,7 +164,8 @@ def run(words: list[str]) -> int:
     if not write_folder(result.files, asked.folder, is_accepted):
         raise Ended(REFUSED, "jasonport: jasonrun would not read what came of it, so nothing is written: what jasonlook tells of it stands above")
     if gate.unasked:
-        raise Ended(UNASKED, f"jasonport: written, and not checked: {gate.unasked}. `jasonlook where {os.path.join(asked.folder, result.main)}` tells whether jasonrun reads it")
+        path = os.path.join(asked.folder, result.main)
+        raise Ended(UNASKED, f"jasonport: written, and not checked: {gate.unasked}. `jasonlook where {path}` tells whether jasonrun reads it")
     return status
 
 

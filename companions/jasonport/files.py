@@ -130,7 +130,8 @@ def world(porting: Porting, project: Project, name: str) -> str:
     named = project.environment.text
     lines = java.comments(porting.folder, named)
     found = "; what its usual lines say stands there as comments" if lines else ""
-    project.page.todo(project.environment.place, f"the environment {named} is Java: {name}.env has its {len(porting.actions)} actions by name, and no facts{found}", "env")
+    text = f"the environment {named} is Java: {name}.env has its {len(porting.actions)} actions by name, and no facts{found}"
+    project.page.todo(project.environment.place, text, "env")
     acts = [f"act {call(action.name, [f'X{count + 1}' for count in range(action.count)])} by A -> true." for action in sorted(porting.actions)]
     return "\n".join([f"// todo: the facts, and what each action needs and changes, from {named}", *lines, *acts]) + "\n"
 
@@ -153,7 +154,8 @@ def check_folder(folder: str) -> None:
 
 
 def write_folder(files: dict[str, str], folder: str, is_accepted: Callable[[str], bool]) -> bool:
-    """Writes the files into a temporary folder beside, which becomes the folder where it is accepted; else nothing is left. Whether it was accepted."""
+    """Writes the files into a temporary folder beside, which becomes the folder where it is accepted; else nothing is left. Answers whether
+    it was accepted."""
     folder = os.path.realpath(folder)
     made = missing_parents(folder)
     os.makedirs(os.path.dirname(folder), exist_ok=True)

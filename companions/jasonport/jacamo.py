@@ -110,6 +110,12 @@ class JcmReader(ProjectReader):
         return self.page.text[start : self.ahead().place].strip().rstrip(";").strip()
 
 
-@row("`.jcm`", "D", "its agents, with their sources, beliefs, goals and instances, as a `.mas2j`", "workspaces, organisations, `join`, `focus`, `roles`: X", tests="project_jcm")
+@row(
+    "`.jcm`",
+    "D",
+    "its agents, with their sources, beliefs, goals and instances, as a `.mas2j`",
+    "workspaces, organisations, `join`, `focus`, `roles`: X",
+    tests="project_jcm",
+)
 def read_jcm(page: Page) -> Project:
     return JcmReader(page).read()

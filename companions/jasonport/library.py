@@ -118,7 +118,8 @@ def names_of(entry: str) -> list[str]:
 
 @dataclass
 class Additions:
-    """What is added to a source: entries of the library, each name with the one that it has here, and further clauses. `taken` are the names of the source."""
+    """What is added to a source: entries of the library, each name with the one that it has here, and further clauses. `taken` are the names
+    of the source."""
 
     taken: set[str] = field(default_factory=set)
     entries: list[str] = field(default_factory=list)

@@ -25,10 +25,6 @@ class Printer:
     def is_anew(self, node: Node) -> bool:
         return node in self.anew
 
-    def as_it_stands(self, node: Node) -> None:
-        """Forgets what was to be written in place of a node."""
-        self.anew.pop(node, None)
-
     def original(self, node: Node) -> str:
         return self.source[node.start : node.end]
 
@@ -73,7 +69,8 @@ def faults_of_pieces(source: str, pieces: list[Piece], noted: set[int]) -> list[
         if piece.start != place:
             faults.append(place)
         place = piece.end
-        if piece.text != source[piece.start : piece.end] and not any(piece.start <= at < piece.end or at == piece.start for at in noted):
+        is_noted = any(piece.start <= at < piece.end or at == piece.start for at in noted)
+        if piece.text != source[piece.start : piece.end] and not is_noted:
             faults.append(piece.start)
     if place != len(source):
         faults.append(place)

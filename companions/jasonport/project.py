@@ -107,14 +107,18 @@ class ProjectReader:
     def fail(self, text: str) -> NoReturn:
         raise Fault(self.ahead().place, text)
 
+    def missing(self, what: str) -> NoReturn:
+        behind = self.ahead()
+        self.fail(f"{what} is missing at the end of the file" if behind.kind == "end" else f"{what} is missing before '{behind.text}'")
+
     def need(self, text: str) -> Token:
         if self.ahead().text != text:
-            self.fail(f"'{text}' is missing before '{self.ahead().text}'" if self.ahead().kind != "end" else f"'{text}' is missing at the end of the file")
+            self.missing(f"'{text}'")
         return self.take()
 
     def name(self) -> Token:
         if self.ahead().kind not in ("word", "string"):
-            self.fail(f"a name is missing before '{self.ahead().text}'" if self.ahead().kind != "end" else "a name is missing at the end of the file")
+            self.missing("a name")
         return self.take()
 
     def whole(self) -> Project:

@@ -77,7 +77,8 @@ def bound_in_rounds(loop: tree.Loop) -> set[str]:
     """The variables that a round of a loop may bind."""
     found: set[str] = set()
     for node in loop.walk():
-        if isinstance(node, tree.Item) and node.sign in ("!", "?") or tree.is_literal(node) and node.name[0] == "." and node.name not in (*PRINTS, ".broadcast"):
+        is_inner = isinstance(node, tree.Literal) and node.name[0] == "." and node.name not in (*PRINTS, ".broadcast")
+        if is_inner or isinstance(node, tree.Item) and node.sign in ("!", "?"):
             found.update(variables(node))
         elif isinstance(node, tree.Relation) and node.sign == "=":
             sides = (bare(node.left), bare(node.right))

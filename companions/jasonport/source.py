@@ -42,7 +42,7 @@ class Source:
         self.by_event: dict[Event, list[tree.Plan]] = {}
         for plan in self.plans:
             self.by_event.setdefault(plan.trigger.event, []).append(plan)
-        # what some rules keep: of which internal actions it was told that they pass goals by, the goals with drawn numbers, the goal for variable goals
+        # what some rules keep: of which internal actions it was told that they pass goals by, the goals with drawn numbers, that for variables
         self.passed_by: set[str] = set()
         self.chances: dict[Event, str] = {}
         self.call_goal: Optional[str] = None

@@ -48,8 +48,8 @@ class ListTerm(Node):
 
 @dataclass(eq=False)
 class Named(Node):
-    """A variable or a literal. A namespace is a name, or empty where `::` stands alone; `name_end` is the place behind the name, `behind_name` that behind
-    parentheses with nothing in them as well."""
+    """A variable or a literal. A namespace is a name, or empty where `::` stands alone; `name_end` is the place behind the name,
+    `behind_name` that behind parentheses with nothing in them as well."""
 
     name: str
     name_end: int

@@ -65,7 +65,12 @@ def inner_action(port: ClausePort, node: tree.Literal, in_context: bool) -> Answ
     return text
 
 
-@row("internal actions of one's own, `jia.x`; `.suspend`, `.create_agent`, `.map`, `.term2string`, `.setof` and others", "X", "", tests="suspend neg_todo if_todo gone")
+@row(
+    "internal actions of one's own, `jia.x`; `.suspend`, `.create_agent`, `.map`, `.term2string`, `.setof` and others",
+    "X",
+    "",
+    tests="suspend neg_todo if_todo gone",
+)
 def kept(port: ClausePort, node: tree.Literal) -> None:
     """An internal action that jasonrun has, with arguments that it takes."""
     name = node.name[1:]
@@ -83,15 +88,21 @@ def kept(port: ClausePort, node: tree.Literal) -> None:
             port.term(argument)
 
 
-@row("`.succeed_goal(g)`, `.drop_intention(g)` and others of a goal with a failure plan", "S", "note `[below]`", "a goal that failed is gone while its failure plan runs", tests="below")
+@row(
+    "`.succeed_goal(g)`, `.drop_intention(g)` and others of a goal with a failure plan",
+    "S",
+    "note `[below]`",
+    "a goal that failed is gone while its failure plan runs",
+    tests="below",
+)
 def passed_by(port: ClausePort, node: tree.Literal, name: str) -> None:
     """Tells once that a goal which failed is not found while its failure plan runs."""
     source, goal = port.source, node.arguments[0].name
-    if name in ABOUT_GOALS and name not in source.passed_by and any(
-        (plan.trigger.sign, plan.trigger.kind, plan.trigger.literal.name) == ("-", "!", goal) for plan in source.plans
-    ):
+    has_failure_plan = any((plan.trigger.sign, plan.trigger.kind, plan.trigger.literal.name) == ("-", "!", goal) for plan in source.plans)
+    if name in ABOUT_GOALS and name not in source.passed_by and has_failure_plan:
         source.passed_by.add(name)
-        port.note(node, f"a goal {goal} that failed is not there any more while its failure plan runs: {node.name} passes it by (a goal above it stays)", "below")
+        text = f"a goal {goal} that failed is not there any more while its failure plan runs: {node.name} passes it by (a goal above it stays)"
+        port.note(node, text, "below")
 
 
 # ---- Those that are spelled otherwise
@@ -131,7 +142,13 @@ def log(port: ClausePort, node: tree.Literal, in_context: bool) -> Answer:
 
 
 @action("perceive")
-@row("`.perceive`, `.stopMAS(0)`, `.fail(..)`, a `;` before the dot", "E", "dropped, `.stopMAS`, `.fail`, dropped", "a failure by `.fail` has the error `ia_failed`", tests="perceive semi")
+@row(
+    "`.perceive`, `.stopMAS(0)`, `.fail(..)`, a `;` before the dot",
+    "E",
+    "dropped, `.stopMAS`, `.fail`, dropped",
+    "a failure by `.fail` has the error `ia_failed`",
+    tests="perceive semi",
+)
 def perceive(port: ClausePort, node: tree.Literal, in_context: bool) -> Answer:
     port.note(node, ".perceive is dropped: each cycle perceives", "library")
     return "true"
@@ -151,7 +168,13 @@ def fail(port: ClausePort, node: tree.Literal, in_context: bool) -> Answer:
 
 
 @action("current_intention")
-@row("`.current_intention(I)`, where I is only printed", "D", '`I = "?"`', "`jasonlook mind` shows intentions; else X", tests="intention_printed")
+@row(
+    "`.current_intention(I)`, where I is only printed",
+    "D",
+    '`I = "?"`',
+    "`jasonlook mind` shows intentions; else X",
+    tests="intention_printed",
+)
 def current_intention(port: ClausePort, node: tree.Literal, in_context: bool) -> Answer:
     if in_context or len(node.arguments) != 1 or not isinstance(node.arguments[0], tree.Variable):
         return None
@@ -165,7 +188,13 @@ def current_intention(port: ClausePort, node: tree.Literal, in_context: bool) ->
 
 
 @action("drop_all_desires", "drop_all_intentions")
-@row("`.drop_all_intentions`, `_desires`", "D", "one step for each goal that the source names", "goals that only messages bring", tests="drop_all")
+@row(
+    "`.drop_all_intentions`, `_desires`",
+    "D",
+    "one step for each goal that the source names",
+    "goals that only messages bring",
+    tests="drop_all",
+)
 def drop_all(port: ClausePort, node: tree.Literal, in_context: bool) -> Answer:
     """Each goal that the source names is dropped, that of the plan last."""
     one = ".drop_desire" if node.name == ".drop_all_desires" else ".drop_intention"

@@ -92,7 +92,12 @@ def put_list_goal(port: ClausePort, node: tree.For, name: str, item: str, hand: 
     ]
 
 
-@row("`for (.member(X, L))`, `for (.range(I, A, B, S))`", "E", "`!g_for(L, V..)` with `[X|R]`; `!g_for(A, B, V..)` that counts", tests="for_goalvar for_range range_step_todo")
+@row(
+    "`for (.member(X, L))`, `for (.range(I, A, B, S))`",
+    "E",
+    "`!g_for(L, V..)` with `[X|R]`; `!g_for(A, B, V..)` that counts",
+    tests="for_goalvar for_range range_step_todo",
+)
 def for_members(port: ClausePort, node: tree.For, name: str, condition: tree.Literal) -> str:
     item, members = condition.arguments
     hand = rounds(port, node, handed_on(port, node, {item.name}))
@@ -112,10 +117,10 @@ def for_range(port: ClausePort, node: tree.For, name: str, condition: tree.Liter
     last = port.scope.new("To")
     count = port.scope.new("I") if count == "_" else count
     helpers = len(port.helpers)
-    asked = f" & {hand.asked}" if hand.asked else ""
+    asked, next_one = f" & {hand.asked}" if hand.asked else "", f"{count} + {step}"
     body = port.body_text(node.body)
     port.helpers[helpers:helpers] = [
-        f"+!{call(name, [count, last, *hand.inside])} : {count} <= {last}{asked} <- {body}; !{call(name, [f'{count} + {step}', last, *hand.inside])}.",
+        f"+!{call(name, [count, last, *hand.inside])} : {count} <= {last}{asked} <- {body}; !{call(name, [next_one, last, *hand.inside])}.",
         f"+!{blank_call(name, 2 + len(hand.values))}.",
     ]
     return "!" + call(name, [port.text(condition.arguments[1]), port.text(condition.arguments[2]), *hand.values])

@@ -12,7 +12,13 @@ if TYPE_CHECKING:
 
 
 @action("date", "time")
-@row("`.date`, `.time`", "D", "a belief; a clock that each question in a body moves by a second", "no time; with other arguments: X", tests="date_time")
+@row(
+    "`.date`, `.time`",
+    "D",
+    "a belief; a clock that each question in a body moves by a second",
+    "no time; with other arguments: X",
+    tests="date_time",
+)
 def date_or_time(port: ClausePort, node: tree.Literal, in_context: bool) -> Answer:
     if len(node.arguments) != 3:
         return None

@@ -1,5 +1,5 @@
-"""Decimals: places whose numbers are compared, added or made the same have one unit, over all sources. A class of places with a decimal, and without a
-product, a quotient or another use that would show the unit, gets whole numbers of its smallest unit."""
+"""Decimals: places whose numbers are compared, added or made the same have one unit, over all sources. A class of places with a decimal, and
+without a product, a quotient or another use that would show the unit, gets whole numbers of its smallest unit."""
 from __future__ import annotations
 
 from typing import TYPE_CHECKING, Hashable, Iterable, Optional

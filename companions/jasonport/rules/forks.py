@@ -59,7 +59,8 @@ def fork(port: ClausePort, node: tree.Fork) -> Answer:
     plans += [f"-!{names.part('I')} <- +{names.done('failed')}.", starting(names, numbers), *joining(names, numbers, for_all)]
     port.helpers[helpers:helpers] = plans
     mixed = "; two at once with the same values would be mixed up" if names.values else ""
-    port.note(node, f"{node.signs[0]} is the goal {name}: its branches are intentions of their own, and a third looks whether they are done{mixed}", "fork")
+    text = f"{node.signs[0]} is the goal {name}: its branches are intentions of their own, and a third looks whether they are done{mixed}"
+    port.note(node, text, "fork")
     return "!" + names.goal
 
 

@@ -21,7 +21,12 @@ def asked(port: ClausePort, node: tree.Literal, question: str, is_rule: bool = F
 
 
 @function(".length/1")
-@row("`.length(L) + 1`, `.count(F)`, `math.abs max min sum`", "E", "asked before: `.length(L, V)`; in a formula `(.. & ..)`", tests="length count math")
+@row(
+    "`.length(L) + 1`, `.count(F)`, `math.abs max min sum`",
+    "E",
+    "asked before: `.length(L, V)`; in a formula `(.. & ..)`",
+    tests="length count math",
+)
 def length(port: ClausePort, node: tree.Literal) -> None:
     port.term(node.arguments[0])
     asked(port, node, f".length({port.text(node.arguments[0])}, %s)")

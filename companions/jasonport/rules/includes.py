@@ -13,7 +13,13 @@ if TYPE_CHECKING:
 
 
 @directive("include")
-@row('`{ include("f") }`', "E", "the file's text, ported, in its place", "a file that is not there: X", tests="include include_todo")
+@row(
+    '`{ include("f") }`',
+    "E",
+    "the file's text, ported, in its place",
+    "a file that is not there: X",
+    tests="include include_todo",
+)
 def include(port: ClausePort, node: tree.Directive) -> str:
     from ..source import Source, relative_name
 
@@ -39,7 +45,13 @@ def include(port: ClausePort, node: tree.Directive) -> str:
     return f"// from {name}\n{text.rstrip()}\n// end of {name}"
 
 
-@row('`{ include("f", h) }`', "D", "`h__p` for the beliefs and goals of the file", "messages; a variable as namespace: X", tests="include_namespace")
+@row(
+    '`{ include("f", h) }`',
+    "D",
+    "`h__p` for the beliefs and goals of the file",
+    "messages; a variable as namespace: X",
+    tests="include_namespace",
+)
 def namespace_of(port: ClausePort, node: tree.Directive, name: str) -> str:
     """The namespace of the file: the second argument, else that of the file that includes it."""
     if len(node.literal.arguments) < 2:

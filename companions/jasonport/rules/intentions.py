@@ -32,9 +32,11 @@ def asked_in_body(port: ClausePort, plan: tree.Plan) -> bool:
     part = bare(asking[0])
     is_not = isinstance(part, tree.Not)
     question = bare(part.inside) if is_not else part
-    if len(asking) > 1 or not tree.is_literal(question, *ASKED) or len(question.arguments) != 1 or port.source.by_event.get(plan.trigger.event, [plan])[-1] is not plan:
-        named = isinstance(question, tree.Literal)
-        why = f"{question.name} in a context, with other plans behind: ask it in a body, and go on in its failure plan" if named else ".desire in a formula"
+    is_last = port.source.by_event.get(plan.trigger.event, [plan])[-1] is plan
+    if not isinstance(question, tree.Literal):
+        raise Todo("intend", ".desire in a formula", asking[0])
+    if len(asking) > 1 or question.name not in ASKED or len(question.arguments) != 1 or not is_last:
+        why = f"{question.name} in a context, with other plans behind: ask it in a body, and go on in its failure plan"
         raise Todo("intend", why, asking[0])
     rest = [it for it in parts if it is not asking[0]]
     for other in rest:

@@ -52,9 +52,8 @@ def atomic(port: ClausePort, node: tree.Label) -> None:
             disturbed |= (own.asked | own.changed) & Effects(source).of(plan).changed
     if disturbed:
         names = ", ".join(sorted(disturbed))
-        port.todo(
-            node, f"no plan is atomic here, and other steps may change {names} between those of this one: use a slot, or one goal that serves all", "atomic"
-        )
+        text = f"no plan is atomic here, and other steps may change {names} between those of this one: use a slot, or one goal that serves all"
+        port.todo(node, text, "atomic")
     else:
         port.note(node, "no plan is atomic here; nothing in this source changes what this one asks for or changes", "atomic")
 

@@ -50,7 +50,8 @@ def by_rule(port: ClausePort, node: tree.Literal, in_context: bool) -> Answer:
     for argument in node.arguments:
         port.term(argument)
     first = node.arguments[0]
-    if name == "sort" and isinstance(first, tree.ListTerm) and any(isinstance(bare(it), (tree.Literal, tree.String, tree.ListTerm)) for it in first.items):
+    others = [it for it in getattr(first, "items", []) if isinstance(bare(it), (tree.Literal, tree.String, tree.ListTerm))]
+    if name == "sort" and others:
         raise Todo("library", ".sort of other items than numbers", node)
     of_numbers = ", for numbers; equal ones stay, as in Jason" if name == "sort" else ""
     port.note(node, f"{node.name} is a rule{of_numbers}", "library")
@@ -77,7 +78,13 @@ def empty(port: ClausePort, node: tree.Literal, in_context: bool) -> Answer:
 
 
 @action("min", "max")
-@row("`.min`, `.max` of `d(K, V)`", "D", "a rule by the first argument, a number", "of equal ones the first; of lists: X", tests="lib")
+@row(
+    "`.min`, `.max` of `d(K, V)`",
+    "D",
+    "a rule by the first argument, a number",
+    "of equal ones the first; of lists: X",
+    tests="lib",
+)
 def extreme(port: ClausePort, node: tree.Literal, in_context: bool) -> Answer:
     """The pattern of what is found tells of which terms the first argument counts. Of numbers jasonrun has both."""
     if len(node.arguments) != 2:
@@ -89,10 +96,11 @@ def extreme(port: ClausePort, node: tree.Literal, in_context: bool) -> Answer:
         return None
     for argument in node.arguments:
         port.term(argument)
-    text = ("" if in_context else "?") + call(port.library("least" if node.name == ".min" else "greatest"), [port.text(node.arguments[0]), port.text(wanted)])
+    text = rule_call(port, "least" if node.name == ".min" else "greatest", [node.arguments[0], wanted], in_context)
     name = port.printer.names.get(wanted, wanted.name)
     port.additions.clauses.append(f"{port.library('key')}({call(name, ['K'] + ['_'] * (len(wanted.arguments) - 1))}, K) :- true.")
-    port.note(node, f"{node.name} of terms is a rule that goes by their first argument, a number; of equal ones it takes the first", "library")
+    text_of_note = f"{node.name} of terms is a rule that goes by their first argument, a number; of equal ones it takes the first"
+    port.note(node, text_of_note, "library")
     return text
 
 
@@ -118,7 +126,8 @@ def findall(port: ClausePort, node: tree.Literal, in_context: bool) -> Answer:
 def calculated(port: ClausePort, node: Node) -> None:
     """Ports an item of .findall. Its arithmetic becomes variables, for which the formula asks."""
     inside = bare(node)
-    is_sum = isinstance(inside, (tree.Arithmetic, tree.Negative)) and not (isinstance(inside, tree.Negative) and isinstance(inside.inside, tree.Number))
+    is_number = isinstance(inside, tree.Negative) and isinstance(inside.inside, tree.Number)
+    is_sum = isinstance(inside, (tree.Arithmetic, tree.Negative)) and not is_number
     if is_sum and not any(isinstance(bare(it), tree.String) for it in summands(inside)):
         port.term(inside)
         name = port.variable()

@@ -61,7 +61,13 @@ def without_time_out(port: ClausePort, node: tree.Literal) -> None:
 # ---- What is sent
 
 
-@row("`tellHow {plan}`, `askHow {+!g}`", "E", "a string; the goal", "with values of the sender in it, or with `if` and others: X", tests="tell_how tell_how_todo")
+@row(
+    "`tellHow {plan}`, `askHow {+!g}`",
+    "E",
+    "a string; the goal",
+    "with values of the sender in it, or with `if` and others: X",
+    tests="tell_how tell_how_todo",
+)
 def content(port: ClausePort, node: tree.Literal) -> None:
     sent, verb = bare(node.arguments[2]), getattr(node.arguments[1], "name", None)
     if isinstance(sent, tree.Braces):
@@ -101,7 +107,13 @@ def only_told(node: tree.Literal) -> None:
         raise Todo("message", "a question to several, with an answer", node)
 
 
-@row('`.send` to a list; to `"bob"`', "E", "`send_all`, or several; the atom", "a question with an answer: X", tests="sendlist send_found send_string send_todo")
+@row(
+    '`.send` to a list; to `"bob"`',
+    "E",
+    "`send_all`, or several; the atom",
+    "a question with an answer: X",
+    tests="sendlist send_found send_string send_todo",
+)
 def receiver_name(port: ClausePort, node: Node) -> str:
     node = bare(node)
     if isinstance(node, tree.String):
@@ -118,7 +130,8 @@ def receiver_name(port: ClausePort, node: Node) -> str:
 
 def to_variable(port: ClausePort, node: tree.Literal, receiver: tree.Variable, told: str) -> Answer:
     """To a variable that stands for a text or a list; nothing where that is not known of it."""
-    made = [it for it in tree.of_kind(port.clause, tree.Literal) if it.name in MAKING and it.arguments and is_variable(it.arguments[-1], receiver.name)]
+    calls = [it for it in tree.of_kind(port.clause, tree.Literal) if it.name in MAKING and it.arguments]
+    made = [it for it in calls if is_variable(it.arguments[-1], receiver.name)]
     if not made:
         return None
     if made[0].name == ".concat":
@@ -132,7 +145,13 @@ def is_variable(node: Node, name: str) -> bool:
     return isinstance(node, tree.Variable) and node.name == name
 
 
-@row("`.send` to a name from `.concat`", "E", "a table of the project's agents", "without a project: X", tests="send_computed send_computed_todo")
+@row(
+    "`.send` to a name from `.concat`",
+    "E",
+    "a table of the project's agents",
+    "without a project: X",
+    tests="send_computed send_computed_todo",
+)
 def to_text(port: ClausePort, receiver: tree.Variable, told: str) -> str:
     if not port.porting.agents:
         raise Todo("name", "a name of an agent that is computed, and no project that tells all names", receiver)

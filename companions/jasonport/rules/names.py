@@ -12,7 +12,13 @@ if TYPE_CHECKING:
     from ..clause import ClausePort
 
 
-@row("quoted atoms, atoms with dots, with other letters than `a` to `z`", "D", "a legal name, one for all sources", "printed so", tests="atoms letters")
+@row(
+    "quoted atoms, atoms with dots, with other letters than `a` to `z`",
+    "D",
+    "a legal name, one for all sources",
+    "printed so",
+    tests="atoms letters",
+)
 def legal_name(port: ClausePort, node: tree.Named) -> Optional[str]:
     """The name in place of one that jasonrun does not have."""
     name = node.name
@@ -23,7 +29,13 @@ def legal_name(port: ClausePort, node: tree.Named) -> Optional[str]:
     return new
 
 
-@row("`h::p(X)`", "D", "`h__p(X)`", "messages from outside have to say so; a variable as a namespace: X", tests="ns namespace_todo")
+@row(
+    "`h::p(X)`",
+    "D",
+    "`h__p(X)`",
+    "messages from outside have to say so; a variable as a namespace: X",
+    tests="ns namespace_todo",
+)
 def rename(port: ClausePort, node: tree.Named, in_namespace: bool) -> None:
     """Writes the name of a literal so that jasonrun has it. Beliefs and goals stand in the namespace of their file."""
     space, here = node.namespace, port.source.namespace

@@ -45,9 +45,8 @@ def pattern(port: ClausePort, node: tree.Section) -> str:
         found.append(f"+{goal} <- .abolish({tried}(_, {goal})); .succeed_goal({goal}).")
     else:
         found += commitment(port, name, goal, arguments)
-    port.note(
-        node, f"{name} is written out; a goal that failed is gone until its failure plan has it anew: name a goal above it where it is to be ended then", "pattern"
-    )
+    text = f"{name} is written out; a goal that failed is gone until its failure plan has it anew: name a goal above it where it is to be ended then"
+    port.note(node, text, "pattern")
     return "\n".join(it for it in found if it)
 
 
@@ -112,11 +111,8 @@ def one_at_a_time(port: ClausePort, node: tree.Section) -> str:
     busy_with, waits, serve = (port.additions.fresh(name + end) for end in ("_next", "_waits", "_serve"))
     goal, trigger, busy = port.text(wanted), event_text(port, event), f"{busy_with}_busy"
     marked = call(waits, [goal])
-    port.note(
-        node,
-        "sga is written out: one goal at a time; a context and the first item of its plan may lie turns apart, so two may begin where two events come at once",
-        "pattern",
-    )
+    text = "sga is written out: one goal at a time; a context and the first item of its plan may lie turns apart"
+    port.note(node, text + ", so two may begin where two events come at once", "pattern")
     return "\n".join(
         [
             f"{trigger} : {port.text(context)} <- +{marked}; !!{serve}.",

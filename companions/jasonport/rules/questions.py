@@ -21,17 +21,23 @@ def condition(port: ClausePort, step: tree.Statement) -> Optional[str]:
     if step.sign == "" and tree.is_literal(subject, "true"):
         return "true"
     is_question = step.sign == "?" and isinstance(subject, tree.Literal)
-    is_pure = step.sign == "" and (isinstance(subject, tree.Relation) or tree.is_literal(subject) and subject.name[0] == "." and subject.name[1:] in PURE)
-    if not (is_question or is_pure):
+    is_pure = tree.is_literal(subject, *(f".{name}" for name in PURE)) or isinstance(subject, tree.Relation)
+    if not (is_question or step.sign == "" and is_pure):
         return None
     return port.text(step).rstrip(";").removeprefix("?").strip().replace("; ?", " & ").replace("; ", " & ")
 
 
-@row("askOne, askAll answered by `+?g`", "E", "a rule beside the plan, where its body is relations and questions", "else X", tests="ask_rule ask_todo")
+@row(
+    "askOne, askAll answered by `+?g`",
+    "E",
+    "a rule beside the plan, where its body is relations and questions",
+    "else X",
+    tests="ask_rule ask_todo",
+)
 def answered_plan(port: ClausePort, plan: tree.Plan) -> None:
     """A plan for a question that some source sends."""
     named = plan.trigger.literal
-    if plan.trigger.sign != "+" or plan.trigger.kind != "?" or not isinstance(named, tree.Literal) or named.functor not in port.porting.asked:
+    if (plan.trigger.sign, plan.trigger.kind) != ("+", "?") or named.functor not in port.porting.asked:
         return
     conditions = [port.text(plan.context)] if plan.context and port.text(plan.context).strip() != "true" else []
     for step in plan.body.items if plan.body else []:

@@ -59,7 +59,13 @@ def goal(port: ClausePort, node: tree.Item) -> Answer:
     return None
 
 
-@row("`!G`", "D", "`!call(G)`, with a plan for each goal that the source names", "goals that only messages bring", tests="goalvar")
+@row(
+    "`!G`",
+    "D",
+    "`!call(G)`, with a plan for each goal that the source names",
+    "goals that only messages bring",
+    tests="goalvar",
+)
 def variable_goal(port: ClausePort, node: tree.Item) -> str:
     source, subject = port.source, node.subject
     if subject.annotations or subject.namespace is not None or subject.negated:
@@ -85,7 +91,13 @@ def change(port: ClausePort, node: tree.Item) -> Answer:
     return None
 
 
-@row("`+b` with a plan for it and steps behind", "S", "note `[focus]`: in Jason the plan runs first", "here it is an intention of its own", tests="focus")
+@row(
+    "`+b` with a plan for it and steps behind",
+    "S",
+    "note `[focus]`: in Jason the plan runs first",
+    "here it is an intention of its own",
+    tests="focus",
+)
 def plan_in_between(port: ClausePort, node: tree.Item) -> None:
     if node.separator is None or not isinstance(node.subject, tree.Literal):
         return

@@ -126,7 +126,12 @@ def power(port: ClausePort, node: tree.Arithmetic) -> None:
     port.write(node, f"({' * '.join([base] * int(exponent.text))})")
 
 
-@row("arithmetic in beliefs, heads, goals, triggers", "E", "calculated, or a variable and `V = ..` in the body of the rule or in the context", tests="bel_arith rule_head trigger_arith")
+@row(
+    "arithmetic in beliefs, heads, goals, triggers",
+    "E",
+    "calculated, or a variable and `V = ..` in the body of the rule or in the context",
+    tests="bel_arith rule_head trigger_arith",
+)
 def in_head_calculated(port: ClausePort, node: Node) -> None:
     """Arithmetic where none may stand: its value, or a variable that is asked for."""
     value = constant(node)

@@ -23,13 +23,9 @@ def is_for_all(plan: tree.Plan) -> bool:
 
 
 def has_own_plan(source: Source, plan: tree.Plan, goal: Functor) -> bool:
-    """Whether a plan for this goal alone, whatever is asked, stands before the plan for all goals; of plans that achieve, whether one stands anywhere."""
-    others = [
-        it
-        for it in source.plans
-        if (it.trigger.sign, it.trigger.kind) == (plan.trigger.sign, "!") and isinstance(it.trigger.literal, tree.Literal) and is_for_all(it)
-    ]
-    return any(it.trigger.literal.functor == goal and (it.start < plan.start or plan.trigger.sign == "+") for it in others)
+    """Whether a plan for this goal alone, whatever is asked, stands before the plan for all; of plans that achieve, anywhere."""
+    own = source.by_event.get(tree.Event(plan.trigger.sign, "!", *goal), [])
+    return any(is_for_all(it) and (it.start < plan.start or plan.trigger.sign == "+") for it in own)
 
 
 def with_goal(source: Source, plan: tree.Plan, goal: Functor) -> str:
@@ -45,7 +41,13 @@ def with_goal(source: Source, plan: tree.Plan, goal: Functor) -> str:
     return "\n" * (line - 1) + "".join(found) + text[place : plan.end]
 
 
-@row("`-!G[error(E)]`, `+!G`", "D", "a plan for each goal that the source names", "goals that only messages bring", tests="generic generic_todo")
+@row(
+    "`-!G[error(E)]`, `+!G`",
+    "D",
+    "a plan for each goal that the source names",
+    "goals that only messages bring",
+    tests="generic generic_todo",
+)
 def plan_for_each_goal(port: ClausePort, plan: tree.Plan) -> str:
     source, variable = port.source, plan.trigger.literal
     if plan.trigger.kind != "!" or plan.trigger.sign not in "+-":
@@ -53,7 +55,8 @@ def plan_for_each_goal(port: ClausePort, plan: tree.Plan) -> str:
     goals = [it for it in source.goals if not it.name.startswith("todo") and not has_own_plan(source, plan, it)]
     if not goals:
         raise Todo("var", "a variable in place of a literal, and no goal is known for it", plan.trigger)
-    port.note(plan, f"a plan for each of the {len(goals)} goals that this source names, in place of one for all ({variable.name}); a goal that only a message brings has none", "var")
+    text = f"a plan for each of the {len(goals)} goals that this source names, in place of one for all ({variable.name})"
+    port.note(plan, text + "; a goal that only a message brings has none", "var")
     notes: list[Note] = []
     try:
         texts = [ported(port, source.with_text(with_goal(source, plan, goal), notes)) for goal in goals]

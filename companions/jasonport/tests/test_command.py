@@ -133,7 +133,8 @@ class Command(unittest.TestCase):
 
     def test_closed_output(self) -> None:
         """Where what is told goes nowhere nothing is left."""
-        done = subprocess.run(f"{sys.executable} {cases.HERE.parent} a.asl -o x >/dev/full", shell=True, cwd=self.folder, capture_output=True, encoding="utf-8")
+        words = f"{sys.executable} {cases.HERE.parent} a.asl -o x >/dev/full"
+        done = subprocess.run(words, shell=True, cwd=self.folder, capture_output=True, encoding="utf-8")
         self.assertEqual(done.returncode, 3)
         self.assertNotIn("Traceback", done.stderr)
         self.assertEqual(self.names(), ["a.asl"])

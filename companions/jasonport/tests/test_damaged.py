@@ -12,7 +12,8 @@ from .. import command
 from . import cases
 
 COUNT = 500
-PIECES = list("()[]{}\"'.;:!?+-*/&|@~<>=_#\\ \n\t\r") + ["/*", "//", "<-", ":-", "|&|", "if (", "for (", "{begin ", "{end}", "::", '"""', "\u00e9", "\u2028", "X", "a", "9.5", "MAS", "#"]
+WORDS = ["/*", "//", "<-", ":-", "|&|", "if (", "for (", "{begin ", "{end}", "::", '"""', "\u00e9", "\u2028", "X", "a", "9.5", "MAS", "#"]
+PIECES = list("()[]{}\"'.;:!?+-*/&|@~<>=_#\\ \n\t\r") + WORDS
 LINE = re.compile(r".+:\d+:\d+: (error|note|todo): .+")
 
 

@@ -1,4 +1,4 @@
-"""Random bodies of `if`, `for`, `while`, `=`, prints and failure: Jason's rules for what is bound, as an interpreter, against the port under jasonrun."""
+"""Random bodies of `if`, `for`, `while`, `=`, prints and failure: an interpreter of Jason's rules for what is bound, and the port under jasonrun."""
 from __future__ import annotations
 
 import os

@@ -16,7 +16,7 @@ class Table(unittest.TestCase):
 
     def test_table_is_that_of_the_rules(self) -> None:
         wanted = document.text_of_table()
-        self.assertEqual(document.table_in(self.page), wanted, "`python3 companions/jasonport/document.py` writes the table of the rules into the page")
+        self.assertEqual(document.table_in(self.page), wanted, "companions/jasonport/document.py writes it into the page")
 
     def test_each_row_has_a_case(self) -> None:
         known = {case.name: case for case in cases.all_cases()}
