@@ -176,8 +176,10 @@ class Mas2jReader(ProjectReader):
             self.project.environment = Token(value.kind, value.text.strip('"'), word.place)
             if has_arguments:
                 self.project.note(word, "the arguments of the environment are dropped", "env")
-        elif word.text == "executionControl" or has_arguments or value.text not in ("Centralised", "Local"):
+        elif word.text == "executionControl" or value.text not in ("Centralised", "Local"):
             self.project.note(word, f"{word.text} {value.text} is dropped", "project")
+        elif has_arguments:
+            self.project.note(word, f"the arguments of the {word.text} are dropped", "project")
 
     def several_values(self, word: Token) -> None:
         """Values of a section that names files or classes, with `;` behind them."""

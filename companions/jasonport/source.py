@@ -60,15 +60,16 @@ class Source:
     def of_kind(self, *kinds: type) -> Iterator:
         return (node for clause in self.clauses for node in tree.of_kind(clause, *kinds))
 
-    def named_goals(self) -> list[Functor]:
-        """The goals that initial goals, steps and triggers name, each once; not the event that Jason makes of a message."""
-        found = []
+    def named_goals(self) -> dict[Functor, tree.Literal]:
+        """The goals that initial goals, steps and triggers name, as they are spelled, each with the literal that names it first; not the event
+        that Jason makes of a message."""
+        found: dict[Functor, tree.Literal] = {}
         for clause in self.all_clauses():
-            for node in clause.walk():
-                literal = goal_of(node)
+            for literal in map(goal_of, clause.walk()):
                 if isinstance(literal, tree.Literal) and literal.name != "kqml_received":
-                    found.append(Functor(("~" if literal.negated else "") + literal.name, len(literal.arguments)))
-        return list(dict.fromkeys(found))
+                    spelled = self.page.text[literal.start : literal.name_end]
+                    found.setdefault(Functor(spelled, len(literal.arguments)), literal)
+        return found
 
     def plans_for(self, signs: str, kind: str, functor: Functor) -> list[tree.Plan]:
         return [plan for sign in signs for plan in self.by_event.get(Event(sign, kind, *functor), [])]

@@ -8,7 +8,7 @@ from .. import tree
 from ..notes import Todo
 from ..tree import bare
 from ..words import blank_call, call
-from .names import literal
+from .names import literal, written_name
 from .table import ACTIONS, Answer, action, row
 
 if TYPE_CHECKING:
@@ -200,5 +200,5 @@ def drop_all(port: ClausePort, node: tree.Literal, in_context: bool) -> Answer:
     one = ".drop_desire" if node.name == ".drop_all_desires" else ".drop_intention"
     port.note(node, f"{node.name} is {one} of each goal that this source names; this intention is dropped last", "library")
     own = port.clause.trigger.literal.functor if isinstance(port.clause, tree.Plan) else None
-    goals = sorted(port.source.goals, key=lambda goal: goal == own)
-    return "; ".join(f"{one}({blank_call(*goal)})" for goal in goals) or "true"
+    goals = sorted(port.source.goals.values(), key=lambda goal: goal.functor == own)
+    return "; ".join(f"{one}({blank_call(written_name(port.source, goal, True), len(goal.arguments))})" for goal in goals) or "true"

@@ -1,7 +1,7 @@
 """Names: quoted atoms, atoms with dots, namespaces."""
 from __future__ import annotations
 
-from typing import TYPE_CHECKING, Optional
+from typing import TYPE_CHECKING
 
 from .. import tree
 from ..notes import Todo
@@ -10,6 +10,22 @@ from .table import row
 
 if TYPE_CHECKING:
     from ..clause import ClausePort
+    from ..source import Source
+
+
+def legal_name(source: Source, node: tree.Named) -> str:
+    """The name of a literal, or the one in place of a name that jasonrun does not have."""
+    return node.name if node.name[0] == "." else source.porting.legal_name(node.name.strip("'"))
+
+
+def written_name(source: Source, node: tree.Named, in_namespace: bool) -> str:
+    """What is written up to the end of the name of a literal. Beliefs and goals stand in the namespace of their file."""
+    name = legal_name(source, node)
+    if node.namespace is None:
+        space = source.namespace if in_namespace else ""
+    else:
+        space = "" if node.namespace in ("", "default") else node.namespace.replace("this_ns", source.namespace)
+    return ("~" if node.negated else "") + (f"{space}__{name}" if space else name)
 
 
 @row(
@@ -19,14 +35,10 @@ if TYPE_CHECKING:
     "printed so",
     tests="atoms letters",
 )
-def legal_name(port: ClausePort, node: tree.Named) -> Optional[str]:
-    """The name in place of one that jasonrun does not have."""
-    name = node.name
-    if is_legal(name) or isinstance(node, tree.Variable) or name[0] == ".":
-        return None
-    new = port.porting.legal_name(name.strip("'"))
-    port.note(node, f"the atom {name} is {new}, and so printed", "atom")
-    return new
+def tell_other_letters(port: ClausePort, node: tree.Named) -> None:
+    """Tells of a name that jasonrun does not have."""
+    if not is_legal(node.name) and node.name[0] != ".":
+        port.note(node, f"the atom {node.name} is {legal_name(port.source, node)}, and so printed", "atom")
 
 
 @row(
@@ -37,24 +49,18 @@ def legal_name(port: ClausePort, node: tree.Named) -> Optional[str]:
     tests="ns namespace_todo",
 )
 def rename(port: ClausePort, node: tree.Named, in_namespace: bool) -> None:
-    """Writes the name of a literal so that jasonrun has it. Beliefs and goals stand in the namespace of their file."""
-    space, here = node.namespace, port.source.namespace
+    """Writes the name of a literal so that jasonrun has it."""
+    space = node.namespace
     if space is not None and space[:1].isupper():
         raise Todo("ns", "a variable as a namespace", node)
     if space and not is_legal(space):
         raise Todo("ns", f"{space} is no namespace", node)
-    new = legal_name(port, node)
-    if space is None:
-        whole = here if in_namespace else ""
-    else:
-        whole = "" if space in ("", "default") else space.replace("this_ns", here)
-    if whole:
-        new = f"{whole}__{new or node.name}"
+    tell_other_letters(port, node)
+    new = written_name(port.source, node, in_namespace)
     if space is not None:
-        new = new or node.name
-        port.note(node, f"the namespace {space} is part of the name: {new}", "ns")
-    if new is not None and (new != node.name or space is not None):
-        port.printer.rename(node, ("~" if node.negated else "") + new)
+        port.note(node, f"the namespace {space} is part of the name: {new.removeprefix('~')}", "ns")
+    if space is not None or new.removeprefix("~") != node.name:
+        port.printer.rename(node, new)
 
 
 def literal(port: ClausePort, node: tree.Node, in_head: bool = False, in_namespace: bool = True) -> None:

@@ -10,7 +10,7 @@ from ..tree import bare, variables
 from ..words import call, one_line
 from . import formulas
 from .actions import inner_action
-from .names import literal
+from .names import literal, written_name
 from .table import Answer, row, statement
 
 if TYPE_CHECKING:
@@ -72,8 +72,8 @@ def variable_goal(port: ClausePort, node: tree.Item) -> str:
         raise Todo("var", "annotations, a namespace or ~ at a variable", subject)
     if source.call_goal is None:
         source.call_goal = port.additions.fresh("call")
-        for functor in source.goals:
-            named = call(functor.name, [f"A{count + 1}" for count in range(functor.count)])
+        for goal in source.goals.values():
+            named = call(written_name(source, goal, True), [f"A{count + 1}" for count in range(len(goal.arguments))])
             port.additions.clauses.append(f"+!{source.call_goal}({named}) <- !{named}.")
     port.note(node, f"a variable in place of a goal: !{source.call_goal}({subject.name}), with a plan for each goal that this source names", "var")
     return f"{node.sign}{source.call_goal}({subject.name})"

@@ -22,9 +22,9 @@ def is_for_all(plan: tree.Plan) -> bool:
     return plan.context is None and all(isinstance(it, tree.Variable) for it in asked)
 
 
-def has_own_plan(source: Source, plan: tree.Plan, goal: Functor) -> bool:
+def has_own_plan(source: Source, plan: tree.Plan, goal: tree.Literal) -> bool:
     """Whether a plan for this goal alone, whatever is asked, stands before the plan for all; of plans that achieve, anywhere."""
-    own = source.by_event.get(tree.Event(plan.trigger.sign, "!", *goal), [])
+    own = source.by_event.get(tree.Event(plan.trigger.sign, "!", *goal.functor), [])
     return any(is_for_all(it) and (it.start < plan.start or plan.trigger.sign == "+") for it in own)
 
 
@@ -52,10 +52,10 @@ def plan_for_each_goal(port: ClausePort, plan: tree.Plan) -> str:
     source, variable = port.source, plan.trigger.literal
     if plan.trigger.kind != "!" or plan.trigger.sign not in "+-":
         raise Todo("var", "a variable in place of a literal", plan.trigger)
-    goals = [it for it in source.goals if not it.name.startswith("todo") and not has_own_plan(source, plan, it)]
+    goals = [it for it, literal in source.goals.items() if not has_own_plan(source, plan, literal)]
     if not goals:
         raise Todo("var", "a variable in place of a literal, and no goal is known for it", plan.trigger)
-    text = f"a plan for each of the {len(goals)} goals that this source names, in place of one for all ({variable.name})"
+    text = f"a plan for each of the goals that this source names ({len(goals)}), in place of one for all ({variable.name})"
     port.note(plan, text + "; a goal that only a message brings has none", "var")
     notes: list[Note] = []
     try:
