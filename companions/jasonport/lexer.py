@@ -48,7 +48,7 @@ def tokens(source: str) -> list[Token]:
     found, place = [], 0
     while place < len(source):
         match = TOKEN.match(source, place)
-        if not match:
+        if not match or match.group() == "/" and source.startswith("/*", place):
             raise unread(source, place)
         if match.lastgroup != "blank":
             found.append(Token(match.lastgroup or "", match.group(), place, match.end()))
