@@ -12,7 +12,7 @@ from . import VERSION
 from .files import NotWritten, Ported, check_folder, port_file, write_folder
 from .lexer import Fault
 from .notes import Page
-from .source import NotKept, read_text
+from .source import NotKept, NotText, read_text
 
 USAGE = """usage: jasonport PROJECT -o FOLDER [--turn MS]    writes a project of jasonrun into FOLDER, and what is to know or to do
        jasonport --list PROJECT [--turn MS]       writes what is to know or to do alone
@@ -103,16 +103,16 @@ class Gate:
             return True
         try:
             words = [os.path.abspath(program), "where", os.path.join(".", main)]
-            call = subprocess.run(words, cwd=folder, capture_output=True, encoding="utf-8", errors="replace")
+            call = subprocess.run(words, cwd=folder, stdout=subprocess.PIPE, encoding="utf-8", errors="replace")
         except OSError as error:
             self.unasked = f"{program} can't be run: {error.strerror}"
             return True
         if call.returncode == 125:
-            self.unasked = f"{program} can't answer: {call.stderr.strip()}"
+            self.unasked = f"{program} can't answer"
             return True
         if call.returncode == 0:
             return True
-        sys.stderr.write(call.stdout + call.stderr)
+        sys.stderr.write(call.stdout)
         return False
 
 
@@ -126,10 +126,12 @@ def ported(asked: Asked) -> Ported:
     except Fault as fault:
         line, column = Page(asked.project, read_text(asked.project), []).place(fault.place)
         raise Ended(FILE, f"{asked.project}:{line}:{column}: error: {fault.text}") from fault
-    except UnicodeDecodeError as error:
-        raise Ended(FILE, f"jasonport: a file is no text in UTF-8: {error.reason} at byte {error.start}") from error
+    except NotText as fault:
+        raise Ended(FILE, str(fault)) from fault
     except NotKept as fault:
         raise Ended(REFUSED, f"jasonport: a fault of jasonport: {fault}") from fault
+    except (ArithmeticError, AssertionError, AttributeError, LookupError, RecursionError, TypeError, ValueError) as fault:
+        raise Ended(REFUSED, f"{asked.project}:1:1: error: a fault of jasonport: {fault!r}") from fault
 
 
 def tell(result: Ported) -> None:
@@ -175,7 +177,10 @@ def main(words: list[str]) -> int:
     except Ended as end:
         print(end.line, file=sys.stderr)
         return end.status
-    except (OSError, NotWritten) as error:
+    except OSError as error:
+        print(f"jasonport: {error.filename or 'standard output'}: {error.strerror}", file=sys.stderr)
+        return FILE
+    except NotWritten as error:
         print(f"jasonport: {error}", file=sys.stderr)
         return FILE
     except KeyboardInterrupt:

@@ -59,23 +59,18 @@ def port_project(porting: Porting, project: Project, main: str) -> dict[str, str
     porting.port(sources.values())
     files = {names[number]: f"// todo: {agent.file_name} is not there\n" for number, agent in enumerate(project.agents)}
     for name, source in sources.items():
-        more = next(agent.more for number, agent in enumerate(project.agents) if names[number] == name)
-        files[name] = with_more(source.written(), more)
+        files[name] = source.written()
     environment = world_name(project)
     text = project_text(project, environment, names)
-    files[main] = project.page.text if is_same_project(project.page.text, text) else text
+    is_kept = is_same_project(project.page.text, text)
+    files[main] = project.page.text if is_kept else text
+    if not is_kept and not project.page.noted:
+        project.page.note(0, "spelled anew", "spelling")
     if environment:
         files[environment + ".env"] = world(porting, project, environment)
     elif porting.actions:
         project.page.todo(0, f"no environment, and actions: {', '.join(map(str, sorted(porting.actions)))}", "env")
     return files
-
-
-def with_more(text: str, more: str) -> str:
-    """A source with the beliefs and goals that its project gives it."""
-    if not more:
-        return text
-    return text + ("" if text.endswith("\n") or not text else "\n") + "\n// from the options of the project\n" + more
 
 
 def read_sources(porting: Porting, project: Project) -> tuple[dict[str, Source], dict[int, str]]:
@@ -91,7 +86,7 @@ def read_sources(porting: Porting, project: Project) -> tuple[dict[str, Source],
             if path is None:
                 project.page.todo(agent.place, f"the source {agent.file_name} is not there", "missing")
             else:
-                sources[known[key]] = Source(porting, path, relative_name(porting, path))
+                sources[known[key]] = Source(porting, path, relative_name(porting, path), more=agent.more)
         names[number] = known[key]
     return sources, names
 
@@ -164,7 +159,7 @@ def write_folder(files: dict[str, str], folder: str, is_accepted: Callable[[str]
         new = tempfile.mkdtemp(prefix=".jasonport.", dir=os.path.dirname(folder))
         try:
             for name, text in files.items():
-                with open(os.path.join(new, name), "w", encoding="utf-8", newline="") as file:
+                with open(os.path.join(new, name), "w", encoding="utf-8", errors="backslashreplace", newline="") as file:
                     file.write(text)
             if is_accepted(new):
                 os.chmod(new, 0o777 & ~current_mask())

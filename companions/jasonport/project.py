@@ -129,10 +129,16 @@ class ProjectReader:
             self.fail("nothing may stand behind the project")
         return self.project
 
-    def skip_past(self, *ends: str) -> None:
-        """Goes on to behind the next of these, or to the end."""
-        while self.ahead().kind != "end" and self.take().text not in ends:
-            pass
+    def skip_group(self) -> Token:
+        """Goes on to behind what stands in brackets, from the opening one that is next; the closing one."""
+        depth = 0
+        while True:
+            token = self.take()
+            if token.kind == "end":
+                self.missing("a closing bracket")
+            depth += (token.text in ("(", "[")) - (token.text in (")", "]"))
+            if depth == 0:
+                return token
 
 
 class Mas2jReader(ProjectReader):
@@ -169,7 +175,7 @@ class Mas2jReader(ProjectReader):
         value = self.name()
         has_arguments = self.ahead().text == "("
         if has_arguments:
-            self.skip_past(")")
+            self.skip_group()
         if self.takes("at"):
             self.name()
         if word.text == "environment":
@@ -209,9 +215,8 @@ class Mas2jReader(ProjectReader):
         if token.text == "#":
             agent.count = self.count()
         elif token.text == "[":
-            place = self.ahead().place
-            self.skip_past("]")
-            self.options(agent, token, self.page.text[place : self.tokens[self.next - 1].place])
+            self.next -= 1
+            self.options(agent, token, self.page.text[token.place + 1 : self.skip_group().place])
         elif token.text == "at":
             self.name()
             self.project.note(token, "the host is dropped", "project")
@@ -229,7 +234,7 @@ class Mas2jReader(ProjectReader):
     def one_class(self, token: Token) -> None:
         name = self.name()
         if self.ahead().text == "(":
-            self.skip_past(")")
+            self.skip_group()
         java_class(self.project, token, f"{token.text} {name.text}")
 
     def options(self, agent: Agent, token: Token, text: str) -> None:
@@ -288,7 +293,7 @@ def file_word(name: str) -> str:
     "D",
     "written anew, where it says something else than blanks and comments; `beliefs=`, `goals=` go into a source of the agent's own",
     "`verbose`, hosts, executionControl and so on are dropped",
-    tests="project project_kept project_actions",
+    tests="project project_options project_kept project_actions",
 )
 def project_text(project: Project, environment: Optional[str], files: dict[int, str]) -> str:
     """The text of the project; `files` has the source of each agent by its number."""

@@ -19,20 +19,41 @@ if TYPE_CHECKING:
     from .porting import Porting
 
 TITLE = "// added by jasonport\n"
+MORE = "\n// from the options of the project\n"
+
+
+class NotText(Exception):
+    """A file that is no UTF-8, with the place where that shows."""
 
 
 def read_text(path: str) -> str:
     """A file's text, line ends as they are, without a byte order mark."""
-    with open(path, encoding="utf-8-sig", newline="") as file:
-        return file.read()
+    with open(path, "rb") as file:
+        data = file.read()
+    try:
+        return data.decode("utf-8-sig")
+    except UnicodeDecodeError as error:
+        before = data[: error.start]
+        line, column = before.count(b"\n") + 1, error.start - before.rfind(b"\n")
+        raise NotText(f"{path}:{line}:{column}: error: this is no UTF-8") from error
+
+
+def with_more(text: str, more: str) -> str:
+    """A source with the beliefs and goals that its project gives it."""
+    if not more:
+        return text
+    return text + ("" if text.endswith("\n") or not text else "\n") + MORE + more
 
 
 class Source:
     """A source: its clauses, what they name, and what is written in place of them."""
 
-    def __init__(self, porting: Porting, path: str, name: str, namespace: str = "", additions: Optional[Additions] = None):
+    def __init__(
+        self, porting: Porting, path: str, name: str, namespace: str = "", additions: Optional[Additions] = None, more: str = ""
+    ):
+        """The source in a file; an included one shares the additions of the one that includes it. `more` are clauses from the project."""
         self.porting, self.path, self.namespace = porting, path, namespace
-        self.page = Page(name, read_text(path), porting.notes)
+        self.page = Page(name, with_more(read_text(path), more), porting.notes)
         self.printer = Printer(self.page.text)
         self.clauses, self.broken = read_clauses(self.page.text)
         self.additions = additions or Additions()

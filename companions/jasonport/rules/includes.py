@@ -21,7 +21,7 @@ if TYPE_CHECKING:
     tests="include include_todo",
 )
 def include(port: ClausePort, node: tree.Directive) -> str:
-    from ..source import Source, relative_name
+    from ..source import NotText, Source, relative_name
 
     arguments = node.literal.arguments
     if not arguments or not isinstance(arguments[0], tree.String):
@@ -37,7 +37,7 @@ def include(port: ClausePort, node: tree.Directive) -> str:
     port.porting.open_files.append(real)
     try:
         text = Source(port.porting, path, relative_name(port.porting, path), namespace, port.additions).ported()
-    except (OSError, UnicodeDecodeError) as error:
+    except (OSError, NotText) as error:
         raise Todo("include", f"the file {name} can't be read: {error}", node.literal) from error
     finally:
         port.porting.open_files.pop()

@@ -73,7 +73,7 @@ class Damaged(unittest.TestCase):
             for word in (path, os.path.join(folder.path, "none.asl"), os.path.join(folder.path, "none", "a.mas2j")):
                 status, told, fault = self.call(word, "-o", out)
                 self.assertEqual((status, told), (3, ""))
-                self.assertRegex(fault, r"^jasonport: .+\n$")
+                self.assertRegex(fault, r"^(jasonport: .+|.+/a\.asl:1:4: error: this is no UTF-8)\n$")
                 self.assertFalse(os.path.exists(out))
 
 
