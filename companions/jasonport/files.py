@@ -114,7 +114,7 @@ def world_name(project: Project) -> Optional[str]:
 @row(
     "an environment in Java",
     "X",
-    "a `.env` with each action that the sources use, done by whom it may be and without effect; what usual lines of the class say stands in it as comments",
+    "a `.env` with each action that the sources use, done by anybody and without effect; what usual lines of the class say is there as comments",
     tests="project_java",
 )
 def world(porting: Porting, project: Project, name: str) -> str:

@@ -1,6 +1,7 @@
 """The printer: what is not written anew is written as it stands in the source, byte for byte."""
 from __future__ import annotations
 
+import bisect
 from typing import NamedTuple, Optional
 
 from .tree import Named, Node, Variable
@@ -63,13 +64,15 @@ class Piece(NamedTuple):
 
 
 def faults_of_pieces(source: str, pieces: list[Piece], noted: set[int]) -> list[int]:
-    """Where what no note names is not kept: the pieces have to be the whole source, one behind the other, and each in which no note stands is as it was."""
-    faults, place = [], 0
+    """Where what no note names is not kept: the pieces have to be the whole source, one behind the other, and each in which no note stands
+    is as it was."""
+    faults, place, places = [], 0, sorted(noted)
     for piece in pieces:
         if piece.start != place:
             faults.append(place)
         place = piece.end
-        is_noted = any(piece.start <= at < piece.end or at == piece.start for at in noted)
+        first = bisect.bisect_left(places, piece.start)
+        is_noted = first < len(places) and places[first] < max(piece.end, piece.start + 1)
         if piece.text != source[piece.start : piece.end] and not is_noted:
             faults.append(piece.start)
     if place != len(source):
