@@ -25,9 +25,9 @@ NOT_THERE = ("error_msg", "code", "code_src", "code_line", "env_failure_reason",
 
 def trigger(port: ClausePort, plan: tree.Plan) -> None:
     node = plan.trigger
-    if node.sign == "-" and node.kind and node.literal.annotations:
-        annotations(port, plan)
     with port.asked_apart() as questions:
+        if node.sign == "-" and node.kind and node.literal.annotations:
+            annotations(port, plan)
         literal(port, node.literal, in_head=True)
     if questions:
         port.extra_context = " & ".join(question.formula for question in questions)
@@ -49,6 +49,9 @@ def annotations(port: ClausePort, plan: tree.Plan) -> None:
         if tree.is_literal(error_of(annotation), *ERRORS):
             known_error(port, plan, error_of(annotation))
     if gone:
+        for annotation in found.items:
+            if annotation not in gone:
+                port.term(annotation, in_head=True)
         kept = ", ".join(port.text(it) for it in found.items if it not in gone)
         told = [text for annotation in gone for text in replaced(port, plan, annotation, error)]
         port.write(found, f"[{kept}]" if kept else "")

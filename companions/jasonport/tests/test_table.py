@@ -1,13 +1,30 @@
 """docs/PORT.md says what the rules do, and each of its rows has a test."""
 from __future__ import annotations
 
+import os
 import re
 import unittest
 
 from .. import document
 from ..command import USAGE
+from ..files import port_file
 from ..notes import CODES
 from . import cases
+
+
+def indented(text: str) -> list[str]:
+    """The indented blocks of a text, which may have empty lines in them."""
+    found, inside = [], False
+    for line in text.split("\n"):
+        if line.startswith("    "):
+            found += [] if inside else [""]
+            found[-1] += line[4:] + "\n"
+            inside = True
+        elif line == "" and inside:
+            found[-1] += "\n"
+        else:
+            inside = False
+    return found
 
 
 class Table(unittest.TestCase):
@@ -34,6 +51,19 @@ class Table(unittest.TestCase):
         source = "".join(path.read_text(encoding="utf-8") for path in cases.HERE.parent.rglob("*.py") if cases.HERE not in path.parents)
         used = set(re.findall(r'"([a-z]+)"', source))
         self.assertEqual(sorted(CODES - used), [])
+
+    def test_first_port(self) -> None:
+        """The example of the page: the source, what is told of it, and what comes of its last clause."""
+        part = self.page.split("\n## A first port\n")[1].split("\n## ")[0]
+        source, told, last = (text.rstrip("\n") + "\n" for text in indented(part))
+        with cases.Folder() as folder:
+            path = os.path.join(folder.path, "shop.asl")
+            with open(path, "w", encoding="utf-8") as file:
+                file.write(source)
+            result = port_file(path, 100)
+        self.assertEqual("".join(f"{note}\n" for note in result.notes), told)
+        kept = source[: source.index("+!open")]
+        self.assertEqual(result.files["shop.asl"], kept + last)
 
     def test_usage(self) -> None:
         self.assertIn("".join(f"    {line}\n" if line else "\n" for line in USAGE.splitlines()), self.page)
