@@ -48,9 +48,11 @@ Marks = collections.namedtuple("Marks", "student findings sum")
 class Called:
     """What a program did: its status, what it wrote, the last line of standard error, and, where it was ended, the finding that this is."""
 
-    def __init__(self, status, output, said, ended=None):
-        self.status, self.output, self.said, self.ended = status, output, said, ended
-        self.first = output.split("\n")[0]
+    def __init__(self, status, written, said, ended):
+        self.status, self.written, self.ended = status, written, ended
+        self.output = written.decode(errors="replace")
+        self.first = self.output.split("\n")[0]
+        self.said = said.decode(errors="replace").strip().split("\n")[-1]
 
 
 class Programs:
@@ -73,11 +75,10 @@ class Programs:
                     self.limited(words), stdin=subprocess.DEVNULL, stdout=output, stderr=fault, env=self.environment, timeout=5 * self.seconds
                 ).returncode
             except subprocess.TimeoutExpired:
-                return Called(None, "", "", Finding("late", f"{program} took more than {5 * self.seconds} seconds"))
+                return Called(None, b"", b"", Finding("late", f"{program} took more than {5 * self.seconds} seconds"))
             output.seek(0)
             fault.seek(0)
-            written, said = (it.read().decode(errors="replace") for it in (output, fault))
-        return Called(status, written, said.strip().split("\n")[-1], self.ended(program, status))
+            return Called(status, output.read(), fault.read(), self.ended(program, status))
 
     def ended(self, program, status):
         """The finding that an end by a signal is: SIGXFSZ (25) for the output, SIGXCPU (24) or SIGKILL (9) for the time; and the status 9."""
@@ -251,7 +252,7 @@ class Case:
 
     def of_run(self, way):
         run = self.programs.call("jasonrun", "run", self.project, *way)
-        self.report.write_text(run.output)
+        self.report.write_bytes(run.written)
         if run.ended or run.status not in (0, 8):
             yield run.ended or Finding("refused", self.shown(run.said))
             return
@@ -264,7 +265,7 @@ class Case:
     def of_drops(self):
         drops = self.programs.call("jasonlook", "drops", self.project, self.report, "--unhandled")
         if drops.ended or drops.status != 0:
-            (self.folder / "drops.txt").write_text(drops.output)
+            (self.folder / "drops.txt").write_bytes(drops.written)
             yield drops.ended or Finding("wrong", first_of_drops(drops.output) if drops.status == 1 else drops.said)
 
     def of_sources(self):
@@ -287,7 +288,7 @@ class Case:
         told = self.programs.call("explore", self.project, f"--{how}={line}", "--states", MOST_STATES, "--level", "say")
         if told.status == 0:
             return
-        (self.folder / "explore.txt").write_text(told.output)
+        (self.folder / "explore.txt").write_bytes(told.written)
         if told.status == 1:
             yield Finding("wrong", f"in some order of turns, {'without' if how == 'always' else 'with'} this line: {line}")
         elif told.ended and told.ended.status not in ("late", "memory"):
@@ -311,8 +312,8 @@ def files_of(student, patterns):
 def why_unsafe(taken, patterns):
     """Why these files are not run, or nothing. Projects of theirs may name files of the same folder alone."""
     for it in taken:
-        if it.is_symlink() or not it.is_file():
-            return f"{it.name} is no plain file"
+        if it.is_symlink() or not it.is_file() or not os.access(str(it), os.R_OK):
+            return f"{it.name} is no plain file that can be read"
         if it.stat().st_size > MOST_OF_FILE:
             return f"{it.name} has more than a MiB"
         if it.suffix == ".mas2j" and names_other_folders(it):
@@ -351,7 +352,7 @@ class Assignment:
             marks = Marks(student.name, {case.name: self.mark_case(student, taken, case) for case in self.cases}, sum_of(taken))
         if self.keep:
             (self.keep / student.name).mkdir(exist_ok=True)
-            (self.keep / student.name / "marks.txt").write_text(text_of(marks))
+            (self.keep / student.name / "marks.txt").write_text(text_of(marks), errors="backslashreplace")
         return marks
 
     def mark_case(self, student, taken, case):
@@ -393,7 +394,7 @@ def plain(cell):
 
 
 def write_table(path, cases, every, same):
-    with path.open("w", newline="") as file:
+    with path.open("w", newline="", errors="backslashreplace") as file:
         table = csv.writer(file)
         table.writerow(["student", "right", "of", *cases, "same as", "first to tell"])
         for marks in every:
@@ -437,6 +438,7 @@ def check_folders(asked):
 
 def main():
     asked = words()
+    sys.stdout.reconfigure(errors="backslashreplace")
     programs = Programs(asked.seconds, asked.memory)
     assignment = Assignment(asked.assignment, programs, asked.files or ["*.asl"], asked.keep)
     programs.try_out(["jasonrun", "jasonlook"] + ["explore"] * assignment.asks_explore())
