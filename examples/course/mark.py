@@ -21,6 +21,7 @@ import os
 import pathlib
 import re
 import shutil
+import signal
 import subprocess
 import sys
 import tempfile
@@ -81,14 +82,14 @@ class Programs:
             return Called(status, output.read(), fault.read(), self.ended(program, status))
 
     def ended(self, program, status):
-        """The finding that an end by a signal is: SIGXFSZ (25) for the output, SIGXCPU (24) or SIGKILL (9) for the time; and the status 9."""
+        """The finding that a limit is, by which the system ends a program with a signal, or short memory, which is a status of its own."""
         if status == 9:
             return Finding("memory", f"{program} had not enough memory")
         if status >= 0:
             return None
-        if status == -25:
+        if status == -signal.SIGXFSZ:
             return Finding("long", f"{program} wrote more than {MOST_OF_OUTPUT // MIB} MiB")
-        if status in (-24, -9):
+        if status in (-signal.SIGXCPU, -signal.SIGKILL):
             return Finding("late", f"{program} took more than {self.seconds} seconds of processor time")
         return Finding("crashed", f"{program} was ended by signal {-status}")
 
