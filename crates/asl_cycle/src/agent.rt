@@ -60,6 +60,7 @@ impl Model for Agent {
     ghost use Rattle.std.specs.Prelude.{◌≡◌, ◌≤◌, ◌+◌, ◌*◌, ◌||◌, true};
     ghost use Rattle.asl_cycle.specs.Acts.{is_fed};
     ghost use Rattle.asl_cycle.specs.Agent.{Mindset, own_name};
+    ghost use Rattle.mas_mind.specs.Limits.{most_cycles, most_tries};
     ghost use Rattle.asl_term.specs.contracts.syntax.Term as term;
     ghost use Rattle.asl_term.specs.contracts.syntax.Expr as expr;
     ghost use Rattle.std.specs.Coded.{codes};
