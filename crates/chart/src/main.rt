@@ -14,6 +14,7 @@ use std::process::ExitCode;
 
 const USAGE: &str =
     "usage: chart [--all] [--page] [--agents NAME,NAME,..] [--turns FROM..TO] <REPORT";
+
 const VERSION: &str = "chart 1.0.0";
 
 /// What is written where `--help` or `--version` is the only word.
