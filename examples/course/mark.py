@@ -32,8 +32,8 @@ MOST_OF_FILE, MOST_OF_STUDENT, MOST_OF_OUTPUT = MIB, 8 * MIB, 64 * MIB
 MOST_STATES = "100000"
 KINDS = ("has", "once", "never", "atmost", "ends", "drops", "hints", "lint", "explore", "runs")
 # the ways of the further runs, in turn; the first has one worker, and is the same each time
-POOLS = ((4, "steal"), (2, "ready"), (3, "steal"), (1, "ready"))
-WAYS = [f"--workers {workers} --lead {lead} --pool {pool}".split() for lead in (8, 28, 48, 1) for workers, pool in POOLS]
+POOLS = ((4, "steal"), (3, "steal"), (2, "ready"))
+WAYS = [f"--workers {workers} --lead {lead} --pool {pool}".split() for lead in (28, 48, 8) for workers, pool in POOLS]
 # from that of which a student has to hear first, to that which may be no fault at all
 STATUSES = ("unsafe", "refused", "crashed", "memory", "long", "late", "spent", "wrong", "unknown")
 
