@@ -7,7 +7,7 @@ use Rattle.asl_term.specs.Names.{place_of}
 use Rattle.asl_cycle.specs.Agent.{agent_kind}
 use Rattle.mas_world.specs.Worlds.{Used}
 use Rattle.mas_report.specs.declared.options.Options.{Options}
-use Rattle.mas_report.specs.Limits.{defaults}
+use Rattle.mas_report.specs.Limits.{IsWithin, defaults}
 use Rattle.mas_report.specs.Reading.{Shows}
 use Rattle.mas_report.specs.Report.{IsAnyReport, Decided}
 use Rattle.mas_report.specs.declared.reading.Told.{Told}
@@ -37,6 +37,9 @@ from_one [] name k e = absurd cc
 from_one (first ∷ rest) name k e = first_or (bytes_eq name first) (place_of rest name) k e
 
 -- ---- what is seen
+
+pub allowed_within : (source : Source) (o : Options) → Decided (IsAllowed source o) true → IsWithin o
+allowed_within source o a = a.within
 
 pub no_turn : (bytes : List ℕ) (told : Told) (turn : Option ℕ) (turns : ℕ) → Shows bytes told → turns ≡ length told.turns → turns < turn_of turn turns → HasNoTurn bytes turn turns
 no_turn bytes told turn turns s e l = record { told = told; shows = s; number = e; past = l }

@@ -91,7 +91,7 @@ fn turn_of(turn: Option<u64>, turns: u64) -> u64
 }
 
 /// The look at the agent of this number, where the bytes tell this.
-#[tactic(auto, using(mas_top_check::proofs::Verdicts::allowed_within, crate::proofs::Verdicts::told))]
+#[tactic(auto, using(crate::proofs::Verdicts::allowed_within, crate::proofs::Verdicts::told))]
 fn look_told<A: Artifact>(
     alloc: Global,
     told: &Told,

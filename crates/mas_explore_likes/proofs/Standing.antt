@@ -1,6 +1,6 @@
 -- Minds that stand for others, as more of them are met.
-use Rattle.std.proofs.Common.{ℕ, ◌≡◌, ◌+◌, ◌<◌, ◌≤◌, ◌⊎◌, inl, inr, arith, true, List, length, slice_get, Some, refl, sym, ◌∙◌, ap, subst}
-use Rattle.std.proofs.lemmas.Option.{same_Some, slice_get_within}
+use Rattle.std.proofs.Common.{ℕ, ◌≡◌, ◌+◌, ◌<◌, ◌≤◌, ◌⊎◌, inl, inr, arith, true, List, [], length, slice_get, Some, refl, sym, ◌∙◌, ap, subst}
+use Rattle.std.proofs.lemmas.Option.{none-some, same_Some, slice_get_within}
 use Rattle.mas_mind.specs.Minds.{Kind}
 use Rattle.mas_free.specs.declared.view.View.{View}
 use Rattle.mas_free.specs.Lines.{are_lines, viewed}
@@ -56,6 +56,12 @@ module _ {V : Type 0} (k : Kind V) (first : List V) where
   met_on s t l g h = record {
     met = λ place e q. (let m = h.met place e q in record { at = g.minds e.number e.mind m.at; made = m.made });
     settled = λ c r q. stands_on s t c r g (h.settled c r q);
+  }
+
+  pub met_none : (t : Minds) (l : Likes V) → l.met ≡ [] → l.settled ≡ record { keys = []; values = [] } → AreMet k first t l
+  met_none t l e f = record {
+    met = λ place x q. (let P = λ (xs : List (MetMind V)). slice_get xs place ≡ Some x in absurd (none-some x (subst P e q)));
+    settled = λ c r q. (let P = λ (a : Answers Liking Settled). Recalls a c r in absurd (none-some c (subst P f q).key_at));
   }
 
   pub made_within : (t : Minds) (n most : ℕ) → Fits k first t → HasMade k first t n most → n < length first + length t.links
