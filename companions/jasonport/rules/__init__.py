@@ -3,7 +3,7 @@ from importlib import import_module
 
 # The modules, in the order of the rows of docs/PORT.md.
 ORDER = (
-    "clauses steps branches forks waiting labels failures variables intentions values functions formulas lists actions decimals chance clock"
+    "clauses steps branches forks waiting labels failures generic intentions values functions formulas lists actions decimals chance clock"
     " messages questions names includes patterns"
 ).split()
 

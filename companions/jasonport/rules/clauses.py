@@ -5,8 +5,7 @@ from typing import TYPE_CHECKING
 
 from .. import tree
 from ..notes import Todo
-from . import chance, failures, intentions, labels, questions
-from . import variables as generic
+from . import chance, failures, generic, intentions, labels, questions
 from .names import literal
 from .table import CLAUSES, DIRECTIVES, SECTIONS, put, row
 
