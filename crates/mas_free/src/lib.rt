@@ -1,4 +1,5 @@
-//! The free machine: what agents do, whatever the schedule. What comes of a run, how it is written, and the law that every end of a run is an end of the free machine.
+//! The free machine: what agents do, whatever the schedule. What comes of a run, how it is written, and the law that every end of a run is an
+//! end of the free machine.
 //!
 //! May stand on: asl_term, mas_mind, mas_world, mas_board, mas_core, mas_report
 //!
